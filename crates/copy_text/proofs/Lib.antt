@@ -1,0 +1,12 @@
+pub mod EscapeLemmas
+pub mod PieceLemmas
+pub mod FieldLemmas
+pub mod RowLemmas
+pub mod SearchLemmas
+pub mod LineLemmas
+pub mod WriteLemmas
+pub mod JoinLemmas
+pub mod FaultLemmas
+pub mod SpellLemmas
+pub mod LawLemmas
+pub mod TextLemmas
