@@ -1,0 +1,11 @@
+pub mod Runs
+pub mod Scans
+pub mod Loops
+pub mod Bounds
+pub mod Passing
+pub mod Quotes
+pub mod EndLaws
+pub mod PieceLaws
+pub mod TextLaws
+pub mod WriteLaws
+pub mod LongestLaws

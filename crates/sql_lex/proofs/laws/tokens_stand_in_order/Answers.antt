@@ -1,0 +1,5 @@
+use Rattle.sql_lex.proofs.TextLaws.{all_in_order}
+use Rattle.sql_lex.proofs.laws.tokens_stand_in_order.Goals as goal
+
+pub returns : goal.returns
+returns c = all_in_order

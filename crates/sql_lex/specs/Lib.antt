@@ -1,0 +1,11 @@
+pub mod Bytes
+pub mod Ends
+pub mod Pieces
+pub mod Next
+pub mod Reserved
+pub mod Written
+pub mod Meaning
+pub mod Spelling
+pub mod Answers
+pub mod ReadBack
+pub mod Examples
