@@ -1,0 +1,10 @@
+pub mod Changes
+pub mod CopyStays
+pub mod Entries
+pub mod Exchange
+pub mod KeyOrder
+pub mod MarkLaws
+pub mod Parts
+pub mod Stays
+pub mod Steps
+pub mod Within

@@ -1,0 +1,48 @@
+//! The keys of the catalogue by names.
+ghost use Rattle.cat_model.specs.KeyLaws.{key_alike};
+
+use crate::object::{Object, QName};
+use copy_text::Name;
+
+/// What the catalogue by names is keyed by: 16 kinds, each object by its path.
+#[derive(Debug, Hash, Clone, Drop)]
+pub enum Key {
+    /// A role.
+    Role(Name),
+    /// A membership: the role, its member and who granted it.
+    Member(Name, Name, Name),
+    /// A schema.
+    Schema(Name),
+    /// An enum or a domain.
+    UserType(QName),
+    /// A table, a view, a sequence or an index.
+    Rel(QName),
+    /// The owner of an object.
+    Owner(Object),
+    /// The default of a column of a table.
+    Default(QName, Name),
+    /// A constraint of a table.
+    Con(QName, Name),
+    /// An index of a table that isn't a constraint's.
+    Index(QName, Name),
+    /// The rows of a table.
+    Rows(QName),
+    /// The value of a sequence.
+    SeqVal(QName),
+    /// The column that owns a sequence.
+    OwnedBy(QName),
+    /// The grants on an object.
+    Acl(Object),
+    /// The comment on an object.
+    Comment(Object),
+    /// The body of a view.
+    Body(QName),
+    /// A database.
+    Database(Name),
+}
+
+// Equal keys are the same key, so whatever is hashed of one is hashed of the other.
+#[derived]
+impl Hash for Key {
+    ghost respects_eq = { key_alike _ };
+}
