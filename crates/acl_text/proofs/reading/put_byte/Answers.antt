@@ -1,0 +1,17 @@
+use Rattle.std.proofs.Common.{◌≡◌, ℕ, ◌+◌, ◌<◌, ◌≤◌, ◌++◌, List, [], ◌∷◌, Option, Some, None, Vec, Global, false, length, map, get_or, take, drop, refl, sym, ap, subst, ◌∙◌, arith}
+use Rattle.std.proofs.lemmas.Result.{err_from_is_err_and}
+use Rattle.std.proofs.lemmas.List.{map-append, length-map, get_or-map}
+use Rattle.acl_text.specs.Acls.{elements_before, byte_before}
+use Rattle.acl_text.specs.declared.reading.Effect.TheVariants.{Keep, Cut, Skip}
+use Rattle.acl_text.proofs.ReadingLemmas.{put_keep, put_cut}
+use Rattle.acl_text.proofs.reading.put_byte.Goals as goal
+
+pub returns-in_ok-push-in-Cut : goal.returns-in_ok-push-in-Cut
+returns-in_ok-push-in-Cut c =
+    let view : List (Vec ℕ Global) → List (List ℕ) = map (λ e. e.items) in
+    let done = view c.args.elements.now.items in
+    let begun = c.args.element.now.items in
+    let bytes : c.in_ok-bytes-in-Cut.bytes.items ≡ begun = c.in_ok-bytes-in-Cut.ensures.items ∙ c.as_slice.ensures.value in
+    let pushed : view c.push-in-Cut.new.self.items ≡ done ++ begun ∷ [] =
+    ap view c.in_ok-push-in-Cut.ensures.items ∙ map-append (λ (e : Vec ℕ Global). e.items) c.args.elements.now.items (c.in_ok-bytes-in-Cut.bytes ∷ []) ∙ ap (λ (l : List ℕ). done ++ l ∷ []) bytes in
+    λ more. rw (pushed, c.clear.ensures.items, c.in-Cut.is) (put_cut done begun c.args.byte more)
