@@ -1,0 +1,112 @@
+-- No refusal that is due is Done.
+use Rattle.std.proofs.Common.{◌≡◌, ℕ, Bool, true, false, cond, ◌&&◌, ◌+◌, List, [], ◌∷◌, length, Option, Some, None, Result, Ok, Err, nat_le, ap}
+use Rattle.dump_ports.specs.Tree.{Tree, text_at}
+use Rattle.cat_rows.specs.declared.table.SysTable.{SysTable}
+use Rattle.cat_rows.specs.declared.table.SysTable.TheVariants.{PgNamespace}
+use Rattle.cat_model.specs.Values.{Bytes}
+use Rattle.pgtools.specs.declared.schemas.SchemaRow.{SchemaRow}
+use Rattle.pgtools.specs.declared.script.Located.{Located}
+use Rattle.pgtools.specs.declared.script.ScriptFault.{ScriptFault}
+use Rattle.pgtools.specs.declared.outcome.Limit.{Limit}
+use Rattle.pgtools.specs.declared.outcome.Limit.TheVariants.{Script, TableFile}
+use Rattle.pgtools.specs.declared.outcome.UsageKind.{UsageKind}
+use Rattle.pgtools.specs.declared.outcome.Outcome.{Outcome}
+use Rattle.pgtools.specs.declared.outcome.Outcome.TheVariants.{Done, Usage, ReadFault, WriteFault, Missing, BadScript, OutOfProfile, TooLarge, Memory}
+use Rattle.pgtools.specs.Answers.{◌>>=◌, IsDue}
+use Rattle.pgtools.specs.Words.{Psql, words_of}
+use Rattle.pgtools.specs.Texts.{within, file_of}
+use Rattle.pgtools.specs.Statements.{script_of}
+use Rattle.pgtools.specs.Folder.{table_limit, marker_file, file_of_table, there, tables_tried, are_plain, plain_tables_of, namespaces_of, schemas_in_text, marked_of, opening_of, or_unbuilt, tables_before, tables_behind}
+use Rattle.pgtools.specs.Due.{Plan, Answers, script_limit, scripted, psql_due, worded, due}
+
+same : (A B : Type 0) (o : Outcome) → ◌≡◌ {A = Result B Outcome} (Err o) (Err Done) → ◌≡◌ {A = Result A Outcome} (Err o) (Err Done)
+same A B o e = ap Err (inner B o e)
+  where
+    inner : (B : Type 0) (o : Outcome) → ◌≡◌ {A = Result B Outcome} (Err o) (Err Done) → o ≡ Done
+    inner B o e = cc
+
+bind_never : {A B : Type 0} (r : Result A Outcome) (f : A → Result B Outcome) → (r ≡ Err Done → ⊥) → ((x : A) → f x ≡ Err Done → ⊥) → (r >>= f) ≡ Err Done → ⊥
+bind_never (Ok x) f n m e = m x e
+bind_never {A = A} {B = B} (Err o) f n m e = n (same A B o e)
+
+ok_never : {Y : Type 0} (x : Y) → Ok x ≡ Err Done → ⊥
+ok_never x e = cc
+
+within_never : (what : Limit) (limit : ℕ) (name : List ℕ) (found : Option (List ℕ)) → within what limit name found ≡ Err Done → ⊥
+within_never what limit name None e = cc
+within_never what limit name (Some text) e = by_length (nat_le (length text) limit) e
+  where
+    by_length : (b : Bool) → cond {A = Result Bytes Outcome} b (Ok text) (Err (TooLarge what (limit + 1))) ≡ Err Done → ⊥
+    by_length true h = cc
+    by_length false h = cc
+
+file_never : (what : Limit) (limit : ℕ) (name : List ℕ) (tree : Tree) → file_of what limit name tree ≡ Err Done → ⊥
+unfolding file_of
+file_never what limit name tree e = within_never what limit name (text_at tree name) e
+
+there_never : (name : Bytes) (found : Option Bytes) → there name found ≡ Err Done → ⊥
+there_never name None e = cc
+there_never name (Some text) e = cc
+
+marked_never : (folder : Bytes) (tree : Tree) → marked_of folder tree ≡ Err Done → ⊥
+unfolding marked_of
+marked_never folder tree e = bind_never (there (marker_file folder) (text_at tree (marker_file folder))) _ (there_never (marker_file folder) (text_at tree (marker_file folder))) (λ x h. ok_never _ h) e
+
+tried_never : (folder : Bytes) (tables : List SysTable) (tree : Tree) → tables_tried folder tables tree ≡ Err Done → ⊥
+unfolding tables_tried
+tried_never folder [] tree e = ok_never _ e
+tried_never folder (table ∷ tables) tree e = bind_never (file_of TableFile table_limit (file_of_table folder table) tree) (λ text. tables_tried folder tables tree) (file_never TableFile table_limit (file_of_table folder table) tree) (λ x h. tried_never folder tables tree h) e
+
+plain_never : (folder : Bytes) (tables : List SysTable) (tree : Tree) → plain_tables_of folder tables tree ≡ Err Done → ⊥
+unfolding plain_tables_of
+plain_never folder tables tree e = bind_never (tables_tried folder tables tree) (λ _. Ok (are_plain folder tables tree)) (tried_never folder tables tree) (λ x h. ok_never _ h) e
+
+namespaces_never : (folder : Bytes) (tree : Tree) → namespaces_of folder tree ≡ Err Done → ⊥
+unfolding namespaces_of
+namespaces_never folder tree e = bind_never (file_of TableFile table_limit (file_of_table folder PgNamespace) tree) (λ text. Ok (schemas_in_text text)) (file_never TableFile table_limit (file_of_table folder PgNamespace) tree) (λ x h. ok_never _ h) e
+
+unbuilt_never : (plain : Bool) (found : Option (List SchemaRow)) → or_unbuilt plain found ≡ Err Done → ⊥
+unbuilt_never plain None e = cc
+unbuilt_never true (Some rows) e = cc
+unbuilt_never false (Some rows) e = cc
+
+opening_never : (folder : Bytes) (tree : Tree) → opening_of folder tree ≡ Err Done → ⊥
+unfolding opening_of
+opening_never folder tree e =
+    bind_never (marked_of folder tree) _ (marked_never folder tree)
+    (λ marked. bind_never (plain_tables_of folder tables_before tree) _ (plain_never folder tables_before tree)
+    (λ before. bind_never (namespaces_of folder tree) _ (namespaces_never folder tree)
+    (λ schemas. bind_never (plain_tables_of folder tables_behind tree) _ (plain_never folder tables_behind tree)
+    (λ behind. unbuilt_never (marked && before && behind) schemas)))) e
+
+scripted_never : (r : Result (List Located) ScriptFault) → scripted r ≡ Err Done → ⊥
+scripted_never (Ok statements) e = cc
+scripted_never (Err fault) e = cc
+
+psql_never : (folder script : Bytes) (tree : Tree) → psql_due folder script tree ≡ Err Done → ⊥
+unfolding psql_due
+psql_never folder script tree e =
+    bind_never (file_of Script script_limit script tree) _ (file_never Script script_limit script tree)
+    (λ text. bind_never (scripted (script_of text)) _ (scripted_never (script_of text))
+    (λ statements. bind_never (opening_of folder tree) _ (opening_never folder tree)
+    (λ rows h. ok_never _ h))) e
+
+worded_never : (r : Result Psql UsageKind) (tree : Tree) → worded r tree ≡ Err Done → ⊥
+worded_never (Ok psql) tree e = psql_never psql.folder psql.script tree e
+worded_never (Err kind) tree e = cc
+
+-- what is due of the words and the files isn't Done as a refusal
+pub due_never : (words : List Bytes) (tree : Tree) → due words tree ≡ Err Done → ⊥
+due_never words tree e = worded_never (words_of words) tree e
+
+-- a refusal that is due is an answer
+pub answers_due : (outcome : Outcome) (due : Result Plan Outcome) (before after : Option Tree) (told_before told_after : Option (List ℕ)) → (due ≡ Err Done → ⊥) → IsDue outcome due → Answers outcome due before after told_before told_after
+answers_due Done due before after told_before told_after n h = elim (n h) [ ]
+answers_due (Usage word kind) due before after told_before told_after n h = h
+answers_due ReadFault due before after told_before told_after n h = tt
+answers_due WriteFault due before after told_before told_after n h = tt
+answers_due (Missing name) due before after told_before told_after n h = h
+answers_due (BadScript fault) due before after told_before told_after n h = h
+answers_due (OutOfProfile what) due before after told_before told_after n h = h
+answers_due (TooLarge what most) due before after told_before told_after n h = h
+answers_due Memory due before after told_before told_after n h = tt

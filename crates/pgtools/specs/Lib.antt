@@ -1,0 +1,12 @@
+pub mod Naming
+pub mod Indexed
+pub mod Statements
+pub mod Status
+pub mod Answers
+pub mod Words
+pub mod Texts
+pub mod Folder
+pub mod Messages
+pub mod Lines
+pub mod Run
+pub mod Due

@@ -1,0 +1,199 @@
+//! The schemas of a folder, found by oid and by name.
+ghost use Rattle.std.specs.Prelude.{◌≡◌, ℕ, ◌+◌, ◌<◌, ◌≤◌, ◌↔◌, List, [], ◌∷◌, ◌++◌, Bool, true, false, Option, Some, Result, Ok, Err, IsTrue, IfSome, OnOk, OnErr, IfOk, IfErr, codes, not, ◌||◌};
+ghost use Rattle.std.specs.Ordering.{nat_cmp, eq_by_cmp};
+ghost use Rattle.std.specs.BTreeSet.{contains};
+ghost use Rattle.std.specs.List.{IsDistinct};
+ghost use Rattle.cat_model.specs.Values.{Bytes, bytes_cmp};
+ghost use Rattle.cat_model.specs.Effects.{effect};
+ghost use Rattle.cat_model.specs.References.{is_system};
+ghost use Rattle.cat_model.specs.Trees.{run};
+ghost use Rattle.cat_model.specs.declared.key.Key.TheVariants as key;
+ghost use Rattle.cat_model.specs.declared.cause.Cause.TheVariants as cause;
+ghost use Rattle.cat_model.specs.declared.stmt.Stmt.TheVariants as stmt;
+ghost use Rattle.pgtools.specs.Naming.{boot, named, has_name, has_oid};
+ghost use Rattle.pgtools.specs.Folder.{has_public};
+ghost use Rattle.pgtools.specs.declared.schemas.ApplyFault.TheVariants as faults;
+
+use copy_text::Name;
+use std::alloc::{AllocError, AllocFailed, Global};
+use std::collections::BTreeSet;
+use std::marker::Model;
+
+/// The least oid of an object that isn't the system's own.
+const FIRST_OID: u32 = 16384;
+
+/// A row of `pg_namespace` of plain form: its owner is the role of oid 10, its grants are the default.
+#[derive(Debug, Drop)]
+pub struct SchemaRow {
+    pub oid: u32,
+    pub name: Name,
+}
+
+/// Why a statement has no effect.
+#[derive(Debug, Drop)]
+pub enum ApplyFault {
+    /// The schema that would be made is there already, or is the system's own.
+    Exists(Name),
+    /// Memory ran out.
+    Memory,
+}
+
+impl From<AllocError> for ApplyFault {
+    ghost from_gives = { λ _ fault. fault ≡ faults.Memory };
+
+    fn from(_error: AllocError) -> ApplyFault {
+        ApplyFault::Memory
+    }
+}
+
+/// The schemas of a folder, each oid and each name once. A contract sees them as the list of their rows.
+#[derive(Drop)]
+pub struct Schemas {
+    rows: Vec<SchemaRow>,
+    oids: BTreeSet<u32>,
+    names: BTreeSet<Name>,
+    next: u32,
+}
+
+impl Model for Schemas {
+    ghost use Rattle.std.specs.Prelude.{List};
+    ghost use Rattle.pgtools.specs.declared.schemas.SchemaRow.{SchemaRow};
+
+    ghost Value = { List SchemaRow };
+
+    ghost use Rattle.pgtools.specs.Indexed.{IsIndexed};
+
+    ghost view = { λ s. s.rows.items };
+
+    ghost invariant = { λ s. IsIndexed s.rows.items s.oids s.names };
+}
+
+impl Schemas {
+    /// No schemas.
+    pub fn new(alloc: Global) -> Schemas
+        ensures { result ≡ [] }
+    {
+        Schemas {
+            rows: Vec::new(alloc),
+            oids: BTreeSet::new(alloc),
+            names: BTreeSet::new(alloc),
+            next: FIRST_OID,
+        }
+    }
+
+    /// Whether a schema has the name `public`.
+    pub fn has_public(&self) -> bool
+        ensures { result ≡ has_public self.now }
+    {
+        self.rows.iter().any(|row| row.name.as_str() == "public")
+    }
+
+    /// The rows, in the order in which they came; no oid and no name comes twice.
+    pub fn into_rows(self) -> Vec<SchemaRow>
+        ensures rows { result.items ≡ self }
+        ensures names { IsDistinct (λ a b. eq_by_cmp bytes_cmp a.name b.name) result.items }
+        ensures oids { IsDistinct (λ a b. eq_by_cmp nat_cmp a.oid b.oid) result.items }
+    {
+        let Schemas {
+            rows,
+            oids: _,
+            names: _,
+            next: _,
+        } = self;
+        rows
+    }
+
+    /// Adds a row, and answers whether its oid and its name are new. Else nothing changes.
+    pub fn add(&mut self, row: SchemaRow) -> Result<bool, AllocError>
+        ensures new { IfOk result (λ added. added ≡ not (has_oid row.oid self.old || has_name row.name self.old)) }
+        ensures added { IfOk result (λ added. added ≡ true → self.new ≡ self.old ++ row ∷ []) }
+        ensures repeated { IfOk result (λ added. added ≡ false → self.new ≡ self.old) }
+        ensures err { OnErr result (self.new ≡ self.old) }
+    {
+        if self.oids.contains(&row.oid) || self.names.contains(&row.name) {
+            return Ok(false);
+        }
+        self.push(row)?;
+        Ok(true)
+    }
+
+    /// Makes a schema, owned by the boot role, under an oid that no row has. A refusal, and want of memory, change
+    /// nothing.
+    pub fn create(&mut self, name: &Name) -> Result<(), ApplyFault>
+        ensures ok { OnOk result (run (effect boot (stmt.CreateSchema name.now)) (named self.old) ≡ Ok (named self.new)) }
+        ensures drawn { OnOk result ((oid : ℕ) × (has_oid oid self.old ≡ false) × (self.new ≡ self.old ++ record { oid = oid; name = name.now } ∷ [])) }
+        ensures refused { IfErr result (λ fault. (taken : Bytes) → fault ≡ ApplyFault.Exists taken
+            → run (effect boot (stmt.CreateSchema name.now)) (named self.old) ≡ Err (cause.Exists (key.Schema taken))) }
+        ensures err { OnErr result (self.new ≡ self.old) }
+    {
+        if self.refuses(name) {
+            return Err(ApplyFault::Exists(name.clone()?));
+        }
+        let Some(oid) = fresh_oid(&self.oids, self.next) else {
+            return Err(ApplyFault::Memory);
+        };
+        let name = name.clone()?;
+        self.next = oid;
+        self.push(SchemaRow { oid, name })?;
+        Ok(())
+    }
+
+    /// Whether a schema of this name can't be made.
+    fn refuses(&self, name: &Name) -> bool
+        ensures { result ≡ (has_name name.now self.now || is_system name.now) }
+    {
+        self.names.contains(name) || is_system_name(name.as_bytes())
+    }
+
+    fn push(&mut self, row: SchemaRow) -> Result<(), AllocError>
+        requires oid { has_oid row.oid self.old ≡ false }
+        requires name { has_name row.name self.old ≡ false }
+        ensures ok { OnOk result (self.new ≡ self.old ++ row ∷ []) }
+        ensures err { OnErr result (self.new ≡ self.old) }
+    {
+        let name = row.name.clone()?;
+        self.rows.reserve(1)?;
+        index(&mut self.oids, &mut self.names, row.oid, name)?;
+        self.rows.push(row).unwrap();
+        Ok(())
+    }
+}
+
+/// Adds an oid and a name to the sets, both or none.
+fn index(
+    oids: &mut BTreeSet<u32>,
+    names: &mut BTreeSet<Name>,
+    oid: u32,
+    name: Name,
+) -> Result<(), AllocError>
+    requires { contains nat_cmp oids.old oid ≡ false }
+    ensures oids_ok { OnOk result ((q : ℕ) → contains nat_cmp oids.new q ≡ (eq_by_cmp nat_cmp oid q || contains nat_cmp oids.old q)) }
+    ensures names_ok { OnOk result ((q : Bytes) → contains bytes_cmp names.new q ≡ (eq_by_cmp bytes_cmp name q || contains bytes_cmp names.old q)) }
+    ensures oids_err { OnErr result ((q : ℕ) → contains nat_cmp oids.new q ≡ contains nat_cmp oids.old q) }
+    ensures names_err { OnErr result ((q : Bytes) → contains bytes_cmp names.new q ≡ contains bytes_cmp names.old q) }
+{
+    oids.insert(oid)?;
+    if let Err(error) = names.insert(name) {
+        oids.remove(&oid);
+        return Err(AllocError::from(error));
+    }
+    Ok(())
+}
+
+/// The least oid from a place on that isn't among these.
+fn fresh_oid(oids: &BTreeSet<u32>, from: u32) -> Option<u32>
+    ensures { IfSome result (λ oid. contains nat_cmp oids.now oid ≡ false) }
+{
+    let mut oid = from;
+    while oids.contains(&oid) {
+        oid = oid.checked_add(1)?;
+    }
+    Some(oid)
+}
+
+/// Whether a schema of this name is the system's own.
+fn is_system_name(name: &[u8]) -> bool
+    ensures { result ≡ is_system name.now }
+{
+    name == b"pg_catalog".as_slice() || name == b"information_schema".as_slice()
+}
