@@ -1,0 +1,9 @@
+pub mod Blocking
+pub mod Exchange
+pub mod Kept
+pub mod Ordered
+pub mod Pairs
+pub mod SameAsSerial
+pub mod SomeEnabled
+pub mod Symmetric
+pub mod Booleans

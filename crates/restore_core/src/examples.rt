@@ -1,0 +1,27 @@
+//! Worked examples, whatever the schedule: each is the contract of a function that does nothing.
+ghost use Rattle.std.specs.Prelude.{◌≡◌, Bool, true, List, [], ◌∷◌, codes};
+ghost use Rattle.cat_model.specs.declared.cause.Cause.TheVariants as cause;
+ghost use Rattle.cat_model.specs.declared.key.Key.TheVariants as key;
+ghost use Rattle.restore_plan.specs.Examples.{with_public, postgres, two_schemas, parents_first, children_first, equal_parents};
+ghost use Rattle.restore_plan.specs.Order.{plan};
+ghost use Rattle.restore_plan.specs.declared.status.EntryStatus.TheVariants.{Done, Refused, Skipped};
+ghost use Rattle.restore_core.specs.Machine.{first, IsLegal, after, all_ended, result_of};
+ghost use Rattle.restore_core.specs.declared.event.Event.{Event};
+
+use crate::laws::any_schedule_is_serial;
+use restore_plan::{one_schema_twice, parents_and_children};
+
+/// Of two entries that create one schema the second is refused in every schedule. Of two tables with a foreign key and
+/// their rows all is done in every schedule where the parents' rows are listed first; where the children's are, these
+/// are refused and nothing is skipped; and where two parents have one key the primary key is refused, and the foreign
+/// key is skipped.
+pub fn same_in_every_schedule()
+    ensures schemas { (events : List Event) → IsLegal postgres (first with_public (plan with_public two_schemas)) events → all_ended (after postgres (first with_public (plan with_public two_schemas)) events) ≡ true → (result_of (after postgres (first with_public (plan with_public two_schemas)) events)).statuses ≡ Done ∷ Refused 1 (cause.Exists (key.Schema (codes "a"))) ∷ [] }
+    ensures parents { (events : List Event) → IsLegal postgres (first with_public (plan with_public parents_first)) events → all_ended (after postgres (first with_public (plan with_public parents_first)) events) ≡ true → (result_of (after postgres (first with_public (plan with_public parents_first)) events)).statuses ≡ Done ∷ Done ∷ Done ∷ Done ∷ Done ∷ Done ∷ [] }
+    ensures children { (events : List Event) → IsLegal postgres (first with_public (plan with_public children_first)) events → all_ended (after postgres (first with_public (plan with_public children_first)) events) ≡ true → (result_of (after postgres (first with_public (plan with_public children_first)) events)).statuses ≡ Done ∷ Done ∷ Done ∷ Done ∷ Refused 1 (cause.NoParent (codes "c_fk") 1) ∷ Done ∷ [] }
+    ensures equal { (events : List Event) → IsLegal postgres (first with_public (plan with_public equal_parents)) events → all_ended (after postgres (first with_public (plan with_public equal_parents)) events) ≡ true → (result_of (after postgres (first with_public (plan with_public equal_parents)) events)).statuses ≡ Done ∷ Done ∷ Done ∷ Done ∷ Refused 1 (cause.Duplicate (codes "p_pkey") 1 2) ∷ Skipped 10 ∷ [] }
+{
+    any_schedule_is_serial();
+    one_schema_twice();
+    parents_and_children();
+}

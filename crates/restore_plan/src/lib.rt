@@ -1,0 +1,12 @@
+//! The plan of a restore: what each entry depends on, what comes before it, its locks, and the serial restore.
+#![tactic(auto)]
+
+mod examples;
+mod kind;
+mod laws;
+mod status;
+
+pub use examples::{one_schema_twice, parents_and_children};
+pub use kind::Kind;
+pub use laws::{chains_skip, plans_stay_in_places};
+pub use status::{EntryStatus, Note};
