@@ -6,3 +6,6 @@ pub mod Dues
 pub mod Openings
 pub mod Lining
 pub mod Refusing
+pub mod Standing
+pub mod Counting
+pub mod Ending

@@ -1,7 +1,7 @@
--- Texts that a stream takes one after another.
-use Rattle.std.proofs.Common.{◌≡◌, ℕ, ◌++◌, List, [], Option, Some, None, option_map, refl, ap, ◌∙◌, rules}
-use Rattle.std.proofs.lemmas.List.{append_assoc}
-use Rattle.pgtools.specs.Lines.{Appends}
+-- Texts that a stream takes one after another, whole or a first part.
+use Rattle.std.proofs.Common.{◌≡◌, ℕ, ◌≤◌, ◌++◌, List, [], length, take, drop, Option, Some, None, option_map, Result, Ok, Err, OnErr, refl, sym, ap, ◌∙◌, append-nil, rules}
+use Rattle.std.proofs.lemmas.List.{append_assoc, take-append-drop}
+use Rattle.pgtools.specs.Lines.{Appends, AppendsPart}
 
 no_more : (w : Option (List ℕ)) → w ≡ option_map (λ t. t ++ []) w
 no_more None = refl
@@ -18,3 +18,43 @@ both (Some t) x y = ap Some (append_assoc t x y)
 -- one text and then another
 pub takes_both : (a b c : Option (List ℕ)) (x y : List ℕ) → Appends x a b → Appends y b c → Appends (x ++ y) a c
 takes_both a b c x y one two = two ∙ ap (λ w. option_map (λ t. t ++ y) w) one ∙ both a x y
+
+-- some first bytes of a text
+pub part_taken : (text : List ℕ) (before after : Option (List ℕ)) → (n : ℕ) × (n ≤ length text) × (after ≡ option_map (λ t. t ++ take n text) before) → AppendsPart text before after
+part_taken text before after h = record {
+  front = take h.0 text;
+  rest = drop h.0 text;
+  split = sym (take-append-drop h.0 text);
+  taken = h.2;
+}
+
+-- nothing of a text
+pub part_none : (text : List ℕ) (before after : Option (List ℕ)) → after ≡ before → AppendsPart text before after
+part_none text before after e = record { front = []; rest = text; split = refl; taken = e ∙ no_more before }
+
+-- a whole text
+pub part_whole : (text : List ℕ) (before after : Option (List ℕ)) → Appends text before after → AppendsPart text before after
+part_whole text before after a = record { front = text; rest = []; split = sym (append-nil text); taken = a }
+
+-- a first part of the first of two texts
+pub part_of_first : (x y : List ℕ) (before after : Option (List ℕ)) → AppendsPart x before after → AppendsPart (x ++ y) before after
+part_of_first x y before after p = record {
+  front = p.front;
+  rest = p.rest ++ y;
+  split = ap (λ t. t ++ y) p.split ∙ append_assoc p.front p.rest y;
+  taken = p.taken;
+}
+
+-- the first of two texts, and a first part of the second
+pub part_of_second : (x y : List ℕ) (a b c : Option (List ℕ)) → Appends x a b → AppendsPart y b c → AppendsPart (x ++ y) a c
+part_of_second x y a b c one p = record {
+  front = x ++ p.front;
+  rest = p.rest;
+  split = ap (λ t. x ++ t) p.split ∙ sym (append_assoc x p.front p.rest);
+  taken = takes_both a b c x p.front one p.taken;
+}
+
+-- what holds anyway holds of an error
+pub always_err : {T E P : Type 0} (r : Result T E) → P → OnErr r P
+always_err (Ok x) p = tt
+always_err (Err e) p = p

@@ -3,7 +3,7 @@
 use Rattle.std.specs.Prelude.{◌≡◌, ℕ, ◌≤◌, List, Result, Ok, Err}
 use Rattle.dump_ports.specs.Faults.{HasRisen}
 use Rattle.pgtools.specs.declared.outcome.Outcome.{Outcome}
-use Rattle.pgtools.specs.declared.outcome.Outcome.TheVariants.{ReadFault, WriteFault, Missing, Memory}
+use Rattle.pgtools.specs.declared.outcome.Outcome.TheVariants.{Done, ReadFault, WriteFault, Missing, Memory}
 
 infixl 10 ◌>>=◌
 -- the first step that refuses is the answer
@@ -23,21 +23,16 @@ abbrev pub Gives : {X Y : Type 0} → (X → Y) → Result X Outcome → Result 
 Gives view (Ok x) due = due ≡ Ok (view x)
 Gives view (Err outcome) due = IsDue outcome due
 
--- the count of read faults rose where the answer is ReadFault, and stayed where it isn't
+-- the count of read faults rose where the answer is ReadFault, and stayed where it isn't; reading is never a WriteFault
 abbrev pub CountsRead : {X : Type 0} → Result X Outcome → ℕ → ℕ → Type 0
 CountsRead (Err ReadFault) before after = (before ≤ after) × HasRisen before after
+CountsRead (Err WriteFault) before after = ⊥
 CountsRead _ before after = after ≡ before
 
 -- the count of write faults rose where the answer is WriteFault, and stayed where it isn't
 abbrev pub CountsWrite : {X : Type 0} → Result X Outcome → ℕ → ℕ → Type 0
 CountsWrite (Err WriteFault) before after = (before ≤ after) × HasRisen before after
 CountsWrite _ before after = after ≡ before
-
--- no count rose: the answer is neither of these two
-abbrev pub IsNoFault : Outcome → Type 0
-IsNoFault ReadFault = ⊥
-IsNoFault WriteFault = ⊥
-IsNoFault outcome = Unit {0}
 
 -- a file of this name is absent, or memory ran out
 abbrev pub IsMissing : List ℕ → Outcome → Type 0
@@ -50,3 +45,22 @@ abbrev pub IsLate : Outcome → Type 0
 IsLate WriteFault = Unit {0}
 IsLate Memory = Unit {0}
 IsLate outcome = ⊥
+
+-- a refusal, or a failed read: nothing was written, and its line was told
+abbrev pub IsRefusal : Outcome → Type 0
+IsRefusal Done = ⊥
+IsRefusal WriteFault = ⊥
+IsRefusal Memory = ⊥
+IsRefusal outcome = Unit {0}
+
+-- an answer whose line was told whole, and nothing before it
+abbrev pub IsTold : Outcome → Type 0
+IsTold Done = ⊥
+IsTold WriteFault = ⊥
+IsTold outcome = Unit {0}
+
+-- an answer by which the work may have ended on its way
+abbrev pub IsCutShort : Outcome → Type 0
+IsCutShort WriteFault = Unit {0}
+IsCutShort Memory = Unit {0}
+IsCutShort outcome = ⊥

@@ -1,8 +1,13 @@
 -- What is due for the words of a command line and the files: the first refusal of its steps in their order, or a plan
 -- that is carried out. And what the files hold once it is.
-use Rattle.std.specs.Prelude.{◌≡◌, ℕ, ◌≤◌, List, [], ◌++◌, map, Option, option_map, Result, Ok, Err, ◌⊎◌}
-use Rattle.dump_ports.specs.Tree.{Tree}
-use Rattle.dump_ports.specs.Faults.{HasRisen}
+use Rattle.std.specs.Prelude.{◌≡◌, ℕ, ◌≤◌, List, [], ◌++◌, map, Option, Some, option_map, IfSome, Result, Ok, Err, ◌⊎◌}
+use Rattle.std.specs.List.{IsDistinct}
+use Rattle.std.specs.List.Sorted.{IsPermutation}
+use Rattle.cat_rows.specs.declared.table.SysTable.TheVariants.{PgNamespace}
+use Rattle.cat_rows.specs.Writing.{IsWritten}
+use Rattle.std.specs.Ordering.{nat_cmp, eq_by_cmp}
+use Rattle.dump_ports.specs.Tree.{Tree, text_at}
+use Rattle.dump_ports.specs.Faults.{HasRisen, HasNotRisen}
 use Rattle.cat_model.specs.Values.{Bytes}
 use Rattle.pgtools.specs.declared.schemas.SchemaRow.{SchemaRow}
 use Rattle.pgtools.specs.declared.script.Located.{Located}
@@ -10,18 +15,16 @@ use Rattle.pgtools.specs.declared.script.ScriptFault.{ScriptFault}
 use Rattle.pgtools.specs.declared.outcome.UsageKind.{UsageKind}
 use Rattle.pgtools.specs.declared.outcome.Limit.TheVariants.{Script}
 use Rattle.pgtools.specs.declared.outcome.Outcome.{Outcome}
-use Rattle.pgtools.specs.declared.outcome.Outcome.TheVariants.{Done, Usage, WriteFault, BadScript}
+use Rattle.pgtools.specs.declared.outcome.Outcome.TheVariants.{Done, Usage, ReadFault, WriteFault, BadScript}
 use Rattle.pgtools.specs.Answers.{◌>>=◌, IsDue}
 use Rattle.pgtools.specs.Words.{Psql, words_of}
 use Rattle.pgtools.specs.Texts.{file_of}
 use Rattle.pgtools.specs.Statements.{script_of}
-use Rattle.cat_rows.specs.declared.cell.Cell.{Cell}
-use Rattle.cat_rows.specs.declared.table.SysTable.TheVariants.{PgNamespace}
-use Rattle.cat_rows.specs.Writing.{IsWritten}
 use Rattle.pgtools.specs.declared.tools.Work.{Work}
-use Rattle.pgtools.specs.Folder.{opening_of, folder_saved, cells_of_row}
+use Rattle.pgtools.specs.Folder.{opening_of, schemas_in, cells_of_row, files_written, folder_saved, PartSaved, IsElsewhere}
+use Rattle.pgtools.specs.Lines.{Appends, AppendsPart}
 use Rattle.pgtools.specs.Naming.{boot, named}
-use Rattle.pgtools.specs.Messages.{report}
+use Rattle.pgtools.specs.Messages.{report, outcome_line}
 use Rattle.pgtools.specs.Run.{catalogue_after, refusals}
 
 -- a script to apply to a folder of schemas
@@ -53,17 +56,40 @@ worded (Err kind) tree = Err (Usage 0 kind)
 abbrev pub due : List Bytes → Tree → Result Plan Outcome
 due words tree = worded (words_of words) tree
 
+-- the work that was read, as a plan for a folder
+abbrev pub plan_of : Bytes → Work → Plan
+plan_of folder work = record { folder = folder; statements = work.statements.items; rows = work.schemas }
+
+-- the answer that comes where no call on the outside fails and memory doesn't run out
+abbrev pub expected : Result Plan Outcome → Outcome
+expected (Ok plan) = Done
+expected (Err outcome) = outcome
+
 -- ---- what stands once a plan is carried out
 
--- The rows that were there stay, and behind them come those that the statements made. The text of pg_namespace reads
--- as all of them by rising oid, and the folder was written with it.
+-- What the statements of a plan come to. The rows are the schemas that were there, under their oids, and those that were
+-- made, under oids that no other has. By names they are the catalogue that the statements make. The text is that of
+-- pg_namespace for them, by rising oid.
+pub record Comes (plan : Plan) (text : Bytes) : Type 0 where
+  pub made : List SchemaRow
+  pub rows : List SchemaRow
+  pub kept : IsPermutation (plan.rows ++ made) rows
+  pub same : named rows ≡ catalogue_after boot plan.statements (named plan.rows)
+  pub oids : IsDistinct (λ a b. eq_by_cmp nat_cmp a.oid b.oid) rows
+  pub written : IsWritten PgNamespace (map cells_of_row (plan.rows ++ made)) (map cells_of_row rows) [] text
+
+-- The folder was written: each of its files holds its whole text, and it stands for the rows.
 pub record Applied (plan : Plan) (before after : Option Tree) : Type 0 where
-  pub added : List SchemaRow
-  pub same : named (plan.rows ++ added) ≡ catalogue_after boot plan.statements (named plan.rows)
-  pub cells : List (List Cell)
   pub text : Bytes
-  pub written : IsWritten PgNamespace (map cells_of_row (plan.rows ++ added)) cells [] text
+  pub result : Comes plan text
   pub saved : after ≡ option_map (folder_saved plan.folder text) before
+  pub stands : IfSome after (λ tree. schemas_in plan.folder tree ≡ Some result.rows)
+
+-- The writing of the folder ended on its way.
+pub record PartApplied (plan : Plan) (before after : Option Tree) : Type 0 where
+  pub text : Bytes
+  pub result : Comes plan text
+  pub part : PartSaved (files_written plan.folder text) before after
 
 -- the report of a plan
 abbrev pub report_of : Plan → List ℕ
@@ -72,7 +98,7 @@ report_of plan = report (refusals boot plan.statements (named plan.rows))
 -- A plan was carried out: it was applied, and its report was written to standard error.
 pub record IsCarriedOut (plan : Plan) (before after : Option Tree) (told_before told_after : Option (List ℕ)) : Type 0 where
   pub applied : Applied plan before after
-  pub reported : told_after ≡ option_map (λ text. text ++ report_of plan) told_before
+  pub reported : Appends (report_of plan) told_before told_after
 
 -- the plan that was due was carried out
 pub record WasDue (due : Result Plan Outcome) (before after : Option Tree) (told_before told_after : Option (List ℕ)) : Type 0 where
@@ -80,18 +106,80 @@ pub record WasDue (due : Result Plan Outcome) (before after : Option Tree) (told
   pub is_due : due ≡ Ok plan
   pub carried : IsCarriedOut plan before after told_before told_after
 
--- the work that was read, as a plan for a folder
-abbrev pub plan_of : Bytes → Work → Plan
-plan_of folder work = record { folder = folder; statements = work.statements.items; rows = work.schemas }
-
 -- what a call of the program comes to: Done where the plan that is due was carried out, or a refusal that is due
 abbrev pub Answers : Outcome → Result Plan Outcome → Option Tree → Option Tree → Option (List ℕ) → Option (List ℕ) → Type 0
 Answers Done due before after told_before told_after = WasDue due before after told_before told_after
 Answers outcome due before after told_before told_after = IsDue outcome due
 
+-- ---- what stands where the work ended on its way
+
+-- the plan that was due was applied in part
+pub record PartDue (due : Result Plan Outcome) (before after : Option Tree) : Type 0 where
+  pub plan : Plan
+  pub is_due : due ≡ Ok plan
+  pub part : PartApplied plan before after
+
+-- the files are as they were, or hold a first part of what the plan that is due makes of them
+abbrev pub IsPart : Result Plan Outcome → Option Tree → Option Tree → Type 0
+IsPart due before after = (after ≡ before) ⊎ PartDue due before after
+
+abbrev pub report_due : Result Plan Outcome → List ℕ
+report_due (Ok plan) = report_of plan
+report_due (Err outcome) = []
+
+-- Standard error has grown by a first part of the report, and then by a first part of the line of an answer that is
+-- due.
+pub record ToldPart (due : Result Plan Outcome) (before after : Option (List ℕ)) : Type 0 where
+  pub between : Option (List ℕ)
+  pub reported : AppendsPart (report_due due) before between
+  pub outcome : Outcome
+  pub is_due : IsDue outcome due
+  pub line : AppendsPart (outcome_line outcome) between after
+
+-- a file that the plan which is due doesn't write
+abbrev pub IsOther : Result Plan Outcome → Bytes → Type 0
+IsOther (Ok plan) name = IsElsewhere plan.folder name
+IsOther (Err outcome) name = Unit {0}
+
+-- every file that the plan which is due doesn't write is as it was
+abbrev pub KeepsOthers : Result Plan Outcome → Tree → Option Tree → Type 0
+KeepsOthers due before after = (name : Bytes) → IsOther due name → IfSome after (λ tree. text_at tree name ≡ text_at before name)
+
 -- ---- counts of faults
 
--- a count of write faults rose where the answer is WriteFault, and none did where it isn't
+-- the counts of reads of files, of writes of files and of writes to standard error that failed
+pub record Counts : Type 0 where
+  pub reads : ℕ
+  pub writes : ℕ
+  pub lines : ℕ
+
+abbrev pub counts : ℕ → ℕ → ℕ → Counts
+counts reads writes lines = record { reads = reads; writes = writes; lines = lines }
+
+-- none of them rose
+pub record NoneRose (before after : Counts) : Type 0 where
+  pub reads : HasNotRisen before.reads after.reads
+  pub writes : HasNotRisen before.writes after.writes
+  pub lines : HasNotRisen before.lines after.lines
+
+pub record NoneFell (before after : Counts) : Type 0 where
+  pub reads : before.reads ≤ after.reads
+  pub writes : before.writes ≤ after.writes
+  pub lines : before.lines ≤ after.lines
+
+-- A count of reads rose where the answer is ReadFault, one of writes where it is WriteFault, and all stayed where it is
+-- neither.
+abbrev pub Counted : Outcome → Counts → Counts → Type 0
+Counted ReadFault before after = NoneFell before after × HasRisen before.reads after.reads
+Counted WriteFault before after = NoneFell before after × (HasRisen before.writes after.writes ⊎ HasRisen before.lines after.lines)
+Counted _ before after = after ≡ before
+
+-- the same of a step
+abbrev pub CountsStep : {X : Type 0} → Result X Outcome → Counts → Counts → Type 0
+CountsStep (Ok x) before after = after ≡ before
+CountsStep (Err outcome) before after = Counted outcome before after
+
+-- the same of the writes alone, of files and to standard error
 abbrev pub CountsWrites : {X : Type 0} → Result X Outcome → ℕ → ℕ → ℕ → ℕ → Type 0
 CountsWrites (Err WriteFault) a b c d = (a ≤ b) × (c ≤ d) × (HasRisen a b ⊎ HasRisen c d)
 CountsWrites _ a b c d = (b ≡ a) × (d ≡ c)

@@ -1,12 +1,14 @@
 -- An export folder of plain form: the marker file, the one role and the one database of the empty export, schemas
 -- that the role of oid 10 owns with their default grants, and nothing in any other table.
-use Rattle.std.specs.Prelude.{ℕ, Bool, true, false, ◌||◌, ◌&&◌, not, ◌==◌, ◌≢◌, List, [], ◌∷◌, ◌++◌, Option, Some, None, Result, Ok, Err, option_and_then, if◌then◌else◌, codes}
+use Rattle.std.specs.Prelude.{◌≡◌, ℕ, map, option_map, Bool, true, false, ◌||◌, ◌&&◌, not, ◌==◌, ◌≢◌, List, [], ◌∷◌, ◌++◌, Option, Some, None, Result, Ok, Err, option_and_then, if◌then◌else◌, codes}
 use Rattle.std.specs.Option.{option_map_or}
-use Rattle.std.specs.List.{list_all, list_any, join_with_byte}
+use Rattle.std.specs.List.{list_all, list_any, join_with_byte, IsDistinct}
+use Rattle.std.specs.Ordering.{nat_cmp, eq_by_cmp}
 use Rattle.copy_text.specs.Marks.{tab, newline, null_mark}
 use Rattle.std.specs.Str.{bytes_eq}
 use Rattle.std.specs.FinMap.{insert}
-use Rattle.dump_ports.specs.Tree.{Tree, text_at}
+use Rattle.std.specs.List.Sorted.{IsPermutation}
+use Rattle.dump_ports.specs.Tree.{Tree, text_at, TakesPrefix}
 use Rattle.cat_rows.specs.declared.table.SysTable.{SysTable}
 use Rattle.cat_rows.specs.declared.table.SysTable.TheVariants.{PgAuthid, PgAuthMembers, PgDatabase, PgNamespace, PgType, PgEnum, PgClass, PgAttribute, PgAttrdef, PgConstraint, PgIndex, PgSequence, PgRewrite, PgDescription, PgDepend}
 use Rattle.cat_rows.specs.declared.cell.Cell.{Cell}
@@ -14,6 +16,7 @@ use Rattle.cat_rows.specs.declared.cell.Cell.TheVariants as cell
 use Rattle.cat_rows.specs.declared.fault.TableFault.{TableFault}
 use Rattle.cat_rows.specs.Kinds.{table_file}
 use Rattle.cat_rows.specs.Reading.{table_of}
+use Rattle.cat_rows.specs.Writing.{IsWritten}
 use Rattle.cat_model.specs.Values.{Bytes}
 use Rattle.cat_model.specs.declared.words.What.TheVariants.{Unbuilt}
 use Rattle.pgtools.specs.declared.schemas.SchemaRow.{SchemaRow}
@@ -172,14 +175,54 @@ plain_text namespaces PgDatabase = database_text
 plain_text namespaces PgNamespace = namespaces
 plain_text namespaces _ = []
 
--- the tree once these tables are written
-abbrev pub saved : Bytes → Bytes → List SysTable → Tree → Tree
-saved folder namespaces [] tree = tree
-saved folder namespaces (table ∷ tables) tree = saved folder namespaces tables (insert tree (file_of_table folder table) (plain_text namespaces table))
+-- a file by its name, and its text
+pub record File : Type 0 where
+  pub name : Bytes
+  pub text : Bytes
+
+abbrev pub table_written : Bytes → Bytes → SysTable → File
+table_written folder namespaces table = record { name = file_of_table folder table; text = plain_text namespaces table }
+
+abbrev pub marker_written : Bytes → File
+marker_written folder = record { name = marker_file folder; text = marker }
+
+-- the files of the tables in their order
+unfoldable pub table_files : Bytes → Bytes → List File
+table_files folder namespaces = map (table_written folder namespaces) all_tables
+
+-- the files of a folder in the order in which they are written: the tables, and the marker last
+abbrev pub files_written : Bytes → Bytes → List File
+files_written folder namespaces = table_files folder namespaces ++ marker_written folder ∷ []
+
+-- the tree once these files are written
+abbrev pub saved : List File → Tree → Tree
+saved [] tree = tree
+saved (file ∷ files) tree = saved files (insert tree file.name file.text)
 
 -- the tree once the whole folder is written
 abbrev pub folder_saved : Bytes → Bytes → Tree → Tree
-folder_saved folder namespaces tree = insert (saved folder namespaces all_tables tree) (marker_file folder) marker
+folder_saved folder namespaces tree = saved (files_written folder namespaces) tree
+
+-- the first of these files holds some first part of its text, or is as it was; the others are as they were
+abbrev pub IsCut : List File → Option Tree → Option Tree → Type 0
+IsCut [] before after = after ≡ before
+IsCut (file ∷ later) before after = TakesPrefix (λ text tree. insert tree file.name text) file.text before after
+
+-- The writing of these files ended on its way: some are whole, the next one holds a first part of its text or is as it
+-- was, and the later ones are untouched.
+pub record PartSaved (files : List File) (before after : Option Tree) : Type 0 where
+  pub whole : List File
+  pub later : List File
+  pub split : files ≡ whole ++ later
+  pub cut : IsCut later (option_map (saved whole) before) after
+
+-- a text of pg_namespace that holds these schemas by rising oid, and reads as them
+pub record IsNamespaces (rows : List SchemaRow) (text : Bytes) : Type 0 where
+  pub sorted : List SchemaRow
+  pub kept : IsPermutation rows sorted
+  pub written : IsWritten PgNamespace (map cells_of_row rows) (map cells_of_row sorted) [] text
+  pub oids : IsDistinct (λ a b. eq_by_cmp nat_cmp a.oid b.oid) sorted
+  pub reads : has_public rows ≡ true → schemas_in_text text ≡ Some sorted
 
 -- the name is that of no file of the folder
 pub record IsElsewhere (folder name : Bytes) : Type 0 where

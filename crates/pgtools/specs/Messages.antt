@@ -6,7 +6,7 @@ use Rattle.sql_lex.specs.declared.fault.LexFault.TheVariants as lex
 use Rattle.cat_model.specs.declared.words.What.{What}
 use Rattle.cat_model.specs.declared.words.What.TheVariants as what
 use Rattle.pgtools.specs.declared.outcome.UsageKind.{UsageKind}
-use Rattle.pgtools.specs.declared.outcome.UsageKind.TheVariants.{NoCommand, UnknownCommand}
+use Rattle.pgtools.specs.declared.outcome.UsageKind.TheVariants.{NoCommand, UnknownCommand, BadValue}
 use Rattle.pgtools.specs.declared.outcome.Limit.{Limit}
 use Rattle.pgtools.specs.declared.outcome.Limit.TheVariants.{Script, TableFile}
 use Rattle.pgtools.specs.declared.outcome.Outcome.{Outcome}
@@ -84,6 +84,7 @@ refusal_line refusal = codes "psql: error: at " ++ decimal refusal.0 ++ codes ":
 abbrev pub kind_text : UsageKind → List ℕ
 kind_text NoCommand = codes "NoCommand"
 kind_text UnknownCommand = codes "UnknownCommand"
+kind_text BadValue = codes "BadValue"
 
 abbrev pub limit_text : Limit → List ℕ
 limit_text Script = codes "Script"

@@ -1,10 +1,10 @@
 //! Export folders of plain form, read and written.
-ghost use Rattle.std.specs.Prelude.{◌≡◌, ℕ, ◌≤◌, ◌++◌, ◌||◌, ◌&&◌, not, List, [], Option, Some, option_map, IfSome, IfOk, IfErr, OnOk, Result, Ok, Err};
+ghost use Rattle.std.specs.Prelude.{◌≡◌, ℕ, ◌≤◌, ◌++◌, ◌||◌, ◌&&◌, not, List, [], ◌∷◌, Option, Some, option_map, IfSome, IfOk, IfErr, OnOk, OnErr, Result, Ok, Err};
 ghost use Rattle.std.specs.List.{list_all};
 ghost use Rattle.std.specs.FinMap.{insert};
-ghost use Rattle.dump_ports.specs.Tree.{Tree, text_at};
+ghost use Rattle.dump_ports.specs.Tree.{Tree, text_at, TakesPrefix};
 ghost use Rattle.pgtools.specs.Answers.{Gives, CountsRead, CountsWrite, IsLate};
-ghost use Rattle.pgtools.specs.Folder.{marker, marker_file, authid_text, database_text, is_plain_table, file_of_table, plain_text, saved, folder_saved};
+ghost use Rattle.pgtools.specs.Folder.{marker, marker_file, authid_text, database_text, is_plain_table, file_of_table, plain_text, table_files, marker_written, files_written, saved, folder_saved, PartSaved};
 
 use crate::outcome::Outcome;
 use crate::texts::path;
@@ -34,6 +34,24 @@ pub fn write_folder<F: Files>(
 ) -> Result<(), Outcome>
     ensures late { IfErr result IsLate }
     ensures ok { OnOk result (F.tree files.new ≡ option_map (folder_saved folder.now namespaces.now) (F.tree files.old)) }
+    ensures err { OnErr result (PartSaved (files_written folder.now namespaces.now) (F.tree files.old) (F.tree files.new)) }
+    ensures read_count { F.read_faults files.new ≡ F.read_faults files.old }
+    ensures write_count { CountsWrite result (F.write_faults files.old) (F.write_faults files.new) }
+{
+    write_tables(alloc, files, folder, namespaces)?;
+    write_marker(alloc, files, folder)
+}
+
+/// Writes the files of the tables, in their order.
+fn write_tables<F: Files>(
+    alloc: Global,
+    files: &mut F,
+    folder: &Text,
+    namespaces: &[u8],
+) -> Result<(), Outcome>
+    ensures late { IfErr result IsLate }
+    ensures ok { OnOk result (F.tree files.new ≡ option_map (saved (table_files folder.now namespaces.now)) (F.tree files.old)) }
+    ensures err { OnErr result (PartSaved (table_files folder.now namespaces.now) (F.tree files.old) (F.tree files.new)) }
     ensures read_count { F.read_faults files.new ≡ F.read_faults files.old }
     ensures write_count { CountsWrite result (F.write_faults files.old) (F.write_faults files.new) }
 {
@@ -41,6 +59,17 @@ pub fn write_folder<F: Files>(
         let name = path(alloc, folder, table.file_name())?;
         write_file(files, &name, table_text(*table, namespaces))?;
     }
+    Ok(())
+}
+
+/// Writes the marker file.
+fn write_marker<F: Files>(alloc: Global, files: &mut F, folder: &Text) -> Result<(), Outcome>
+    ensures late { IfErr result IsLate }
+    ensures ok { OnOk result (F.tree files.new ≡ option_map (saved (marker_written folder.now ∷ [])) (F.tree files.old)) }
+    ensures err { OnErr result (PartSaved (marker_written folder.now ∷ []) (F.tree files.old) (F.tree files.new)) }
+    ensures read_count { F.read_faults files.new ≡ F.read_faults files.old }
+    ensures write_count { CountsWrite result (F.write_faults files.old) (F.write_faults files.new) }
+{
     let name = path(alloc, folder, "format")?;
     write_file(files, &name, MARKER)
 }
@@ -57,10 +86,11 @@ fn table_text(table: SysTable, namespaces: &[u8]) -> &[u8]
     }
 }
 
-/// Writes a file anew.
+/// Writes a file anew. After an error it holds a first part of the text, or what it held.
 fn write_file<F: Files>(files: &mut F, name: &Text, text: &[u8]) -> Result<(), Outcome>
     ensures late { IfErr result IsLate }
     ensures ok { OnOk result (F.tree files.new ≡ option_map (λ tree. insert tree name.now text.now) (F.tree files.old)) }
+    ensures err { OnErr result (TakesPrefix (λ part tree. insert tree name.now part) text.now (F.tree files.old) (F.tree files.new)) }
     ensures read_count { F.read_faults files.new ≡ F.read_faults files.old }
     ensures write_count { CountsWrite result (F.write_faults files.old) (F.write_faults files.new) }
 {

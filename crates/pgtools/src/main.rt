@@ -1,6 +1,7 @@
 //! PostgreSQL's dump tools over exported catalogues.
 #![tactic(auto)]
 
+mod arguments;
 mod folder;
 mod namespaces;
 mod opening;
@@ -13,29 +14,24 @@ mod texts;
 mod tools;
 mod words;
 
+use crate::arguments::{ArgumentFault, read_arguments};
+use crate::outcome::{Outcome, UsageKind};
+use crate::tell::tell;
 use crate::tools::run_tools;
-use copy_text::Text;
-use dump_ports::OpenGate;
+use dump_ports::{OpenGate, Sink};
 use os_ports::{OsErr, OsFiles, OsIn, OsOut, moment_now};
-use std::alloc::{AllocError, Global};
-use std::env;
 use std::process::ExitCode;
-
-/// The status where the words can't be read: there is no memory for them, or one isn't UTF-8.
-const NO_WORDS: u8 = 71;
 
 fn main(rt: HostRuntime) -> ExitCode {
     let alloc = rt.alloc();
-    let Ok(words) = env::args(&rt) else {
-        return ExitCode::from(NO_WORDS);
-    };
-    let Ok(words) = texts_of(alloc, words) else {
-        return ExitCode::from(NO_WORDS);
+    let mut err = OsErr::new(rt.stderr());
+    let words = match read_arguments(alloc, &rt) {
+        Ok(words) => words,
+        Err(fault) => return ExitCode::from(refuse(&mut err, fault)),
     };
     let mut files = OsFiles::new(alloc, &rt);
     let mut input = OsIn::new(rt.stdin());
     let mut out = OsOut::new(rt.stdout());
-    let mut err = OsErr::new(rt.stderr());
     let moment = moment_now(&rt);
     let outcome = run_tools(
         alloc, &words, &mut files, &mut input, &mut out, &mut err, moment, &OpenGate,
@@ -43,15 +39,19 @@ fn main(rt: HostRuntime) -> ExitCode {
     ExitCode::from(outcome.status())
 }
 
-/// The words behind the program's name.
-fn texts_of(alloc: Global, words: env::Args) -> Result<Vec<Text>, AllocError> {
-    let mut texts = Vec::new(alloc);
-    for word in words.skip(1) {
-        if let Some(text) = Text::new(word.into_bytes()) {
-            texts.push(text)?;
-        }
+/// Tells that the words weren't read, and gives the status.
+fn refuse<E: Sink>(err: &mut E, fault: ArgumentFault) -> u8 {
+    let outcome = match fault {
+        ArgumentFault::NotText(word) => Outcome::Usage {
+            word,
+            kind: UsageKind::BadValue,
+        },
+        ArgumentFault::Memory => Outcome::Memory,
+    };
+    match tell(err, &outcome) {
+        Ok(()) => outcome.status(),
+        Err(_) => Outcome::WriteFault.status(),
     }
-    Ok(texts)
 }
 
 #[cfg(test)]

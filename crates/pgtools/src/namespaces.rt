@@ -4,9 +4,9 @@ ghost use Rattle.cat_rows.specs.declared.cell.Cell.{Cell as CellValue};
 ghost use Rattle.cat_rows.specs.declared.table.SysTable.TheVariants.{PgNamespace};
 ghost use Rattle.cat_rows.specs.RowCells.{namespace_cells};
 ghost use Rattle.cat_rows.specs.Writing.{IsWritten};
-ghost use Rattle.pgtools.specs.Folder.{cells_of_row};
+ghost use Rattle.pgtools.specs.Folder.{cells_of_row, IsNamespaces};
 
-use crate::schemas::SchemaRow;
+use crate::schemas::{SchemaRow, Schemas};
 use cat_rows::{Catalogue, NamespaceRow, SysTable, write_table};
 use std::alloc::{AllocError, Global};
 
@@ -14,7 +14,15 @@ use std::alloc::{AllocError, Global};
 const BOOT_ROLE: u32 = 10;
 
 /// The text of pg_namespace that holds these schemas, by rising oid. It reads as them.
-pub fn namespaces_text(alloc: Global, rows: Vec<SchemaRow>) -> Result<Vec<u8>, AllocError>
+pub fn namespaces_text(alloc: Global, schemas: Schemas) -> Result<Vec<u8>, AllocError>
+    ensures { IfOk result (λ text. IsNamespaces schemas text.items) }
+{
+    let rows = schemas.into_rows();
+    rows_text(alloc, rows)
+}
+
+/// The text of pg_namespace that holds these rows, by rising oid.
+fn rows_text(alloc: Global, rows: Vec<SchemaRow>) -> Result<Vec<u8>, AllocError>
     ensures { IfOk result (λ text. (written : List (List CellValue)) × IsWritten PgNamespace (map cells_of_row rows.items) written [] text.items) }
 {
     let mut catalogue = Catalogue::new(alloc);

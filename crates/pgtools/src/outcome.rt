@@ -15,6 +15,8 @@ pub enum UsageKind {
     NoCommand,
     /// The words aren't of a form that the program has.
     UnknownCommand,
+    /// The word isn't UTF-8.
+    BadValue,
 }
 
 /// Which limit on a length in bytes is passed.

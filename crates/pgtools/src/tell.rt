@@ -1,7 +1,8 @@
 //! The line of a call that is refused as a whole.
-ghost use Rattle.std.specs.Prelude.{◌≡◌, ℕ, ◌++◌, List, OnOk, decimal, codes};
+ghost use Rattle.std.specs.Prelude.{◌≡◌, ℕ, ◌≤◌, ◌++◌, List, OnOk, OnErr, decimal, codes};
+ghost use Rattle.dump_ports.specs.Faults.{CountsFault};
 ghost use Rattle.pgtools.specs.Messages.{kind_text, limit_text, what_text, teller, outcome_text, outcome_line};
-ghost use Rattle.pgtools.specs.Lines.{Appends};
+ghost use Rattle.pgtools.specs.Lines.{Appends, AppendsPart};
 
 use crate::outcome::{Limit, Outcome, UsageKind};
 use cat_model::What;
@@ -10,36 +11,51 @@ use itoa::Buffer;
 
 /// Writes the line of a refusal to standard error. After an error a first part of it was written.
 pub fn tell<E: Sink>(err: &mut E, outcome: &Outcome) -> Result<(), Failed>
-    ensures { OnOk result (Appends (outcome_line outcome.now) (E.written err.old) (E.written err.new)) }
+    ensures ok { OnOk result (Appends (outcome_line outcome.now) (E.written err.old) (E.written err.new)) }
+    ensures err { OnErr result (AppendsPart (outcome_line outcome.now) (E.written err.old) (E.written err.new)) }
+    ensures count { CountsFault result (E.faults err.old) (E.faults err.new) }
 {
     write_two(err, teller(outcome), b": error: ")?;
     write_outcome(err, outcome)?;
-    write_all(err, b"\n")
+    write_bytes(err, b"\n")
 }
 
 /// Writes the text of a refusal.
 fn write_outcome<E: Sink>(err: &mut E, outcome: &Outcome) -> Result<(), Failed>
-    ensures { OnOk result (Appends (outcome_text outcome.now) (E.written err.old) (E.written err.new)) }
+    ensures ok { OnOk result (Appends (outcome_text outcome.now) (E.written err.old) (E.written err.new)) }
+    ensures err { OnErr result (AppendsPart (outcome_text outcome.now) (E.written err.old) (E.written err.new)) }
+    ensures count { CountsFault result (E.faults err.old) (E.faults err.new) }
 {
     match outcome {
         Outcome::Done => Ok(()),
         Outcome::Usage { word, kind } => write_numbered(err, b"word ", *word, kind_text(*kind)),
-        Outcome::ReadFault => write_all(err, b"could not read"),
-        Outcome::WriteFault => write_all(err, b"could not write"),
+        Outcome::ReadFault => write_bytes(err, b"could not read"),
+        Outcome::WriteFault => write_bytes(err, b"could not write"),
         Outcome::Missing(name) => write_two(err, b"missing file ", name.as_bytes()),
         Outcome::BadScript(fault) => write_numbered(err, b"bad script at ", fault.place(), b""),
         Outcome::OutOfProfile(what) => write_two(err, b"not supported: ", what_text(what)),
         Outcome::TooLarge(limit, _) => write_two(err, b"too large: ", limit_text(*limit)),
-        Outcome::Memory => write_all(err, b"out of memory"),
+        Outcome::Memory => write_bytes(err, b"out of memory"),
     }
+}
+
+/// Writes a text. After an error a first part of it was written.
+pub fn write_bytes<E: Sink>(err: &mut E, bytes: &[u8]) -> Result<(), Failed>
+    ensures ok { OnOk result (Appends bytes.now (E.written err.old) (E.written err.new)) }
+    ensures err { OnErr result (AppendsPart bytes.now (E.written err.old) (E.written err.new)) }
+    ensures count { CountsFault result (E.faults err.old) (E.faults err.new) }
+{
+    write_all(err, bytes)
 }
 
 /// Writes two texts.
 fn write_two<E: Sink>(err: &mut E, one: &[u8], two: &[u8]) -> Result<(), Failed>
-    ensures { OnOk result (Appends (one.now ++ two.now) (E.written err.old) (E.written err.new)) }
+    ensures ok { OnOk result (Appends (one.now ++ two.now) (E.written err.old) (E.written err.new)) }
+    ensures err { OnErr result (AppendsPart (one.now ++ two.now) (E.written err.old) (E.written err.new)) }
+    ensures count { CountsFault result (E.faults err.old) (E.faults err.new) }
 {
-    write_all(err, one)?;
-    write_all(err, two)
+    write_bytes(err, one)?;
+    write_bytes(err, two)
 }
 
 /// Writes a text with a number in it.
@@ -49,11 +65,23 @@ fn write_numbered<E: Sink>(
     number: usize,
     behind: &[u8],
 ) -> Result<(), Failed>
-    ensures { OnOk result (Appends (before.now ++ decimal number ++ behind.now) (E.written err.old) (E.written err.new)) }
+    ensures ok { OnOk result (Appends (before.now ++ decimal number ++ behind.now) (E.written err.old) (E.written err.new)) }
+    ensures err { OnErr result (AppendsPart (before.now ++ decimal number ++ behind.now) (E.written err.old) (E.written err.new)) }
+    ensures count { CountsFault result (E.faults err.old) (E.faults err.new) }
+{
+    write_bytes(err, before)?;
+    write_number(err, number)?;
+    write_bytes(err, behind)
+}
+
+/// Writes a number.
+fn write_number<E: Sink>(err: &mut E, number: usize) -> Result<(), Failed>
+    ensures ok { OnOk result (Appends (decimal number) (E.written err.old) (E.written err.new)) }
+    ensures err { OnErr result (AppendsPart (decimal number) (E.written err.old) (E.written err.new)) }
+    ensures count { CountsFault result (E.faults err.old) (E.faults err.new) }
 {
     let mut buffer = Buffer::new();
-    write_two(err, before, buffer.format(number).as_bytes())?;
-    write_all(err, behind)
+    write_bytes(err, buffer.format(number).as_bytes())
 }
 
 /// Who tells a refusal: the program where its words have no reading, else the tool.
@@ -73,6 +101,7 @@ fn kind_text(kind: UsageKind) -> &'static [u8]
     match kind {
         UsageKind::NoCommand => b": NoCommand",
         UsageKind::UnknownCommand => b": UnknownCommand",
+        UsageKind::BadValue => b": BadValue",
     }
 }
 

@@ -1,10 +1,11 @@
 use super::*;
+use copy_text::Text;
 use dump_ports::{MemFiles, MemSink, MemSource};
+use std::env::{Env, FillError};
 use std::test::Fail;
 
-/// The export of an empty cluster.
+/// The export of an empty cluster, in the order in which a folder is written.
 const EMPTY: [(&str, &[u8]); 16] = [
-    ("D/format", b"1\n"),
     (
         "D/pg_authid.copy",
         b"10\tpostgres\tt\tt\tt\tt\tt\tt\tt\t-1\t\\N\t\\N\n",
@@ -23,16 +24,55 @@ const EMPTY: [(&str, &[u8]); 16] = [
     ("D/pg_rewrite.copy", b""),
     ("D/pg_description.copy", b""),
     ("D/pg_depend.copy", b""),
+    ("D/format", b"1\n"),
 ];
 
-/// The text of pg_namespace, or nothing.
-fn namespaces(files: &MemFiles) -> &[u8] {
-    files.text("D/pg_namespace.copy").unwrap_or(b"")
+/// A run of psql over files in memory: what it answered, what the files hold, and what was written to standard output
+/// and standard error.
+#[derive(Drop)]
+struct Run {
+    outcome: Outcome,
+    files: MemFiles,
+    out: MemSink,
+    told: MemSink,
+}
+
+/// Applies a script to the empty export, where these calls of the files fail.
+fn apply(rt: &HostRuntime, script: &[u8], fail: Vec<u64>) -> Result<Run, Fail> {
+    let alloc = rt.alloc();
+    let mut files = MemFiles::new(alloc, fail);
+    for (name, text) in EMPTY {
+        files.put(name, text)?;
+    }
+    files.put("s.sql", script)?;
+    let mut words = Vec::new(alloc);
+    for word in ["psql", "-d", "D", "-f", "s.sql"] {
+        if let Some(text) = Text::new(String::from_str(alloc, word)?.into_bytes()) {
+            words.push(text)?;
+        }
+    }
+    let mut input = MemSource::new(Vec::new(alloc), 1, Vec::new(alloc));
+    let mut out = MemSink::new(alloc, Vec::new(alloc));
+    let mut told = MemSink::new(alloc, Vec::new(alloc));
+    let moment = moment_now(rt);
+    let outcome = run_tools(
+        alloc, &words, &mut files, &mut input, &mut out, &mut told, moment, &OpenGate,
+    );
+    Ok(Run {
+        outcome,
+        files,
+        out,
+        told,
+    })
+}
+
+/// The text of a file, or nothing.
+fn text<'a>(files: &'a MemFiles, name: &str) -> &'a [u8] {
+    files.text(name).unwrap_or(b"")
 }
 
 #[test]
 fn scripts_are_applied(rt: HostRuntime) -> Result<(), Fail> {
-    let alloc = rt.alloc();
     let cases: [(&[u8], u8, &[u8], &[u8]); 4] = [
         (b"", 0, b"2200\tpublic\t10\t\\N\n", b""),
         (
@@ -55,28 +95,99 @@ fn scripts_are_applied(rt: HostRuntime) -> Result<(), Fail> {
         ),
     ];
     for (script, status, rows, told) in cases {
-        let mut files = MemFiles::new(alloc, Vec::new(alloc));
-        for (name, text) in EMPTY {
-            files.put(name, text)?;
-        }
-        files.put("s.sql", script)?;
-        let mut words = Vec::new(alloc);
-        for word in ["psql", "-d", "D", "-f", "s.sql"] {
-            if let Some(text) = Text::new(String::from_str(alloc, word)?.into_bytes()) {
-                words.push(text)?;
-            }
-        }
-        let mut input = MemSource::new(Vec::new(alloc), 1, Vec::new(alloc));
-        let mut out = MemSink::new(alloc, Vec::new(alloc));
-        let mut err = MemSink::new(alloc, Vec::new(alloc));
-        let moment = moment_now(&rt);
-        let outcome = run_tools(
-            alloc, &words, &mut files, &mut input, &mut out, &mut err, moment, &OpenGate,
-        );
-        assert_eq!(rt; outcome.status(), status);
-        assert!(rt; namespaces(&files) == rows);
-        assert!(rt; err.text() == told);
-        assert!(rt; out.text() == b"".as_slice());
+        let run = apply(&rt, script, Vec::new(rt.alloc()))?;
+        assert_eq!(rt; run.outcome.status(), status);
+        assert!(rt; text(&run.files, "D/pg_namespace.copy") == rows);
+        assert!(rt; run.told.text() == told);
+        assert!(rt; run.out.text() == b"".as_slice());
     }
+    Ok(())
+}
+
+/// What a file is to hold where the writing ended on the file of this number, counted from 0.
+fn may_hold(at: usize, number: usize, text: &[u8], old: &[u8]) -> bool {
+    let new: &[u8] = if number == 3 {
+        b"2200\tpublic\t10\t\\N\n16384\ta\t10\t\\N\n"
+    } else {
+        old
+    };
+    match number {
+        _ if number < at => text == new,
+        _ if number == at => new.starts_with(text) || text == old,
+        _ => text == old,
+    }
+}
+
+/// The numbers of the files that the calls of a whole run write, one after another: each is made, and where its text
+/// isn't empty it is added to.
+const WRITES: [usize; 20] = [
+    0, 0, 1, 2, 2, 3, 3, 4, 5, 6, 7, 8, 9, 10, 11, 12, 13, 14, 15, 15,
+];
+
+#[test]
+fn each_call_fails_in_turn(rt: HostRuntime) -> Result<(), Fail> {
+    let mut reads = 0usize;
+    let mut writes = 0usize;
+    for call in 1..u64::MAX {
+        let mut fail = Vec::new(rt.alloc());
+        fail.push(call)?;
+        let run = apply(&rt, b"CREATE SCHEMA a;", fail)?;
+        let (at, line): (usize, &[u8]) = match run.outcome {
+            Outcome::Done => break,
+            Outcome::ReadFault => {
+                reads = reads.saturating_add(1);
+                (0, b"psql: error: could not read\n")
+            }
+            _ => {
+                let at = WRITES.get(writes).copied().unwrap_or(16);
+                writes = writes.saturating_add(1);
+                (at, b"psql: error: could not write\n")
+            }
+        };
+        assert_eq!(rt; run.outcome.status(), 1);
+        assert!(rt; run.told.text() == line);
+        for (number, (name, old)) in EMPTY.into_iter().enumerate() {
+            assert!(rt; may_hold(at, number, text(&run.files, name), old));
+        }
+    }
+    assert!(rt; reads > 0 && writes == 20);
+    Ok(())
+}
+
+/// Words of which the third isn't UTF-8.
+struct Words;
+
+impl Env for Words {
+    fn arg(&self, i: usize, buffer: &mut [u8]) -> Result<usize, FillError> {
+        let words: [&[u8]; 4] = [b"pgtools", b"psql", b"-d", b"D\xff"];
+        let Some(word) = words.get(i) else {
+            return Err(FillError::NotPresent);
+        };
+        let Some(front) = buffer.get_mut(..word.len()) else {
+            return Err(FillError::TooLong);
+        };
+        front.copy_from_slice(word);
+        Ok(word.len())
+    }
+
+    fn var(&self, _name: &str, _buffer: &mut [u8]) -> Result<usize, FillError> {
+        Err(FillError::NotPresent)
+    }
+
+    fn var_at(&self, _i: usize, _buffer: &mut [u8]) -> Result<usize, FillError> {
+        Err(FillError::NotPresent)
+    }
+}
+
+#[test]
+fn words_are_utf8(rt: HostRuntime) -> Result<(), Fail> {
+    let alloc = rt.alloc();
+    let mut err = MemSink::new(alloc, Vec::new(alloc));
+    let status = match read_arguments(alloc, &Words) {
+        Ok(_) => 0,
+        Err(fault) => refuse(&mut err, fault),
+    };
+    assert_eq!(rt; status, 1);
+    assert!(rt; err.text() == b"pgtools: error: word 2: BadValue\n".as_slice());
     Ok(())
 }

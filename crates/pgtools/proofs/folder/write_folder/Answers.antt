@@ -1,15 +1,18 @@
-use Rattle.std.proofs.Common.{rules, ◌∙◌, get_or}
-use Rattle.std.proofs.lemmas.List.{get_or_default}
-use Rattle.cat_rows.specs.declared.table.SysTable.TheVariants.{PgAuthid}
-use Rattle.pgtools.specs.Folder.{all_tables}
-use Rattle.pgtools.proofs.Saved.{one_saved}
+use Rattle.std.proofs.Common.{[], ◌∷◌}
+use Rattle.std.proofs.lemmas.Result.{on_err_weaker, IfOk-weaker}
+use Rattle.pgtools.specs.Folder.{table_files, marker_written}
+use Rattle.pgtools.proofs.Lining.{always_err}
+use Rattle.pgtools.proofs.Saved.{part_of_front, part_of_rest, both_saved}
 use Rattle.pgtools.proofs.folder.write_folder.Goals as goal
 
-pub loop-table-preserved : goal.loop-table-preserved
-loop-table-preserved g c = record {
-  rest =
-      one_saved c.args.folder.now c.args.namespaces.now all_tables c.loop-table.table-index (get_or all_tables c.loop-table.table-index PgAuthid) _ _ _ _ _ c.loop-table-test.true (get_or_default all_tables c.loop-table.table-index _ PgAuthid c.loop-table-test.true) c.file_name.ensures c.in_ok-name.ensures c.table_text.ensures c.in_ok-write_file.ensures.ok
-      ∙ c.loop-table.invariant.rest;
-  read_count = search rules;
-  write_count = search rules;
-}
+pub returns-in_err-write_tables-clause-err : goal.returns-in_err-write_tables-clause-err
+returns-in_err-write_tables-clause-err g c =
+    always_err c.from_residual.result (part_of_front (table_files c.args.folder.now c.args.namespaces.now) (marker_written c.args.folder.now ∷ []) _ _ c.in_err-write_tables.ensures.err)
+
+pub returns-clause-err : goal.returns-clause-err
+returns-clause-err g c =
+    on_err_weaker c.write_marker.result (part_of_rest (table_files c.args.folder.now c.args.namespaces.now) (marker_written c.args.folder.now ∷ []) _ _ _ c.in_ok-write_tables.ensures.ok) c.write_marker.ensures.err
+
+pub returns-clause-ok : goal.returns-clause-ok
+returns-clause-ok g c =
+    IfOk-weaker c.write_marker.result _ _ (λ _ h. both_saved (table_files c.args.folder.now c.args.namespaces.now) (marker_written c.args.folder.now ∷ []) _ _ _ c.in_ok-write_tables.ensures.ok h) c.write_marker.ensures.ok

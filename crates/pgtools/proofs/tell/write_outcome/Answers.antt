@@ -15,4 +15,4 @@ pub returns-in-TooLarge : goal.returns-in-TooLarge
 returns-in-TooLarge g c = rw c.in-TooLarge.is (rw (sym c.limit_text.ensures) c.write_two-in-TooLarge.ensures)
 
 pub returns-in-Memory : goal.returns-in-Memory
-returns-in-Memory g c = rw c.in-Memory.is c.write_all-in-Memory.ensures.ok
+returns-in-Memory g c = rw c.in-Memory.is c.write_bytes-in-Memory.ensures

@@ -2,7 +2,7 @@ use Rattle.std.proofs.Common.{◌≡◌, map, ◌++◌, length}
 use Rattle.std.specs.Vec.Iter.{into_iter_items}
 use Rattle.cat_rows.specs.RowCells.{namespace_cells}
 use Rattle.pgtools.specs.Folder.{cells_of_row}
-use Rattle.pgtools.proofs.namespaces.namespaces_text.Given as goal
+use Rattle.pgtools.proofs.namespaces.rows_text.Given as goal
 
 -- the rows so far, and those left behind them, are all rows
 abbrev pub invariant-rows : goal.invariant-rows
