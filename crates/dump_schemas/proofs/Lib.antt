@@ -1,0 +1,4 @@
+pub mod OrderLemmas
+pub mod Pieces
+pub mod Shown
+pub mod ScriptPieces

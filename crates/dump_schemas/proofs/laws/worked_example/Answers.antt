@@ -1,0 +1,22 @@
+use Rattle.std.proofs.Common.{refl}
+use Rattle.std.specs.Str.{is_utf8, chars}
+use Rattle.std.proofs.Math.Utf8.{encode}
+use Rattle.sql_lex.specs.Bytes.{is_digit}
+use Rattle.sql_lex.specs.Reserved.{is_reserved}
+use Rattle.sql_lex.specs.Written.{begins_bare, in_bare, is_bare, doubled, quoted, written_name}
+use Rattle.fmt_text.specs.Owners.{kind_of, name_in, path_of, owned_object, object_text, owner_text, owner_part}
+use Rattle.fmt_text.specs.Parts.{about, body, part}
+use Rattle.fmt_text.specs.Script.{versions, session, script_head, script_end, parts, script}
+use Rattle.dump_schemas.specs.Order.{in_order}
+use Rattle.dump_schemas.specs.Toc.{database_defn, schema_defn, schema_drop, toc_of}
+use Rattle.dump_schemas.specs.Scripts.{script_of}
+use Rattle.dump_schemas.specs.Statements.{statements_of}
+use Rattle.dump_schemas.proofs.laws.worked_example.Goals as goal
+
+pub returns : goal.returns
+unfolding is_utf8 chars encode is_digit is_reserved begins_bare in_bare is_bare doubled quoted written_name kind_of name_in path_of owned_object object_text owner_text owner_part about body part versions session script_head script_end parts script in_order database_defn schema_defn schema_drop toc_of script_of statements_of
+returns c = record {
+  toc = refl;
+  script = λ moment. refl;
+  statements = refl;
+}

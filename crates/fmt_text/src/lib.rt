@@ -1,0 +1,16 @@
+//! Plain scripts: the text that makes the entries of an archive again.
+#![tactic(auto)]
+
+mod laws;
+mod lines;
+mod options;
+mod owner;
+mod part;
+mod script;
+
+pub use laws::worked_examples;
+pub use options::Options;
+pub use script::script_text;
+
+#[cfg(test)]
+mod tests;

@@ -1,0 +1,8 @@
+//! How a script is written.
+
+/// How a script is written.
+#[derive(Debug, Clone, Copy, PartialEq, Eq)]
+pub struct Options {
+    /// Whether the script says who owns what: by its owner statements and in its comments.
+    pub owners: bool,
+}
