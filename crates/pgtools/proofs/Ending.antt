@@ -23,14 +23,15 @@ use Rattle.pgtools.specs.Messages.{outcome_line}
 use Rattle.pgtools.specs.Naming.{boot, named}
 use Rattle.pgtools.specs.Run.{catalogue_after}
 use Rattle.pgtools.specs.Folder.{File, has_public, cells_of_row, all_tables, marker_file, marker_written, table_written, table_files, file_of_table, files_written, folder_saved, saved, IsCut, PartSaved, IsNamespaces, IsElsewhere, schemas_in}
-use Rattle.pgtools.specs.Due.{Plan, Comes, Applied, PartApplied, IsCarriedOut, WasDue, PartDue, IsPart, ToldPart, report_of, report_due, IsOther, KeepsOthers}
+use Rattle.pgtools.specs.declared.words.Tool.{Tool}
+use Rattle.pgtools.specs.Due.{Plan, Applies, Prints, Application, Comes, Applied, PartApplied, IsCarriedOut, WasDue, PartDue, IsPart, ToldPart, report_of, report_due, text_due, IsOther, KeepsOthers}
 use Rattle.pgtools.proofs.Named.{named-IsPermutation}
 use Rattle.pgtools.proofs.Lining.{part_none}
 use Rattle.pgtools.proofs.Standing.{folder_stands, others_kept}
 
 -- ---- a plan that was carried out
 
-abbrev pub made_of : (plan : Plan) (schemas : List SchemaRow) (text : Bytes) → (more : List SchemaRow) × (schemas ≡ plan.rows ++ more) → named schemas ≡ catalogue_after boot plan.statements (named plan.rows) → IsNamespaces schemas text → Comes plan text
+abbrev pub made_of : (plan : Application) (schemas : List SchemaRow) (text : Bytes) → (more : List SchemaRow) × (schemas ≡ plan.rows ++ more) → named schemas ≡ catalogue_after boot plan.statements (named plan.rows) → IsNamespaces schemas text → Comes plan text
 made_of plan schemas text stays same n = record {
   made = stays.0;
   rows = n.sorted;
@@ -43,7 +44,7 @@ made_of plan schemas text stays same n = record {
 public_stays : (rows more : List SchemaRow) → has_public rows ≡ true → has_public (rows ++ more) ≡ true
 public_stays rows more h = list_any-append _ rows more ∙ ap (λ b. b || has_public more) h
 
-pub applied : (plan : Plan) (schemas : List SchemaRow) (text : Bytes) (before after : Option Tree) → (more : List SchemaRow) × (schemas ≡ plan.rows ++ more) → named schemas ≡ catalogue_after boot plan.statements (named plan.rows) → IsNamespaces schemas text → has_public plan.rows ≡ true
+pub applied : (plan : Application) (schemas : List SchemaRow) (text : Bytes) (before after : Option Tree) → (more : List SchemaRow) × (schemas ≡ plan.rows ++ more) → named schemas ≡ catalogue_after boot plan.statements (named plan.rows) → IsNamespaces schemas text → has_public plan.rows ≡ true
     → after ≡ option_map (folder_saved plan.folder text) before → Applied plan before after
 applied plan schemas text before after stays same n public save = record {
   text = text;
@@ -58,7 +59,7 @@ applied plan schemas text before after stays same n public save = record {
 
 -- ---- a plan whose work ended on its way
 
-pub part_applied : (plan : Plan) (schemas : List SchemaRow) (text : Bytes) (before after : Option Tree) → (more : List SchemaRow) × (schemas ≡ plan.rows ++ more) → named schemas ≡ catalogue_after boot plan.statements (named plan.rows) → IsNamespaces schemas text → PartSaved (files_written plan.folder text) before after → PartApplied plan before after
+pub part_applied : (plan : Application) (schemas : List SchemaRow) (text : Bytes) (before after : Option Tree) → (more : List SchemaRow) × (schemas ≡ plan.rows ++ more) → named schemas ≡ catalogue_after boot plan.statements (named plan.rows) → IsNamespaces schemas text → PartSaved (files_written plan.folder text) before after → PartApplied plan before after
 part_applied plan schemas text before after stays same n part = record {
   text = text;
   result = made_of plan schemas text stays same n;
@@ -90,15 +91,18 @@ late_no_refusal (OutOfProfile what) late h = late
 late_no_refusal (TooLarge what most) late h = late
 late_no_refusal Memory late h = h
 
-pub part_due : (due : Result Plan Outcome) (plan : Plan) (before after : Option Tree) → due ≡ Ok plan → (after ≡ before) ⊎ PartApplied plan before after → IsPart due before after
+pub part_due : (due : Result Plan Outcome) (plan : Application) (before after : Option Tree) → due ≡ Ok (Applies plan) → (after ≡ before) ⊎ PartApplied plan before after → IsPart due before after
 part_due due plan before after d (inl e) = inl e
 part_due due plan before after d (inr p) = inr (record { plan = plan; is_due = d; part = p })
 
-pub report_part : (due : Result Plan Outcome) (plan : Plan) (before after : Option (List ℕ)) → due ≡ Ok plan → AppendsPart (report_of plan) before after → AppendsPart (report_due due) before after
+pub report_part : (due : Result Plan Outcome) (plan : Application) (before after : Option (List ℕ)) → due ≡ Ok (Applies plan) → AppendsPart (report_of plan) before after → AppendsPart (report_due due) before after
 report_part due plan before after d p = rw d p
 
-pub told_part : (due : Result Plan Outcome) (before between after : Option (List ℕ)) (outcome : Outcome) → AppendsPart (report_due due) before between → IsDue outcome due → AppendsPart (outcome_line outcome) between after → ToldPart due before after
-told_part due before between after outcome r d l = record { between = between; reported = r; outcome = outcome; is_due = d; line = l }
+pub text_part : (due : Result Plan Outcome) (text : List ℕ) (before after : Option (List ℕ)) → due ≡ Ok (Prints text) → AppendsPart text before after → AppendsPart (text_due due) before after
+text_part due text before after d p = rw d p
+
+pub told_part : (tool : Tool) (due : Result Plan Outcome) (before between after : Option (List ℕ)) (outcome : Outcome) → AppendsPart (report_due due) before between → IsDue outcome due → AppendsPart (outcome_line tool outcome) between after → ToldPart tool due before after
+told_part tool due before between after outcome r d l = record { between = between; reported = r; outcome = outcome; is_due = d; line = l }
 
 -- ---- the other files
 
@@ -154,10 +158,14 @@ pub kept_others : (due : Result Plan Outcome) (tree : Tree) (before after : Opti
 kept_others due tree before after b e = λ name other. subst (Keeps tree name) (sym (e ∙ b)) refl
 
 -- where the plan was carried out
-pub done_others : (due : Result Plan Outcome) (tree : Tree) (before after : Option Tree) (told_before told_after : Option (List ℕ)) → before ≡ Some tree → WasDue due before after told_before told_after → KeepsOthers due tree after
-done_others due tree before after told_before told_after b w = λ name other.
-    part_keeps w.plan.folder w.carried.applied.text tree after name (subst (λ d. IsOther d name) w.is_due other)
-    (all_whole w.plan.folder w.carried.applied.text (Some tree) after (w.carried.applied.saved ∙ ap (λ t. option_map (folder_saved w.plan.folder w.carried.applied.text) t) b))
+pub done_others : (due : Result Plan Outcome) (tree : Tree) (before after : Option Tree) (out_before out_after told_before told_after : Option (List ℕ)) → before ≡ Some tree → WasDue due before after out_before out_after told_before told_after → KeepsOthers due tree after
+done_others due tree before after out_before out_after told_before told_after b w = of w.plan w.is_due w.carried
+  where
+    of : (plan : Plan) → due ≡ Ok plan → IsCarriedOut plan before after out_before out_after told_before told_after → KeepsOthers due tree after
+    of (Applies plan) d carried = λ name other.
+        part_keeps plan.folder carried.0.text tree after name (subst (λ d. IsOther d name) d other)
+        (all_whole plan.folder carried.0.text (Some tree) after (carried.0.saved ∙ ap (λ t. option_map (folder_saved plan.folder carried.0.text) t) b))
+    of (Prints text) d carried = kept_others due tree before after b carried.0
 
 -- where its work ended on its way
 pub part_others : (due : Result Plan Outcome) (tree : Tree) (before after : Option Tree) → before ≡ Some tree → IsPart due before after → KeepsOthers due tree after

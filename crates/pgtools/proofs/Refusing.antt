@@ -1,5 +1,5 @@
 -- No refusal that is due is Done.
-use Rattle.std.proofs.Common.{◌≡◌, ℕ, Bool, true, false, cond, ◌&&◌, ◌+◌, List, [], ◌∷◌, length, Option, Some, None, Result, Ok, Err, nat_le, ap}
+use Rattle.std.proofs.Common.{◌≡◌, ℕ, Bool, true, false, cond, ◌&&◌, ◌+◌, List, [], ◌∷◌, length, map, Option, Some, None, Result, Ok, Err, nat_le, ap}
 use Rattle.dump_ports.specs.Tree.{Tree, text_at}
 use Rattle.cat_rows.specs.declared.table.SysTable.{SysTable}
 use Rattle.cat_rows.specs.declared.table.SysTable.TheVariants.{PgNamespace}
@@ -13,11 +13,16 @@ use Rattle.pgtools.specs.declared.outcome.UsageKind.{UsageKind}
 use Rattle.pgtools.specs.declared.outcome.Outcome.{Outcome}
 use Rattle.pgtools.specs.declared.outcome.Outcome.TheVariants.{Done, Usage, ReadFault, WriteFault, Missing, BadScript, OutOfProfile, TooLarge, Memory}
 use Rattle.pgtools.specs.Answers.{◌>>=◌, IsDue}
-use Rattle.pgtools.specs.Words.{Psql, words_of}
+use Rattle.pgtools.specs.Words.{Asked, Psql, Dump, words_of}
+use Rattle.pgtools.specs.Naming.{boot}
+use Rattle.dump_ports.specs.declared.moment.Moment.{Moment}
+use Rattle.toc_entry.specs.declared.entry.Entry.{Entry}
+use Rattle.dump_schemas.specs.Toc.{toc_due}
+use Rattle.dump_schemas.specs.Scripts.{script_of as dumped_script}
 use Rattle.pgtools.specs.Texts.{within, file_of}
 use Rattle.pgtools.specs.Statements.{script_of}
 use Rattle.pgtools.specs.Folder.{table_limit, marker_file, file_of_table, there, tables_tried, are_plain, plain_tables_of, namespaces_of, schemas_in_text, marked_of, opening_of, or_unbuilt, tables_before, tables_behind}
-use Rattle.pgtools.specs.Due.{Plan, Answers, script_limit, scripted, psql_due, worded, due}
+use Rattle.pgtools.specs.Due.{Plan, Answers, script_limit, scripted, psql_due, database, dump_row, counted, dump_due, worded, due}
 
 same : (A B : Type 0) (o : Outcome) → ◌≡◌ {A = Result B Outcome} (Err o) (Err Done) → ◌≡◌ {A = Result A Outcome} (Err o) (Err Done)
 same A B o e = ap Err (inner B o e)
@@ -91,22 +96,33 @@ psql_never folder script tree e =
     (λ statements. bind_never (opening_of folder tree) _ (opening_never folder tree)
     (λ rows h. ok_never _ h))) e
 
-worded_never : (r : Result Psql UsageKind) (tree : Tree) → worded r tree ≡ Err Done → ⊥
-worded_never (Ok psql) tree e = psql_never psql.folder psql.script tree e
-worded_never (Err kind) tree e = cc
+counted_never : (script : Bytes) (toc : Result (List Entry) ℕ) → counted script toc ≡ Err Done → ⊥
+counted_never script (Ok entries) e = cc
+counted_never script (Err n) e = cc
+
+dump_never : (folder : Bytes) (moment : Moment) (tree : Tree) → dump_due folder moment tree ≡ Err Done → ⊥
+unfolding dump_due
+dump_never folder moment tree e =
+    bind_never (opening_of folder tree) _ (opening_never folder tree)
+    (λ rows. counted_never (dumped_script database boot moment (map dump_row rows)) (toc_due database boot (map dump_row rows))) e
+
+worded_never : (r : Result Asked UsageKind) (moment : Moment) (tree : Tree) → worded r moment tree ≡ Err Done → ⊥
+worded_never (Ok (Psql folder script)) moment tree e = psql_never folder script tree e
+worded_never (Ok (Dump folder)) moment tree e = dump_never folder moment tree e
+worded_never (Err kind) moment tree e = cc
 
 -- what is due of the words and the files isn't Done as a refusal
-pub due_never : (words : List Bytes) (tree : Tree) → due words tree ≡ Err Done → ⊥
-due_never words tree e = worded_never (words_of words) tree e
+pub due_never : (words : List Bytes) (moment : Moment) (tree : Tree) → due words moment tree ≡ Err Done → ⊥
+due_never words moment tree e = worded_never (words_of words) moment tree e
 
 -- a refusal that is due is an answer
-pub answers_due : (outcome : Outcome) (due : Result Plan Outcome) (before after : Option Tree) (told_before told_after : Option (List ℕ)) → (due ≡ Err Done → ⊥) → IsDue outcome due → Answers outcome due before after told_before told_after
-answers_due Done due before after told_before told_after n h = elim (n h) [ ]
-answers_due (Usage word kind) due before after told_before told_after n h = h
-answers_due ReadFault due before after told_before told_after n h = tt
-answers_due WriteFault due before after told_before told_after n h = tt
-answers_due (Missing name) due before after told_before told_after n h = h
-answers_due (BadScript fault) due before after told_before told_after n h = h
-answers_due (OutOfProfile what) due before after told_before told_after n h = h
-answers_due (TooLarge what most) due before after told_before told_after n h = h
-answers_due Memory due before after told_before told_after n h = tt
+pub answers_due : (outcome : Outcome) (due : Result Plan Outcome) (before after : Option Tree) (out_before out_after told_before told_after : Option (List ℕ)) → (due ≡ Err Done → ⊥) → IsDue outcome due → Answers outcome due before after out_before out_after told_before told_after
+answers_due Done due before after out_before out_after told_before told_after n h = elim (n h) [ ]
+answers_due (Usage word kind) due before after out_before out_after told_before told_after n h = h
+answers_due ReadFault due before after out_before out_after told_before told_after n h = tt
+answers_due WriteFault due before after out_before out_after told_before told_after n h = tt
+answers_due (Missing name) due before after out_before out_after told_before told_after n h = h
+answers_due (BadScript fault) due before after out_before out_after told_before told_after n h = h
+answers_due (OutOfProfile what) due before after out_before out_after told_before told_after n h = h
+answers_due (TooLarge what most) due before after out_before out_after told_before told_after n h = h
+answers_due Memory due before after out_before out_after told_before told_after n h = tt

@@ -1,6 +1,6 @@
 -- What is due for the words of a command line and the files: the first refusal of its steps in their order, or a plan
 -- that is carried out. And what the files hold once it is.
-use Rattle.std.specs.Prelude.{◌≡◌, ℕ, ◌≤◌, List, [], ◌++◌, map, Option, Some, option_map, IfSome, Result, Ok, Err, ◌⊎◌}
+use Rattle.std.specs.Prelude.{◌≡◌, ℕ, ◌≤◌, List, [], ◌++◌, map, Option, Some, option_map, IfSome, Result, Ok, Err, ◌⊎◌, codes}
 use Rattle.std.specs.List.{IsDistinct}
 use Rattle.std.specs.List.Sorted.{IsPermutation}
 use Rattle.cat_rows.specs.declared.table.SysTable.TheVariants.{PgNamespace}
@@ -13,11 +13,18 @@ use Rattle.pgtools.specs.declared.schemas.SchemaRow.{SchemaRow}
 use Rattle.pgtools.specs.declared.script.Located.{Located}
 use Rattle.pgtools.specs.declared.script.ScriptFault.{ScriptFault}
 use Rattle.pgtools.specs.declared.outcome.UsageKind.{UsageKind}
-use Rattle.pgtools.specs.declared.outcome.Limit.TheVariants.{Script}
+use Rattle.pgtools.specs.declared.outcome.Limit.TheVariants.{Script, Entries}
 use Rattle.pgtools.specs.declared.outcome.Outcome.{Outcome}
-use Rattle.pgtools.specs.declared.outcome.Outcome.TheVariants.{Done, Usage, ReadFault, WriteFault, BadScript}
+use Rattle.pgtools.specs.declared.outcome.Outcome.TheVariants.{Done, Usage, ReadFault, WriteFault, BadScript, TooLarge}
 use Rattle.pgtools.specs.Answers.{◌>>=◌, IsDue}
-use Rattle.pgtools.specs.Words.{Psql, words_of}
+use Rattle.pgtools.specs.Words.{Asked, Psql, Dump, words_of}
+use Rattle.pgtools.specs.declared.words.Tool.{Tool}
+use Rattle.dump_ports.specs.declared.moment.Moment.{Moment}
+use Rattle.toc_entry.specs.declared.entry.Entry.{Entry}
+use Rattle.dump_schemas.specs.declared.rows.SchemaRow.{SchemaRow as DumpRow}
+use Rattle.dump_schemas.specs.declared.rows.DatabaseRow.{DatabaseRow}
+use Rattle.dump_schemas.specs.Toc.{toc_due}
+use Rattle.dump_schemas.specs.Scripts.{script_of as dumped_script}
 use Rattle.pgtools.specs.Texts.{file_of}
 use Rattle.pgtools.specs.Statements.{script_of}
 use Rattle.pgtools.specs.declared.tools.Work.{Work}
@@ -28,10 +35,17 @@ use Rattle.pgtools.specs.Messages.{report, outcome_line}
 use Rattle.pgtools.specs.Run.{catalogue_after, refusals}
 
 -- a script to apply to a folder of schemas
-pub record Plan : Type 0 where
+pub record Application : Type 0 where
   pub folder : Bytes
   pub statements : List Located
   pub rows : List SchemaRow
+
+-- what a tool does once all is read
+pub data Plan : Type 0 where
+  -- psql applies a script to a folder
+  Applies : Application → Plan
+  -- pg_dump prints a text
+  Prints : Bytes → Plan
 
 abbrev pub script_limit : ℕ
 script_limit = 268435456
@@ -40,25 +54,53 @@ abbrev pub scripted : Result (List Located) ScriptFault → Result (List Located
 scripted (Ok statements) = Ok statements
 scripted (Err fault) = Err (BadScript fault)
 
--- the script is read, then the folder
+-- psql: the script is read, then the folder
 unfoldable pub psql_due : Bytes → Bytes → Tree → Result Plan Outcome
 psql_due folder script tree = do
   text ← file_of Script script_limit script tree
   statements ← scripted (script_of text)
   rows ← opening_of folder tree
-  Ok (record { folder = folder; statements = statements; rows = rows })
+  Ok (Applies (record { folder = folder; statements = statements; rows = rows }))
 
-abbrev pub worded : Result Psql UsageKind → Tree → Result Plan Outcome
-worded (Ok psql) tree = psql_due psql.folder psql.script tree
-worded (Err kind) tree = Err (Usage 0 kind)
+-- the one database of such a folder
+abbrev pub database : DatabaseRow
+database = record { name = codes "postgres"; oid = 5 }
 
--- what is due for the words and the files
-abbrev pub due : List Bytes → Tree → Result Plan Outcome
-due words tree = worded (words_of words) tree
+abbrev pub dump_row : SchemaRow → DumpRow
+dump_row row = record { name = row.name; oid = row.oid }
 
--- the work that was read, as a plan for a folder
+-- the script of the folder's schemas, where it has no more entries than an archive can have
+abbrev pub counted : Bytes → Result (List Entry) ℕ → Result Plan Outcome
+counted script (Ok entries) = Ok (Prints script)
+counted script (Err n) = Err (TooLarge Entries n)
+
+abbrev pub script_due : Moment → List SchemaRow → Result Plan Outcome
+script_due moment rows = counted (dumped_script database boot moment (map dump_row rows)) (toc_due database boot (map dump_row rows))
+
+-- pg_dump: the folder is read
+unfoldable pub dump_due : Bytes → Moment → Tree → Result Plan Outcome
+dump_due folder moment tree = do
+  rows ← opening_of folder tree
+  script_due moment rows
+
+abbrev pub asked_due : Asked → Moment → Tree → Result Plan Outcome
+asked_due (Psql folder script) moment tree = psql_due folder script tree
+asked_due (Dump folder) moment tree = dump_due folder moment tree
+
+abbrev pub worded : Result Asked UsageKind → Moment → Tree → Result Plan Outcome
+worded (Ok asked) moment tree = asked_due asked moment tree
+worded (Err kind) moment tree = Err (Usage 0 kind)
+
+-- what is due for the words, the moment and the files
+abbrev pub due : List Bytes → Moment → Tree → Result Plan Outcome
+due words moment tree = worded (words_of words) moment tree
+
+-- the work that was read, as a script for a folder
+abbrev pub application_of : Bytes → Work → Application
+application_of folder work = record { folder = folder; statements = work.statements.items; rows = work.schemas }
+
 abbrev pub plan_of : Bytes → Work → Plan
-plan_of folder work = record { folder = folder; statements = work.statements.items; rows = work.schemas }
+plan_of folder work = Applies (application_of folder work)
 
 -- the answer that comes where no call on the outside fails and memory doesn't run out
 abbrev pub expected : Result Plan Outcome → Outcome
@@ -70,7 +112,7 @@ expected (Err outcome) = outcome
 -- What the statements of a plan come to. The rows are the schemas that were there, under their oids, and those that were
 -- made, under oids that no other has. By names they are the catalogue that the statements make. The text is that of
 -- pg_namespace for them, by rising oid.
-pub record Comes (plan : Plan) (text : Bytes) : Type 0 where
+pub record Comes (plan : Application) (text : Bytes) : Type 0 where
   pub made : List SchemaRow
   pub rows : List SchemaRow
   pub kept : IsPermutation (plan.rows ++ made) rows
@@ -79,66 +121,76 @@ pub record Comes (plan : Plan) (text : Bytes) : Type 0 where
   pub written : IsWritten PgNamespace (map cells_of_row (plan.rows ++ made)) (map cells_of_row rows) [] text
 
 -- The folder was written: each of its files holds its whole text, and it stands for the rows.
-pub record Applied (plan : Plan) (before after : Option Tree) : Type 0 where
+pub record Applied (plan : Application) (before after : Option Tree) : Type 0 where
   pub text : Bytes
   pub result : Comes plan text
   pub saved : after ≡ option_map (folder_saved plan.folder text) before
   pub stands : IfSome after (λ tree. schemas_in plan.folder tree ≡ Some result.rows)
 
 -- The writing of the folder ended on its way.
-pub record PartApplied (plan : Plan) (before after : Option Tree) : Type 0 where
+pub record PartApplied (plan : Application) (before after : Option Tree) : Type 0 where
   pub text : Bytes
   pub result : Comes plan text
   pub part : PartSaved (files_written plan.folder text) before after
 
--- the report of a plan
-abbrev pub report_of : Plan → List ℕ
+-- the report of a script
+abbrev pub report_of : Application → List ℕ
 report_of plan = report (refusals boot plan.statements (named plan.rows))
 
--- A plan was carried out: it was applied, and its report was written to standard error.
-pub record IsCarriedOut (plan : Plan) (before after : Option Tree) (told_before told_after : Option (List ℕ)) : Type 0 where
-  pub applied : Applied plan before after
-  pub reported : Appends (report_of plan) told_before told_after
+-- What stands of the files, of standard output and of standard error once a plan is carried out: a script was applied and
+-- its report was written to standard error, or a text was written to standard output, and nothing else changed.
+abbrev pub IsCarriedOut : Plan → Option Tree → Option Tree → Option (List ℕ) → Option (List ℕ) → Option (List ℕ) → Option (List ℕ) → Type 0
+IsCarriedOut (Applies plan) before after out_before out_after told_before told_after =
+    Applied plan before after × (out_after ≡ out_before) × Appends (report_of plan) told_before told_after
+IsCarriedOut (Prints text) before after out_before out_after told_before told_after =
+    (after ≡ before) × Appends text out_before out_after × (told_after ≡ told_before)
 
 -- the plan that was due was carried out
-pub record WasDue (due : Result Plan Outcome) (before after : Option Tree) (told_before told_after : Option (List ℕ)) : Type 0 where
+pub record WasDue (due : Result Plan Outcome) (before after : Option Tree) (out_before out_after told_before told_after : Option (List ℕ)) : Type 0 where
   pub plan : Plan
   pub is_due : due ≡ Ok plan
-  pub carried : IsCarriedOut plan before after told_before told_after
+  pub carried : IsCarriedOut plan before after out_before out_after told_before told_after
 
 -- what a call of the program comes to: Done where the plan that is due was carried out, or a refusal that is due
-abbrev pub Answers : Outcome → Result Plan Outcome → Option Tree → Option Tree → Option (List ℕ) → Option (List ℕ) → Type 0
-Answers Done due before after told_before told_after = WasDue due before after told_before told_after
-Answers outcome due before after told_before told_after = IsDue outcome due
+abbrev pub Answers : Outcome → Result Plan Outcome → Option Tree → Option Tree → Option (List ℕ) → Option (List ℕ) → Option (List ℕ) → Option (List ℕ) → Type 0
+Answers Done due before after out_before out_after told_before told_after = WasDue due before after out_before out_after told_before told_after
+Answers outcome due before after out_before out_after told_before told_after = IsDue outcome due
 
 -- ---- what stands where the work ended on its way
 
--- the plan that was due was applied in part
+-- the script that is due was applied in part
 pub record PartDue (due : Result Plan Outcome) (before after : Option Tree) : Type 0 where
-  pub plan : Plan
-  pub is_due : due ≡ Ok plan
+  pub plan : Application
+  pub is_due : due ≡ Ok (Applies plan)
   pub part : PartApplied plan before after
 
--- the files are as they were, or hold a first part of what the plan that is due makes of them
+-- the files are as they were, or hold a first part of what the script that is due makes of them
 abbrev pub IsPart : Result Plan Outcome → Option Tree → Option Tree → Type 0
 IsPart due before after = (after ≡ before) ⊎ PartDue due before after
 
 abbrev pub report_due : Result Plan Outcome → List ℕ
-report_due (Ok plan) = report_of plan
+report_due (Ok (Applies plan)) = report_of plan
+report_due (Ok (Prints text)) = []
 report_due (Err outcome) = []
+
+abbrev pub text_due : Result Plan Outcome → List ℕ
+text_due (Ok (Applies plan)) = []
+text_due (Ok (Prints text)) = text
+text_due (Err outcome) = []
 
 -- Standard error has grown by a first part of the report, and then by a first part of the line of an answer that is
 -- due.
-pub record ToldPart (due : Result Plan Outcome) (before after : Option (List ℕ)) : Type 0 where
+pub record ToldPart (tool : Tool) (due : Result Plan Outcome) (before after : Option (List ℕ)) : Type 0 where
   pub between : Option (List ℕ)
   pub reported : AppendsPart (report_due due) before between
   pub outcome : Outcome
   pub is_due : IsDue outcome due
-  pub line : AppendsPart (outcome_line outcome) between after
+  pub line : AppendsPart (outcome_line tool outcome) between after
 
 -- a file that the plan which is due doesn't write
 abbrev pub IsOther : Result Plan Outcome → Bytes → Type 0
-IsOther (Ok plan) name = IsElsewhere plan.folder name
+IsOther (Ok (Applies plan)) name = IsElsewhere plan.folder name
+IsOther (Ok (Prints text)) name = Unit {0}
 IsOther (Err outcome) name = Unit {0}
 
 -- every file that the plan which is due doesn't write is as it was
@@ -147,31 +199,35 @@ KeepsOthers due before after = (name : Bytes) → IsOther due name → IfSome af
 
 -- ---- counts of faults
 
--- the counts of reads of files, of writes of files and of writes to standard error that failed
+-- the counts of reads of files, of writes of files, of writes to standard output and of writes to standard error that
+-- failed
 pub record Counts : Type 0 where
   pub reads : ℕ
   pub writes : ℕ
+  pub prints : ℕ
   pub lines : ℕ
 
-abbrev pub counts : ℕ → ℕ → ℕ → Counts
-counts reads writes lines = record { reads = reads; writes = writes; lines = lines }
+abbrev pub counts : ℕ → ℕ → ℕ → ℕ → Counts
+counts reads writes prints lines = record { reads = reads; writes = writes; prints = prints; lines = lines }
 
 -- none of them rose
 pub record NoneRose (before after : Counts) : Type 0 where
   pub reads : HasNotRisen before.reads after.reads
   pub writes : HasNotRisen before.writes after.writes
+  pub prints : HasNotRisen before.prints after.prints
   pub lines : HasNotRisen before.lines after.lines
 
 pub record NoneFell (before after : Counts) : Type 0 where
   pub reads : before.reads ≤ after.reads
   pub writes : before.writes ≤ after.writes
+  pub prints : before.prints ≤ after.prints
   pub lines : before.lines ≤ after.lines
 
 -- A count of reads rose where the answer is ReadFault, one of writes where it is WriteFault, and all stayed where it is
 -- neither.
 abbrev pub Counted : Outcome → Counts → Counts → Type 0
 Counted ReadFault before after = NoneFell before after × HasRisen before.reads after.reads
-Counted WriteFault before after = NoneFell before after × (HasRisen before.writes after.writes ⊎ HasRisen before.lines after.lines)
+Counted WriteFault before after = NoneFell before after × (HasRisen before.writes after.writes ⊎ HasRisen before.prints after.prints ⊎ HasRisen before.lines after.lines)
 Counted _ before after = after ≡ before
 
 -- the same of a step

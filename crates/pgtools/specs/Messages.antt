@@ -7,8 +7,10 @@ use Rattle.cat_model.specs.declared.words.What.{What}
 use Rattle.cat_model.specs.declared.words.What.TheVariants as what
 use Rattle.pgtools.specs.declared.outcome.UsageKind.{UsageKind}
 use Rattle.pgtools.specs.declared.outcome.UsageKind.TheVariants.{NoCommand, UnknownCommand, BadValue}
+use Rattle.pgtools.specs.declared.words.Tool.{Tool}
+use Rattle.pgtools.specs.declared.words.Tool.TheVariants as tools
 use Rattle.pgtools.specs.declared.outcome.Limit.{Limit}
-use Rattle.pgtools.specs.declared.outcome.Limit.TheVariants.{Script, TableFile}
+use Rattle.pgtools.specs.declared.outcome.Limit.TheVariants.{Script, TableFile, Entries}
 use Rattle.pgtools.specs.declared.outcome.Outcome.{Outcome}
 use Rattle.pgtools.specs.declared.outcome.Outcome.TheVariants as outcome
 use Rattle.pgtools.specs.declared.script.ScriptFault.{ScriptFault}
@@ -89,6 +91,7 @@ kind_text BadValue = codes "BadValue"
 abbrev pub limit_text : Limit → List ℕ
 limit_text Script = codes "Script"
 limit_text TableFile = codes "TableFile"
+limit_text Entries = codes "Entries"
 
 abbrev pub what_text : What → List ℕ
 what_text what.Gzip = codes "Gzip"
@@ -119,10 +122,11 @@ fault_place (script.Unknown at) = at
 fault_place (script.LongName at) = at
 fault_place (script.Incomplete at) = at
 
--- a fault of the words is told by the program, any other by the tool
-abbrev pub teller : Outcome → List ℕ
-teller (outcome.Usage word kind) = codes "pgtools"
-teller other = codes "psql"
+-- how a tool is called
+abbrev pub tool_name : Tool → List ℕ
+tool_name tools.Program = codes "pgtools"
+tool_name tools.Psql = codes "psql"
+tool_name tools.PgDump = codes "pg_dump"
 
 abbrev pub outcome_text : Outcome → List ℕ
 outcome_text outcome.Done = []
@@ -136,8 +140,8 @@ outcome_text (outcome.TooLarge limit most) = codes "too large: " ++ limit_text l
 outcome_text outcome.Memory = codes "out of memory"
 
 -- the line of a call that is refused
-abbrev pub outcome_line : Outcome → List ℕ
-outcome_line outcome = teller outcome ++ codes ": error: " ++ outcome_text outcome ++ 10 ∷ []
+abbrev pub outcome_line : Tool → Outcome → List ℕ
+outcome_line tool outcome = tool_name tool ++ codes ": error: " ++ outcome_text outcome ++ 10 ∷ []
 
 -- ---- psql's report
 

@@ -5,21 +5,33 @@ use Rattle.cat_model.specs.Values.{Bytes}
 use Rattle.std.specs.Str.{bytes_eq}
 use Rattle.pgtools.specs.declared.words.Command.{Command}
 use Rattle.pgtools.specs.declared.words.Command.TheVariants as command
+use Rattle.pgtools.specs.declared.words.Tool.{Tool}
+use Rattle.pgtools.specs.declared.words.Tool.TheVariants as tools
 use Rattle.pgtools.specs.declared.outcome.UsageKind.{UsageKind}
 use Rattle.pgtools.specs.declared.outcome.UsageKind.TheVariants.{NoCommand, UnknownCommand}
 
--- psql's folder and its script
-pub record Psql : Type 0 where
-  pub folder : Bytes
-  pub script : Bytes
+-- what the words ask for
+pub data Asked : Type 0 where
+  -- psql's folder and its script
+  Psql : Bytes → Bytes → Asked
+  -- the folder that pg_dump reads
+  Dump : Bytes → Asked
 
--- psql -d FOLDER -f SCRIPT
-abbrev pub words_of : List Bytes → Result Psql UsageKind
+-- psql -d FOLDER -f SCRIPT, or pg_dump FOLDER
+abbrev pub words_of : List Bytes → Result Asked UsageKind
 words_of [] = Err NoCommand
+words_of (tool ∷ folder ∷ []) = if bytes_eq tool (codes "pg_dump") then Ok (Dump folder) else Err UnknownCommand
 words_of (tool ∷ d ∷ folder ∷ f ∷ script ∷ []) =
-    if bytes_eq tool (codes "psql") && bytes_eq d (codes "-d") && bytes_eq f (codes "-f") then Ok (record { folder = folder; script = script }) else Err UnknownCommand
+    if bytes_eq tool (codes "psql") && bytes_eq d (codes "-d") && bytes_eq f (codes "-f") then Ok (Psql folder script) else Err UnknownCommand
 words_of _ = Err UnknownCommand
 
 -- a command as it was read
-abbrev pub psql_of : Command → Psql
-psql_of (command.Psql folder script) = record { folder = folder.now; script = script.now }
+abbrev pub asked_of : Command → Asked
+asked_of (command.Psql folder script) = Psql folder.now script.now
+asked_of (command.Dump folder) = Dump folder.now
+
+-- the tool that tells a refusal: the program itself where the words have no reading
+abbrev pub tool_of : Result Asked UsageKind → Tool
+tool_of (Ok (Psql folder script)) = tools.Psql
+tool_of (Ok (Dump folder)) = tools.PgDump
+tool_of (Err kind) = tools.Program

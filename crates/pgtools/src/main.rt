@@ -2,6 +2,7 @@
 #![tactic(auto)]
 
 mod arguments;
+mod dumping;
 mod folder;
 mod namespaces;
 mod opening;
@@ -18,6 +19,7 @@ use crate::arguments::{ArgumentFault, read_arguments};
 use crate::outcome::{Outcome, UsageKind};
 use crate::tell::tell;
 use crate::tools::run_tools;
+use crate::words::Tool;
 use dump_ports::{OpenGate, Sink};
 use os_ports::{OsErr, OsFiles, OsIn, OsOut, moment_now};
 use std::process::ExitCode;
@@ -48,7 +50,7 @@ fn refuse<E: Sink>(err: &mut E, fault: ArgumentFault) -> u8 {
         },
         ArgumentFault::Memory => Outcome::Memory,
     };
-    match tell(err, &outcome) {
+    match tell(err, Tool::Program, &outcome) {
         Ok(()) => outcome.status(),
         Err(_) => Outcome::WriteFault.status(),
     }

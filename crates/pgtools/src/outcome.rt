@@ -19,13 +19,15 @@ pub enum UsageKind {
     BadValue,
 }
 
-/// Which limit on a length in bytes is passed.
+/// Which limit is passed.
 #[derive(Clone, Copy, Debug, PartialEq, Eq)]
 pub enum Limit {
     /// A script has at most 268,435,456 bytes.
     Script,
     /// The file of one system table has at most 134,217,728 bytes.
     TableFile,
+    /// A dump has at most 200,000 entries.
+    Entries,
 }
 
 /// What a call of the program comes to.
@@ -50,7 +52,7 @@ pub enum Outcome {
     BadScript(ScriptFault),
     /// Something is met that the program doesn't support.
     OutOfProfile(What),
-    /// A text is longer than its limit; the number is the limit and one more.
+    /// A limit is passed. Where it is one of bytes, the number is the limit and one more; of entries it is their number.
     TooLarge(Limit, u64),
     /// Memory ran out.
     Memory,

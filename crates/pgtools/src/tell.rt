@@ -1,21 +1,22 @@
 //! The line of a call that is refused as a whole.
 ghost use Rattle.std.specs.Prelude.{◌≡◌, ℕ, ◌≤◌, ◌++◌, List, OnOk, OnErr, decimal, codes};
 ghost use Rattle.dump_ports.specs.Faults.{CountsFault};
-ghost use Rattle.pgtools.specs.Messages.{kind_text, limit_text, what_text, teller, outcome_text, outcome_line};
+ghost use Rattle.pgtools.specs.Messages.{kind_text, limit_text, what_text, outcome_text, outcome_line};
 ghost use Rattle.pgtools.specs.Lines.{Appends, AppendsPart};
 
 use crate::outcome::{Limit, Outcome, UsageKind};
+use crate::words::Tool;
 use cat_model::What;
 use dump_ports::{Failed, Sink, write_all};
 use itoa::Buffer;
 
 /// Writes the line of a refusal to standard error. After an error a first part of it was written.
-pub fn tell<E: Sink>(err: &mut E, outcome: &Outcome) -> Result<(), Failed>
-    ensures ok { OnOk result (Appends (outcome_line outcome.now) (E.written err.old) (E.written err.new)) }
-    ensures err { OnErr result (AppendsPart (outcome_line outcome.now) (E.written err.old) (E.written err.new)) }
+pub fn tell<E: Sink>(err: &mut E, tool: Tool, outcome: &Outcome) -> Result<(), Failed>
+    ensures ok { OnOk result (Appends (outcome_line tool outcome.now) (E.written err.old) (E.written err.new)) }
+    ensures err { OnErr result (AppendsPart (outcome_line tool outcome.now) (E.written err.old) (E.written err.new)) }
     ensures count { CountsFault result (E.faults err.old) (E.faults err.new) }
 {
-    write_two(err, teller(outcome), b": error: ")?;
+    write_two(err, tool.name().as_bytes(), b": error: ")?;
     write_outcome(err, outcome)?;
     write_bytes(err, b"\n")
 }
@@ -84,16 +85,6 @@ fn write_number<E: Sink>(err: &mut E, number: usize) -> Result<(), Failed>
     write_bytes(err, buffer.format(number).as_bytes())
 }
 
-/// Who tells a refusal: the program where its words have no reading, else the tool.
-fn teller(outcome: &Outcome) -> &'static [u8]
-    ensures { result.now ≡ teller outcome.now }
-{
-    match outcome {
-        Outcome::Usage { .. } => b"pgtools",
-        _ => b"psql",
-    }
-}
-
 /// What stands behind the number of a word.
 fn kind_text(kind: UsageKind) -> &'static [u8]
     ensures { result.now ≡ codes ": " ++ kind_text kind }
@@ -111,6 +102,7 @@ fn limit_text(limit: Limit) -> &'static [u8]
     match limit {
         Limit::Script => b"Script",
         Limit::TableFile => b"TableFile",
+        Limit::Entries => b"Entries",
     }
 }
 

@@ -27,7 +27,7 @@ const EMPTY: [(&str, &[u8]); 16] = [
     ("D/format", b"1\n"),
 ];
 
-/// A run of psql over files in memory: what it answered, what the files hold, and what was written to standard output
+/// A run over files in memory: what it answered, what the files hold, and what was written to standard output
 /// and standard error.
 #[derive(Drop)]
 struct Run {
@@ -39,14 +39,19 @@ struct Run {
 
 /// Applies a script to the empty export, where these calls of the files fail.
 fn apply(rt: &HostRuntime, script: &[u8], fail: Vec<u64>) -> Result<Run, Fail> {
-    let alloc = rt.alloc();
-    let mut files = MemFiles::new(alloc, fail);
+    let mut files = MemFiles::new(rt.alloc(), fail);
     for (name, text) in EMPTY {
         files.put(name, text)?;
     }
     files.put("s.sql", script)?;
+    call(rt, &["psql", "-d", "D", "-f", "s.sql"], files)
+}
+
+/// Calls the program with these words.
+fn call(rt: &HostRuntime, spelled: &[&str], mut files: MemFiles) -> Result<Run, Fail> {
+    let alloc = rt.alloc();
     let mut words = Vec::new(alloc);
-    for word in ["psql", "-d", "D", "-f", "s.sql"] {
+    for word in spelled {
         if let Some(text) = Text::new(String::from_str(alloc, word)?.into_bytes()) {
             words.push(text)?;
         }
@@ -101,6 +106,62 @@ fn scripts_are_applied(rt: HostRuntime) -> Result<(), Fail> {
         assert!(rt; run.told.text() == told);
         assert!(rt; run.out.text() == b"".as_slice());
     }
+    Ok(())
+}
+
+/// The script of a folder with the schemas `a` and `public`.
+const DUMP: &str = "--
+-- PostgreSQL database dump
+--
+
+-- Dumped from database version 16.0
+-- Dumped by pg_dump version 16.0
+
+SET statement_timeout = 0;
+SET lock_timeout = 0;
+SET idle_in_transaction_session_timeout = 0;
+SET client_encoding = 'UTF8';
+SET standard_conforming_strings = on;
+SELECT pg_catalog.set_config('search_path', '', false);
+SET check_function_bodies = false;
+SET xmloption = content;
+SET client_min_messages = warning;
+SET row_security = off;
+
+--
+-- Name: a; Type: SCHEMA; Schema: -; Owner: postgres
+--
+
+CREATE SCHEMA a;
+
+
+ALTER SCHEMA a OWNER TO postgres;
+
+--
+-- Name: public; Type: SCHEMA; Schema: -; Owner: postgres
+--
+
+-- *not* creating schema, since initdb creates it
+
+
+ALTER SCHEMA public OWNER TO postgres;
+
+--
+-- PostgreSQL database dump complete
+--
+
+";
+
+#[test]
+fn folders_are_dumped(rt: HostRuntime) -> Result<(), Fail> {
+    let made = apply(&rt, b"CREATE SCHEMA a;", Vec::new(rt.alloc()))?;
+    let run = call(&rt, &["pg_dump", "D"], made.files)?;
+    assert_eq!(rt; run.outcome.status(), 0);
+    assert!(rt; run.out.text() == DUMP.as_bytes());
+    assert!(rt; run.told.text() == b"".as_slice());
+    let refused = call(&rt, &["pg_dump", "X"], run.files)?;
+    assert_eq!(rt; refused.outcome.status(), 1);
+    assert!(rt; refused.told.text() == b"pg_dump: error: missing file X/format\n".as_slice());
     Ok(())
 }
 

@@ -1,6 +1,7 @@
 //! The words of a command line.
 ghost use Rattle.std.specs.Prelude.{◌≡◌, ℕ, List, Result, Ok, Err, MatchResult};
-ghost use Rattle.pgtools.specs.Words.{psql_of, words_of};
+ghost use Rattle.pgtools.specs.Words.{asked_of, words_of, tool_of};
+ghost use Rattle.pgtools.specs.Messages.{tool_name};
 
 use crate::outcome::UsageKind;
 use copy_text::Text;
@@ -15,13 +16,53 @@ pub enum Command<'a> {
         /// The file of the script.
         script: &'a Text,
     },
+    /// pg_dump prints the script of a folder.
+    Dump {
+        /// The folder.
+        folder: &'a Text,
+    },
 }
 
-/// Reads the words `psql -d FOLDER -f SCRIPT`.
+/// Who tells a refusal.
+#[derive(Clone, Copy, Debug, PartialEq, Eq)]
+pub enum Tool {
+    /// The program, where its words have no reading.
+    Program,
+    /// psql.
+    Psql,
+    /// pg_dump.
+    PgDump,
+}
+
+impl Tool {
+    /// How the tool is called.
+    pub fn name(self) -> &'static str
+        ensures { result.now ≡ tool_name self }
+    {
+        match self {
+            Tool::Program => "pgtools",
+            Tool::Psql => "psql",
+            Tool::PgDump => "pg_dump",
+        }
+    }
+}
+
+/// The tool that the words ask for, or the program where they have no reading.
+pub fn tool_of(words: &[Text]) -> Tool
+    ensures { result ≡ tool_of (words_of words.now) }
+{
+    match read_words(words) {
+        Ok(Command::Psql { .. }) => Tool::Psql,
+        Ok(Command::Dump { .. }) => Tool::PgDump,
+        Err(_) => Tool::Program,
+    }
+}
+
+/// Reads the words `psql -d FOLDER -f SCRIPT` or `pg_dump FOLDER`.
 ///
 /// `NoCommand` comes where there are no words, `UnknownCommand` for any other list. Both name the first word.
 pub fn read_words(words: &[Text]) -> Result<Command<'_>, UsageKind>
-    ensures { MatchResult result (λ command. words_of words.now ≡ Ok (psql_of command)) (λ kind. words_of words.now ≡ Err kind) }
+    ensures { MatchResult result (λ command. words_of words.now ≡ Ok (asked_of command)) (λ kind. words_of words.now ≡ Err kind) }
 {
     match words {
         [] => Err(UsageKind::NoCommand),
@@ -29,6 +70,7 @@ pub fn read_words(words: &[Text]) -> Result<Command<'_>, UsageKind>
             if tool.as_str() == "psql" && d.as_str() == "-d" && f.as_str() == "-f" => {
             Ok(Command::Psql { folder, script })
         }
+        [tool, folder] if tool.as_str() == "pg_dump" => Ok(Command::Dump { folder }),
         _ => Err(UsageKind::UnknownCommand),
     }
 }
