@@ -1,5 +1,5 @@
 -- The value of a setting read token by token: what it gives is what its rest gives.
-use Rattle.std.proofs.Common.{◌≡◌, ℕ, zero, suc, ◌+◌, ◌-◌, ◌<◌, ◌≤◌, Bool, true, false, cond, ◌&&◌, ◌==◌, List, [], ◌∷◌, length, Result, Ok, Err, refl, sym, ap, ◌∙◌, arith}
+use Rattle.std.proofs.Common.{◌≡◌, ℕ, zero, suc, ◌+◌, ◌-◌, ◌<◌, Bool, true, false, cond, ◌&&◌, ◌==◌, List, length, Result, Ok, Err, refl, ap, ◌∙◌, arith}
 use Rattle.sql_lex.specs.declared.token.Token.{Token}
 use Rattle.pgtools.specs.declared.script.ScriptFault.{ScriptFault}
 use Rattle.pgtools.specs.declared.script.ReadScriptError.{ReadScriptError}

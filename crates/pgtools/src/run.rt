@@ -1,5 +1,5 @@
 //! A script applied to the schemas of a folder.
-ghost use Rattle.std.specs.Prelude.{◌≡◌, ℕ, List, [], ◌∷◌, ◌++◌, OnOk, OnErr, IfOk, decimal, codes};
+ghost use Rattle.std.specs.Prelude.{◌≡◌, List, ◌++◌, OnOk, IfOk};
 ghost use Rattle.sql_lex.specs.Written.{written_name};
 ghost use Rattle.pgtools.specs.declared.schemas.SchemaRow.{SchemaRow};
 ghost use Rattle.pgtools.specs.Naming.{boot, named};

@@ -7,8 +7,6 @@ ghost use Rattle.cat_model.specs.Values.{Bytes, bytes_cmp};
 ghost use Rattle.cat_model.specs.Effects.{effect};
 ghost use Rattle.cat_model.specs.References.{is_system};
 ghost use Rattle.cat_model.specs.Trees.{run};
-ghost use Rattle.cat_model.specs.declared.key.Key.TheVariants as key;
-ghost use Rattle.cat_model.specs.declared.cause.Cause.TheVariants as cause;
 ghost use Rattle.cat_model.specs.declared.stmt.Stmt.TheVariants as stmt;
 ghost use Rattle.pgtools.specs.Naming.{boot, named, has_name, has_oid};
 ghost use Rattle.pgtools.specs.Folder.{has_public};

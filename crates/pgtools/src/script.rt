@@ -1,10 +1,9 @@
 //! The script of psql, read as its statements.
-ghost use Rattle.std.specs.Prelude.{◌≡◌, ℕ, ◌+◌, ◌<◌, ◌≤◌, List, [], ◌∷◌, ◌++◌, length, reverse, Option, Some, None, Result, Ok, Err, IfOk, IfSome, IfErr, OnOk, option_map, ◌||◌, ◌&&◌, ◌==◌};
+ghost use Rattle.std.specs.Prelude.{◌≡◌, ◌+◌, ◌<◌, ◌≤◌, length, reverse, IfOk, IfSome, option_map, ◌||◌, ◌&&◌, ◌==◌};
 ghost use Rattle.std.specs.List.{list_any};
 ghost use Rattle.sql_lex.specs.Next.{next_token_of};
-ghost use Rattle.sql_lex.specs.Meaning.{literal_of, spelling};
 ghost use Rattle.pgtools.specs.Messages.{fault_place};
-ghost use Rattle.pgtools.specs.Statements.{GivesScript, LiesIn, lexed, name_in, token_after, is_sign, is_semicolon, is_key, name_at, keyword_after, sign_after, there, literal_after, closed, signed, open_after, gone_on, value_within, value_after, create_after, equals_after, set_after, set_config_after, settings_after, select_after, owner_to_after, alter_after, statement_at, statements_within, script_of};
+ghost use Rattle.pgtools.specs.Statements.{GivesScript, LiesIn, lexed, name_in, token_after, is_sign, is_semicolon, is_key, name_at, keyword_after, sign_after, there, literal_after, closed, signed, open_after, gone_on, value_within, value_after, create_after, equals_after, set_after, set_config_after, settings_after, select_after, owner_to_after, alter_after, statement_at, script_of};
 ghost use Rattle.pgtools.specs.declared.script.ReadScriptError.TheVariants as errors;
 
 use copy_text::Name;

@@ -1,4 +1,4 @@
-use Rattle.std.proofs.Common.{◌≡◌, ℕ, List, [], ◌∷◌, ◌++◌, sym, ◌∙◌, ap, Ok, Err}
+use Rattle.std.proofs.Common.{◌≡◌, [], ◌∷◌, ◌++◌, sym, ◌∙◌, ap, Ok, Err}
 use Rattle.pgtools.specs.declared.schemas.SchemaCause.{SchemaCause}
 use Rattle.pgtools.specs.declared.schemas.SchemaCause.TheVariants as why
 use Rattle.pgtools.specs.declared.schemas.ApplyFault.TheVariants as faults
