@@ -9,3 +9,4 @@ pub mod Refusing
 pub mod Standing
 pub mod Counting
 pub mod Ending
+pub mod Settings

@@ -1,13 +1,14 @@
 -- What the catalogue by names of a folder of schemas has at a key: it depends on which names the rows have, and not
--- on their order. And what a CREATE SCHEMA says of it.
-use Rattle.std.proofs.Common.{◌≡◌, ℕ, Bool, true, false, cond, not, ◌||◌, List, [], ◌∷◌, ◌++◌, Option, Some, None, Result, Ok, Err, refl, sym, ap, ◌∙◌}
+-- on their order. And what CREATE SCHEMA and ALTER SCHEMA .. OWNER TO say of it.
+use Rattle.std.proofs.Common.{◌≡◌, ℕ, Bool, true, false, cond, not, ◌||◌, List, [], ◌∷◌, ◌++◌, Option, Some, None, Result, Ok, Err, refl, sym, ap, ◌∙◌, ◌≢◌}
 use Rattle.std.specs.declared.cmp.Ordering.{Ordering}
 use Rattle.std.specs.declared.cmp.Ordering.TheVariants.{Less, Equal, Greater}
 use Rattle.std.specs.Ordering.{eq_by_cmp, is_eq, ordering_then}
-use Rattle.std.specs.Cmp.{eq_by_cmp_equiv}
-use Rattle.std.specs.Cmp.Lexicographic.{nat_list_cmp_total}
+use Rattle.std.specs.Cmp.{IsTotalOrder, on_total, eq_by_cmp_equiv}
+use Rattle.std.specs.Cmp.Lexicographic.{nat_list_cmp_total, lists_total}
 use Rattle.std.specs.List.Sorted.{IsPermutation}
-use Rattle.std.specs.FinMap.{get, get-insert, same_map, get-from_entries}
+use Rattle.std.specs.FinMap.{get, insert, get-insert, same_map, get-from_entries}
+use Rattle.std.proofs.lemmas.Bool.{false_from_ne_true}
 use Rattle.std.proofs.lemmas.List.Sorted.{list_any-IsPermutation}
 use Rattle.cat_model.specs.declared.object.Object.{Object}
 use Rattle.cat_model.specs.declared.object.Object.TheVariants as object
@@ -17,14 +18,17 @@ use Rattle.cat_model.specs.declared.cause.Cause.{Cause}
 use Rattle.cat_model.specs.declared.cause.Cause.TheVariants as cause
 use Rattle.cat_model.specs.declared.stmt.Stmt.TheVariants as stmt
 use Rattle.cat_model.specs.Keys.{key_cmp}
-use Rattle.cat_model.specs.KeyLaws.{key_cmp_total, key_cmp-IsAntisymmetric}
+use Rattle.cat_model.specs.KeyLaws.{key_cmp_total, key_cmp-IsAntisymmetric, key_eq-same}
 use Rattle.cat_model.specs.Values as value
 use Rattle.cat_model.specs.Values.{Bytes, bytes_cmp, Value, Named}
-use Rattle.cat_model.specs.Grants.{owner_only, schema_rights}
+use Rattle.cat_model.specs.Values.{ROLE, OWNER, holder_code, holder_cmp}
+use Rattle.cat_model.specs.Grants.{owner_only, schema_rights, joined, join, without_option}
+use Rattle.cat_model.specs.declared.grant.Owned.TheVariants as owned
+use Rattle.cat_model.specs.ObjectEffects.{grants_joined}
 use Rattle.cat_model.specs.Effects.{effect}
 use Rattle.cat_model.specs.References.{is_system}
-use Rattle.cat_model.specs.Conditions.{if_free, check}
-use Rattle.cat_model.specs.Trees.{changed, run, after, outcome, sets, seen}
+use Rattle.cat_model.specs.Conditions.{if_free, if_there, needs, check}
+use Rattle.cat_model.specs.Trees.{Change, Tree, changed, run, after, outcome, sets, look, seen}
 use Rattle.cat_model.specs.declared.constraint.Encoding.TheVariants as encoding
 use Rattle.pgtools.specs.declared.schemas.SchemaRow.{SchemaRow}
 use Rattle.pgtools.specs.Naming.{boot, boot_role, cluster, schema_changes, with_schemas, named, has_name}
@@ -175,3 +179,82 @@ pub run_created : (rows : List SchemaRow) (name : Bytes) (oid : ℕ) → (has_na
 run_created rows name oid h =
     run-cases rows name ∙ ap (λ b. cond {A = Result Named Cause} b (Err (cause.Exists (key.Schema name))) (Ok (changed (schema_changes name) (named rows)))) h
     ∙ ap Ok (sym (with_schemas-append cluster rows (record { oid = oid; name = name } ∷ [])))
+
+-- ---- ALTER SCHEMA .. OWNER TO
+
+-- to put a value where it stands already changes nothing
+insert_same : (named : Named) (k : Key) (v : Value) → get named k ≡ Some v → insert named k v ≡ named
+insert_same named k v e = same_map key_cmp_total key_cmp-IsAntisymmetric _ _ (λ q. get-insert key_cmp_total named k v q ∙ back q (eq_by_cmp key_cmp q k) refl)
+  where
+    back : (q : Key) (b : Bool) → eq_by_cmp key_cmp q k ≡ b → cond b (Some v) (get named q) ≡ get named q
+    back q true s = sym e ∙ ap (get named) (sym (key_eq-same q k s))
+    back q false s = refl
+
+holder_cmp_total : IsTotalOrder holder_cmp
+holder_cmp_total = on_total holder_code (lists_total nat_list_cmp_total)
+
+-- the boot role has no item of its own on a schema
+joined_same : joined boot (owner_only schema_rights) ≡ owner_only schema_rights
+joined_same = ap (λ item. join boot item (owner_only schema_rights)) (get-from_entries holder_cmp_total ((OWNER, without_option schema_rights) ∷ []) (ROLE boot))
+
+-- what a change of the owner does behind its conditions
+abbrev owner_changes : Bytes → Bytes → Option Value → List Change
+owner_changes name role grants = (key.Owner (object.Schema name), Some (value.owner role)) ∷ grants_joined (object.Schema name) role grants
+
+role_there : (rows : List SchemaRow) (role : Bytes) → get (named rows) (key.Role role) ≡ cond (eq_by_cmp key_cmp (key.Role role) (key.Role boot)) (Some (value.role boot_role)) None
+role_there rows role =
+    get-with_schemas cluster rows (key.Role role)
+    ∙ get-from_entries key_cmp_total ((key.Role boot, value.role boot_role) ∷ (key.Database boot, value.database encoding.Utf8) ∷ (key.Owner (object.Database boot), value.owner boot) ∷ []) (key.Role role)
+
+role_of_key : (a b : Bytes) → key.Role a ≡ key.Role b → a ≡ b
+role_of_key a b e = cc
+
+owner_at : (rows : List SchemaRow) (name : Bytes) → has_name name rows ≡ true → get (named rows) (key.Owner (object.Schema name)) ≡ Some (value.owner boot)
+owner_at rows name h = get-with_schemas cluster rows (key.Owner (object.Schema name)) ∙ ap (λ b. cond b (Some (value.owner boot)) (get cluster (key.Owner (object.Schema name)))) h
+
+grants_at : (rows : List SchemaRow) (name : Bytes) → has_name name rows ≡ true → get (named rows) (key.Acl (object.Schema name)) ≡ Some (value.grants (owner_only schema_rights))
+grants_at rows name h = get-with_schemas cluster rows (key.Acl (object.Schema name)) ∙ ap (λ b. cond b (Some (value.grants (owner_only schema_rights))) (get cluster (key.Acl (object.Schema name)))) h
+
+-- the boot role owns each schema already
+owner_kept : (rows : List SchemaRow) (name : Bytes) → has_name name rows ≡ true → changed (owner_changes name boot (get (named rows) (key.Acl (object.Schema name)))) (named rows) ≡ named rows
+owner_kept rows name h =
+    ap (λ found. changed (owner_changes name boot found) (named rows)) (grants_at rows name h)
+    ∙ ap (λ grants. insert (insert (named rows) (key.Owner (object.Schema name)) (value.owner boot)) (key.Acl (object.Schema name)) (value.grants grants)) joined_same
+    ∙ ap (λ m. insert m (key.Acl (object.Schema name)) (value.grants (owner_only schema_rights))) (insert_same (named rows) (key.Owner (object.Schema name)) (value.owner boot) (owner_at rows name h))
+    ∙ insert_same (named rows) (key.Acl (object.Schema name)) (value.grants (owner_only schema_rights)) (grants_at rows name h)
+
+-- behind its conditions
+abbrev owner_set : Bytes → Bytes → Tree
+owner_set name role = look (key.Acl (object.Schema name)) (λ grants. sets (owner_changes name role grants))
+
+-- what it says, by what it finds at the role's key, where the schema is there
+abbrev said_role : Bytes → Bytes → Named → Option Value → Result Named Cause
+said_role name role named found = after (outcome (if_there (key.Role role) (owner_set name role) found) (seen named)) named
+
+-- what it says, by what it finds at the schema's key
+abbrev said_owner : Bytes → Bytes → Named → Option Value → Result Named Cause
+said_owner name role named found =
+    after (outcome (if_there (key.Schema name) (needs (key.Role role) (owner_set name role)) found) (seen named)) named
+
+schema_found : (rows : List SchemaRow) (name role : Bytes) (has : Bool) → has_name name rows ≡ has → run (effect boot (stmt.OwnerTo (owned.Schema name) role)) (named rows) ≡ said_owner name role (named rows) (cond has (Some value.schema) None)
+schema_found rows name role has h =
+    ap (λ found. said_owner name role (named rows) found) (there rows name ∙ ap (λ b. cond b (Some value.schema) None) h)
+
+-- where the schema isn't there
+pub run_no_schema : (rows : List SchemaRow) (name role : Bytes) → has_name name rows ≡ false → run (effect boot (stmt.OwnerTo (owned.Schema name) role)) (named rows) ≡ Err (cause.Absent (key.Schema name))
+run_no_schema rows name role h = schema_found rows name role false h
+
+-- where the role isn't there
+pub run_no_role : (rows : List SchemaRow) (name role : Bytes) → has_name name rows ≡ true → role ≢ boot → run (effect boot (stmt.OwnerTo (owned.Schema name) role)) (named rows) ≡ Err (cause.Absent (key.Role role))
+run_no_role rows name role h other =
+    schema_found rows name role true h
+    ∙ ap (λ found. said_role name role (named rows) found)
+    (role_there rows role ∙ ap (λ b. cond b (Some (value.role boot_role)) None) (false_from_ne_true (eq_by_cmp key_cmp (key.Role role) (key.Role boot)) (λ s. other (role_of_key role boot (key_eq-same (key.Role role) (key.Role boot) s)))))
+
+-- where both are there
+pub run_owned : (rows : List SchemaRow) (name role : Bytes) → has_name name rows ≡ true → role ≡ boot → run (effect boot (stmt.OwnerTo (owned.Schema name) role)) (named rows) ≡ Ok (named rows)
+run_owned rows name role h same =
+    schema_found rows name role true h
+    ∙ ap (λ r. said_role name r (named rows) (get (named rows) (key.Role r))) same
+    ∙ ap (λ found. said_role name boot (named rows) found) (role_there rows boot)
+    ∙ ap Ok (owner_kept rows name h)

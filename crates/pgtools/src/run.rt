@@ -1,14 +1,12 @@
 //! A script applied to the schemas of a folder.
-ghost use Rattle.std.specs.Prelude.{◌≡◌, ℕ, List, [], ◌∷◌, ◌++◌, OnOk, OnErr, IfOk, decimal, codes};
+ghost use Rattle.std.specs.Prelude.{◌≡◌, List, ◌++◌, OnOk, IfOk};
 ghost use Rattle.sql_lex.specs.Written.{written_name};
-ghost use Rattle.cat_model.specs.declared.key.Key.TheVariants as key;
-ghost use Rattle.cat_model.specs.declared.cause.Cause.TheVariants as cause;
 ghost use Rattle.pgtools.specs.declared.schemas.SchemaRow.{SchemaRow};
 ghost use Rattle.pgtools.specs.Naming.{boot, named};
-ghost use Rattle.pgtools.specs.Messages.{refusal_line, report};
-ghost use Rattle.pgtools.specs.Run.{catalogue_after, refusals};
+ghost use Rattle.pgtools.specs.Messages.{cause_text, refusal_line, report};
+ghost use Rattle.pgtools.specs.Run.{cause_of, said, next, noted, catalogue_after, refusals};
 
-use crate::schemas::{ApplyFault, Schemas};
+use crate::schemas::{ApplyFault, SchemaCause, Schemas};
 use crate::script::Located;
 use copy_text::Name;
 use itoa::Buffer;
@@ -28,25 +26,64 @@ pub fn run_script(
     ensures stays { OnOk result ((more : List SchemaRow) × (schemas.new ≡ schemas.old ++ more)) }
 {
     let mut text = Vec::new(alloc);
-    for statement in statements {
-        match schemas.create(&statement.name) {
-            Ok(()) => {}
-            Err(ApplyFault::Exists(name)) => write_refusal(statement.start, &name, &mut text)?,
-            Err(ApplyFault::Memory) => return Err(AllocError),
-        }
+    for located in statements {
+        run_statement(schemas, located, &mut text)?;
     }
     Ok(text)
 }
 
-/// Appends the line of a CREATE SCHEMA that was refused, as its schema is there already.
-fn write_refusal(at: usize, name: &Name, out: &mut Vec<u8>) -> Result<(), AllocError>
-    ensures { OnOk result (out.new.items ≡ out.old.items ++ refusal_line (at, cause.Exists (key.Schema name.now))) }
+/// Applies a statement, and appends its line to the report where it is refused.
+fn run_statement(
+    schemas: &mut Schemas,
+    located: &Located,
+    out: &mut Vec<u8>,
+) -> Result<(), AllocError>
+    ensures reported { OnOk result (out.new.items ≡ out.old.items ++ report (noted located.now.start (said boot located.now.statement (named schemas.old)))) }
+    ensures applied { OnOk result (named schemas.new ≡ next (named schemas.old) (said boot located.now.statement (named schemas.old))) }
+    ensures stays { OnOk result ((more : List SchemaRow) × (schemas.new ≡ schemas.old ++ more)) }
+{
+    match schemas.apply(&located.statement) {
+        Ok(()) => Ok(()),
+        Err(ApplyFault::Refused(cause)) => write_refusal(located.start, &cause, out),
+        Err(ApplyFault::Memory) => Err(AllocError),
+    }
+}
+
+/// Appends the line of a statement that was refused.
+fn write_refusal(at: usize, cause: &SchemaCause, out: &mut Vec<u8>) -> Result<(), AllocError>
+    ensures { OnOk result (out.new.items ≡ out.old.items ++ refusal_line (at, cause_of cause.now)) }
 {
     let mut place = Buffer::new();
     out.extend_from_slice(b"psql: error: at ")?;
     out.extend_from_slice(place.format(at).as_bytes())?;
-    out.extend_from_slice(b": schema ")?;
+    out.extend_from_slice(b": ")?;
+    write_cause(cause, out)?;
+    out.extend_from_slice(b"\n")?;
+    Ok(())
+}
+
+/// Appends why a statement was refused.
+fn write_cause(cause: &SchemaCause, out: &mut Vec<u8>) -> Result<(), AllocError>
+    ensures { OnOk result (out.new.items ≡ out.old.items ++ cause_text (cause_of cause.now)) }
+{
+    match cause {
+        SchemaCause::Exists(name) => write_around(b"schema ", name, b" already exists", out),
+        SchemaCause::NoSchema(name) => write_around(b"schema ", name, b" does not exist", out),
+        SchemaCause::NoRole(name) => write_around(b"role ", name, b" does not exist", out),
+    }
+}
+
+/// Appends a name between two texts.
+fn write_around(
+    before: &[u8],
+    name: &Name,
+    behind: &[u8],
+    out: &mut Vec<u8>,
+) -> Result<(), AllocError>
+    ensures { OnOk result (out.new.items ≡ out.old.items ++ ((before.now ++ written_name name.now) ++ behind.now)) }
+{
+    out.extend_from_slice(before)?;
     write_name(name.as_bytes(), out)?;
-    out.extend_from_slice(b" already exists\n")?;
+    out.extend_from_slice(behind)?;
     Ok(())
 }

@@ -1,5 +1,5 @@
 //! The schemas of a folder, found by oid and by name.
-ghost use Rattle.std.specs.Prelude.{◌≡◌, ℕ, ◌+◌, ◌<◌, ◌≤◌, ◌↔◌, List, [], ◌∷◌, ◌++◌, Bool, true, false, Option, Some, Result, Ok, Err, IsTrue, IfSome, OnOk, OnErr, IfOk, IfErr, codes, not, ◌||◌};
+ghost use Rattle.std.specs.Prelude.{◌≡◌, ◌≢◌, ℕ, ◌+◌, ◌<◌, ◌≤◌, ◌↔◌, List, [], ◌∷◌, ◌++◌, ◌⊎◌, Bool, true, false, Option, Some, Result, Ok, Err, IsTrue, IfSome, OnOk, OnErr, IfOk, IfErr, codes, not, ◌||◌};
 ghost use Rattle.std.specs.Ordering.{nat_cmp, eq_by_cmp};
 ghost use Rattle.std.specs.BTreeSet.{contains};
 ghost use Rattle.std.specs.List.{IsDistinct};
@@ -7,13 +7,14 @@ ghost use Rattle.cat_model.specs.Values.{Bytes, bytes_cmp};
 ghost use Rattle.cat_model.specs.Effects.{effect};
 ghost use Rattle.cat_model.specs.References.{is_system};
 ghost use Rattle.cat_model.specs.Trees.{run};
-ghost use Rattle.cat_model.specs.declared.key.Key.TheVariants as key;
-ghost use Rattle.cat_model.specs.declared.cause.Cause.TheVariants as cause;
 ghost use Rattle.cat_model.specs.declared.stmt.Stmt.TheVariants as stmt;
 ghost use Rattle.pgtools.specs.Naming.{boot, named, has_name, has_oid};
 ghost use Rattle.pgtools.specs.Folder.{has_public};
+ghost use Rattle.cat_model.specs.declared.grant.Owned.TheVariants as owned;
+ghost use Rattle.pgtools.specs.Run.{said, cause_of};
 ghost use Rattle.pgtools.specs.declared.schemas.ApplyFault.TheVariants as faults;
 
+use crate::script::Statement;
 use copy_text::Name;
 use std::alloc::{AllocError, AllocFailed, Global};
 use std::collections::BTreeSet;
@@ -29,11 +30,22 @@ pub struct SchemaRow {
     pub name: Name,
 }
 
+/// Why a statement is refused.
+#[derive(Debug, Drop)]
+pub enum SchemaCause {
+    /// The schema that would be made is there already, or is the system's own.
+    Exists(Name),
+    /// There is no schema of this name.
+    NoSchema(Name),
+    /// There is no role of this name.
+    NoRole(Name),
+}
+
 /// Why a statement has no effect.
 #[derive(Debug, Drop)]
 pub enum ApplyFault {
-    /// The schema that would be made is there already, or is the system's own.
-    Exists(Name),
+    /// The catalogue refuses it.
+    Refused(SchemaCause),
     /// Memory ran out.
     Memory,
 }
@@ -117,17 +129,48 @@ impl Schemas {
         Ok(true)
     }
 
+    /// Applies a statement. What is new comes behind the rows that were there, under an oid that none of them has. A
+    /// refusal, and want of memory, change nothing.
+    pub fn apply(&mut self, statement: &Statement) -> Result<(), ApplyFault>
+        ensures ok { OnOk result (said boot statement.now (named self.old) ≡ Ok (named self.new)) }
+        ensures grown { OnOk result ((self.new ≡ self.old) ⊎ ((row : SchemaRow) × (has_oid row.oid self.old ≡ false) × (self.new ≡ self.old ++ row ∷ []))) }
+        ensures refused { IfErr result (λ fault. (why : SchemaCause) → fault ≡ ApplyFault.Refused why
+            → said boot statement.now (named self.old) ≡ Err (cause_of why)) }
+        ensures err { OnErr result (self.new ≡ self.old) }
+    {
+        match statement {
+            Statement::Set | Statement::SetConfig => Ok(()),
+            Statement::CreateSchema(name) => self.create(name),
+            Statement::OwnerTo { schema, role } => self.own(schema, role),
+        }
+    }
+
+    /// Gives a schema to a role. There is no role but the boot role, which owns each schema already.
+    fn own(&self, schema: &Name, role: &Name) -> Result<(), ApplyFault>
+        ensures ok { OnOk result (run (effect boot (stmt.OwnerTo (owned.Schema schema.now) role.now)) (named self.now) ≡ Ok (named self.now)) }
+        ensures refused { IfErr result (λ fault. (why : SchemaCause) → fault ≡ ApplyFault.Refused why
+            → run (effect boot (stmt.OwnerTo (owned.Schema schema.now) role.now)) (named self.now) ≡ Err (cause_of why)) }
+    {
+        if !self.names.contains(schema) {
+            return Err(ApplyFault::Refused(SchemaCause::NoSchema(schema.clone()?)));
+        }
+        if !is_boot(role.as_bytes()) {
+            return Err(ApplyFault::Refused(SchemaCause::NoRole(role.clone()?)));
+        }
+        Ok(())
+    }
+
     /// Makes a schema, owned by the boot role, under an oid that no row has. A refusal, and want of memory, change
     /// nothing.
-    pub fn create(&mut self, name: &Name) -> Result<(), ApplyFault>
+    fn create(&mut self, name: &Name) -> Result<(), ApplyFault>
         ensures ok { OnOk result (run (effect boot (stmt.CreateSchema name.now)) (named self.old) ≡ Ok (named self.new)) }
         ensures drawn { OnOk result ((oid : ℕ) × (has_oid oid self.old ≡ false) × (self.new ≡ self.old ++ record { oid = oid; name = name.now } ∷ [])) }
-        ensures refused { IfErr result (λ fault. (taken : Bytes) → fault ≡ ApplyFault.Exists taken
-            → run (effect boot (stmt.CreateSchema name.now)) (named self.old) ≡ Err (cause.Exists (key.Schema taken))) }
+        ensures refused { IfErr result (λ fault. (why : SchemaCause) → fault ≡ ApplyFault.Refused why
+            → run (effect boot (stmt.CreateSchema name.now)) (named self.old) ≡ Err (cause_of why)) }
         ensures err { OnErr result (self.new ≡ self.old) }
     {
         if self.refuses(name) {
-            return Err(ApplyFault::Exists(name.clone()?));
+            return Err(ApplyFault::Refused(SchemaCause::Exists(name.clone()?)));
         }
         let Some(oid) = fresh_oid(&self.oids, self.next) else {
             return Err(ApplyFault::Memory);
@@ -189,6 +232,14 @@ fn fresh_oid(oids: &BTreeSet<u32>, from: u32) -> Option<u32>
         oid = oid.checked_add(1)?;
     }
     Some(oid)
+}
+
+/// Whether this is the name of the boot role.
+fn is_boot(name: &[u8]) -> bool
+    ensures yes { IsTrue result → name.now ≡ boot }
+    ensures no { result ≡ false → name.now ≢ boot }
+{
+    name == b"postgres".as_slice()
 }
 
 /// Whether a schema of this name is the system's own.

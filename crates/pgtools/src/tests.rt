@@ -76,9 +76,52 @@ fn text<'a>(files: &'a MemFiles, name: &str) -> &'a [u8] {
     files.text(name).unwrap_or(b"")
 }
 
+/// What pg_dump writes for a database with the schemas a and public.
+const DUMP: &[u8] = b"--
+-- PostgreSQL database dump
+--
+
+-- Dumped from database version 16.0
+-- Dumped by pg_dump version 16.0
+
+SET statement_timeout = 0;
+SET lock_timeout = 0;
+SET idle_in_transaction_session_timeout = 0;
+SET client_encoding = 'UTF8';
+SET standard_conforming_strings = on;
+SELECT pg_catalog.set_config('search_path', '', false);
+SET check_function_bodies = false;
+SET xmloption = content;
+SET client_min_messages = warning;
+SET row_security = off;
+
+--
+-- Name: a; Type: SCHEMA; Schema: -; Owner: postgres
+--
+
+CREATE SCHEMA a;
+
+
+ALTER SCHEMA a OWNER TO postgres;
+
+--
+-- Name: public; Type: SCHEMA; Schema: -; Owner: postgres
+--
+
+-- *not* creating schema, since initdb creates it
+
+
+ALTER SCHEMA public OWNER TO postgres;
+
+--
+-- PostgreSQL database dump complete
+--
+
+";
+
 #[test]
 fn scripts_are_applied(rt: HostRuntime) -> Result<(), Fail> {
-    let cases: [(&[u8], u8, &[u8], &[u8]); 4] = [
+    let cases: [(&[u8], u8, &[u8], &[u8]); 8] = [
         (b"", 0, b"2200\tpublic\t10\t\\N\n", b""),
         (
             b"CREATE SCHEMA a; CREATE SCHEMA a; CREATE SCHEMA b;\n",
@@ -97,6 +140,25 @@ fn scripts_are_applied(rt: HostRuntime) -> Result<(), Fail> {
             1,
             b"2200\tpublic\t10\t\\N\n",
             b"psql: error: bad script at 17\n",
+        ),
+        (DUMP, 0, b"2200\tpublic\t10\t\\N\n16384\ta\t10\t\\N\n", b""),
+        (
+            b"ALTER SCHEMA a OWNER TO postgres;ALTER SCHEMA public OWNER TO r;",
+            0,
+            b"2200\tpublic\t10\t\\N\n",
+            b"psql: error: at 0: schema a does not exist\npsql: error: at 33: role r does not exist\n",
+        ),
+        (
+            b"set \"A\" to (1, [2]) 'x'; select PG_CATALOG . set_config('a', 'it''s', FALSE); SET b = ;",
+            1,
+            b"2200\tpublic\t10\t\\N\n",
+            b"psql: error: bad script at 86\n",
+        ),
+        (
+            b"SET a = (1;",
+            1,
+            b"2200\tpublic\t10\t\\N\n",
+            b"psql: error: bad script at 10\n",
         ),
     ];
     for (script, status, rows, told) in cases {

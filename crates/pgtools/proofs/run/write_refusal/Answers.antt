@@ -1,12 +1,13 @@
 use Rattle.std.proofs.Common.{◌≡◌, ℕ, List, [], ◌∷◌, ◌++◌, append_assoc, codes, decimal}
-use Rattle.sql_lex.specs.Written.{written_name}
+use Rattle.pgtools.specs.Messages.{cause_text}
+use Rattle.pgtools.specs.Run.{cause_of}
 use Rattle.pgtools.proofs.run.write_refusal.Goals as goal
 
 -- the pieces that are written are those of the line
-parts : (old a p b c n d e : List ℕ) → ((((old ++ a) ++ p) ++ (b ++ c)) ++ n) ++ (d ++ e) ≡ old ++ (a ++ p ++ b ++ (c ++ n ++ d) ++ e)
-parts old a p b c n d e = simp append_assoc
+parts : (old a p b t e : List ℕ) → ((((old ++ a) ++ p) ++ b) ++ t) ++ e ≡ old ++ (a ++ p ++ b ++ t ++ e)
+parts old a p b t e = simp append_assoc
 
 pub returns : goal.returns
 returns c =
-    rw (c.in_ok-extend_from_slice-4.ensures.items, c.in_ok-write_name.ensures.ok, c.in_ok-extend_from_slice-3.ensures.items, c.in_ok-extend_from_slice-2.ensures.items, c.in_ok-extend_from_slice.ensures.items, c.as_bytes.ensures.value, c.format.ensures.text, c.as_bytes-2.ensures.value)
-    (parts c.args.out.now.items (codes "psql: error: at ") (decimal c.args.at) (codes ": ") (codes "schema ") (written_name c.args.name.now) (codes " already exists") (10 ∷ []))
+    rw (c.in_ok-extend_from_slice-4.ensures.items, c.in_ok-write_cause.ensures, c.in_ok-extend_from_slice-3.ensures.items, c.in_ok-extend_from_slice-2.ensures.items, c.in_ok-extend_from_slice.ensures.items, c.as_bytes.ensures.value, c.format.ensures.text)
+    (parts c.args.out.now.items (codes "psql: error: at ") (decimal c.args.at) (codes ": ") (cause_text (cause_of c.args.cause.now)) (10 ∷ []))

@@ -1,18 +1,20 @@
-use Rattle.std.proofs.Common.{◌≡◌, ℕ, List, [], ◌∷◌, ◌++◌, sym, ◌∙◌, ap, Ok, Err}
-use Rattle.cat_model.specs.declared.cause.Cause.TheVariants as cause
-use Rattle.cat_model.specs.declared.key.Key.TheVariants as key
+use Rattle.std.proofs.Common.{◌≡◌, [], ◌∷◌, ◌++◌, sym, ◌∙◌, ap, Ok, Err}
+use Rattle.pgtools.specs.declared.schemas.SchemaCause.{SchemaCause}
+use Rattle.pgtools.specs.declared.schemas.SchemaCause.TheVariants as why
 use Rattle.pgtools.specs.declared.schemas.ApplyFault.TheVariants as faults
+use Rattle.pgtools.specs.Run.{cause_of}
 use Rattle.pgtools.specs.Naming.{named}
 use Rattle.pgtools.proofs.Named.{run_refused, run_created}
 use Rattle.pgtools.proofs.schemas.Schemas.create.Goals as goal
 
-same_name : (x y : List ℕ) → faults.Exists x ≡ faults.Exists y → x ≡ y
-same_name x y e = cc
+same_cause : (x y : SchemaCause) → faults.Refused x ≡ faults.Refused y → x ≡ y
+same_cause x y e = cc
 
 pub returns-then-refuses-clause-refused : goal.returns-then-refuses-clause-refused
-returns-then-refuses-clause-refused c = λ taken e.
+returns-then-refuses-clause-refused c = λ cause e.
     run_refused c.args.self.now c.args.name.now (sym c.refuses.ensures ∙ c.if-refuses.true)
-    ∙ ap (λ n. Err (cause.Exists (key.Schema n))) (sym c.in_ok-clone.ensures.cases ∙ same_name _ _ e)
+    ∙ ap (λ n. Err (cause_of (why.Exists n))) (sym c.in_ok-clone.ensures.cases)
+    ∙ ap (λ w. Err (cause_of w)) (same_cause _ _ e)
 
 pub returns-clause-ok : goal.returns-clause-ok
 returns-clause-ok c =
