@@ -171,55 +171,12 @@ fn scripts_are_applied(rt: HostRuntime) -> Result<(), Fail> {
     Ok(())
 }
 
-/// The script of a folder with the schemas `a` and `public`.
-const DUMP: &str = "--
--- PostgreSQL database dump
---
-
--- Dumped from database version 16.0
--- Dumped by pg_dump version 16.0
-
-SET statement_timeout = 0;
-SET lock_timeout = 0;
-SET idle_in_transaction_session_timeout = 0;
-SET client_encoding = 'UTF8';
-SET standard_conforming_strings = on;
-SELECT pg_catalog.set_config('search_path', '', false);
-SET check_function_bodies = false;
-SET xmloption = content;
-SET client_min_messages = warning;
-SET row_security = off;
-
---
--- Name: a; Type: SCHEMA; Schema: -; Owner: postgres
---
-
-CREATE SCHEMA a;
-
-
-ALTER SCHEMA a OWNER TO postgres;
-
---
--- Name: public; Type: SCHEMA; Schema: -; Owner: postgres
---
-
--- *not* creating schema, since initdb creates it
-
-
-ALTER SCHEMA public OWNER TO postgres;
-
---
--- PostgreSQL database dump complete
---
-
-";
-
 #[test]
 fn folders_are_dumped(rt: HostRuntime) -> Result<(), Fail> {
     let made = apply(&rt, b"CREATE SCHEMA a;", Vec::new(rt.alloc()))?;
     let run = call(&rt, &["pg_dump", "D"], made.files)?;
     assert_eq!(rt; run.outcome.status(), 0);
-    assert!(rt; run.out.text() == DUMP.as_bytes());
+    assert!(rt; run.out.text() == DUMP);
     assert!(rt; run.told.text() == b"".as_slice());
     let refused = call(&rt, &["pg_dump", "X"], run.files)?;
     assert_eq!(rt; refused.outcome.status(), 1);
