@@ -1,2 +1,4 @@
 pub mod ReadingLemmas
 pub mod SpellingLemmas
+pub mod CanBeWritten
+pub mod Utf8Lemmas

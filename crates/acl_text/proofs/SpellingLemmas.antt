@@ -1,5 +1,5 @@
 -- What is written for a list of rights reads as the list.
-use Rattle.std.proofs.Common.{◌≡◌, ◌≢◌, ℕ, suc, ◌+◌, ◌<◌, ◌≤◌, Bool, true, false, not, cond, eqb, List, [], ◌∷◌, ◌++◌, length, map, take, drop, Option, Some, None, IsTrue, ◌↔◌, refl, sym, ap, subst, ◌∙◌, append_assoc, arith, inl, inr, ◌⊎◌}
+use Rattle.std.proofs.Common.{◌≡◌, ℕ, ◌<◌, Bool, true, false, not, cond, eqb, List, [], ◌∷◌, ◌++◌, length, map, drop, Option, Some, None, IsTrue, ◌↔◌, refl, sym, ap, subst, ◌∙◌, append_assoc, arith, inl, inr, ◌⊎◌}
 use Rattle.std.specs.Prelude.{◌&&◌, ◌||◌}
 use Rattle.std.specs.List.{flat_map, list_all, prefix_len, AllByRecursion}
 use Rattle.std.specs.Str.{bytes_eq}
@@ -13,9 +13,8 @@ use Rattle.acl_text.specs.declared.rights.Privilege.{Privilege}
 use Rattle.acl_text.specs.declared.rights.Privilege.TheVariants.{Insert, Select, Update, Delete, Truncate, References, Trigger, Usage, Create}
 use Rattle.acl_text.specs.declared.list.AclItem.{AclItem}
 use Rattle.acl_text.specs.declared.reading.Effect.TheVariants.{Keep, Cut, Skip}
-use Rattle.acl_text.specs.declared.reading.State.{State}
-use Rattle.acl_text.specs.declared.reading.State.TheVariants.{Start, Bare, Quoted, Escaped, Closed, Done, Failed}
-use Rattle.acl_text.specs.Acls.{◌>>=◌, quote, star, comma, slash, equals, escaping, opening, closing, elements_of, elements_from, elements_before, byte_before, item_of, items_of, acl_of, privilege_of, privilege_letter, rights_from, rights_of, right_before, starts_with_star, quoted_name, onto_name, is_plain, is_special, double_quote, escape_byte, name_at, slash_at, spell_right, spell_name, spell_grantee, spell_item, spell_element, spell_items, spell_acl, grantee_of, last_name, IsAclItem, IsGrantee}
+use Rattle.acl_text.specs.declared.reading.State.TheVariants.{Start, Bare, Quoted, Closed}
+use Rattle.acl_text.specs.Acls.{quote, star, comma, slash, equals, escaping, opening, closing, elements_of, elements_from, elements_before, byte_before, item_of, items_of, acl_of, privilege_of, privilege_letter, rights_from, starts_with_star, quoted_name, is_plain, is_special, double_quote, escape_byte, name_at, slash_at, spell_right, spell_name, spell_grantee, spell_item, spell_element, spell_acl, grantee_of, last_name, IsAclItem, IsGrantee}
 
 abbrev pub NameTests : Type 0
 NameTests = (bytes : List ℕ) → IsTrue (is_name bytes) ↔ IsName bytes

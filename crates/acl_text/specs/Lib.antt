@@ -1,1 +1,2 @@
 pub mod Acls
+pub mod Examples
