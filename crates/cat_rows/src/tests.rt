@@ -1,6 +1,7 @@
 mod shop;
 
 use super::*;
+use copy_text::Text;
 use std::alloc::Global;
 use std::process::Abort;
 use std::test::Fail;
@@ -182,5 +183,22 @@ fn the_cells_of_a_line(rt: HostRuntime) -> Result<(), Fail> {
         }
         _ => assert!(rt; false, "other cells"),
     }
+    Ok(())
+}
+
+#[test]
+fn rows_are_added(rt: HostRuntime) -> Result<(), Fail> {
+    let alloc = rt.alloc();
+    let mut cat = Catalogue::new(alloc);
+    cat.pg_attrdef.push(AttrdefRow {
+        oid: 16397,
+        adrelid: 16390,
+        adnum: 1,
+        adexpr: Text::new(b"now()".to_vec(alloc)?).ok_or("no text")?,
+    })?;
+    let mut out = Vec::new(alloc);
+    write_table(alloc, &cat, SysTable::PgAttrdef, &mut out)?;
+    assert_eq!(rt; out.as_slice(), b"16397\t16390\t1\tnow()\n".as_slice());
+    assert_eq!(rt; cat.pg_attrdef.into_vec().len(), 1);
     Ok(())
 }
