@@ -22,7 +22,7 @@ use Rattle.acl_text.proofs.ElementLemmas.{tail_of, tail_more, joined_tail, Spell
 
 -- ---- names
 
--- what an element in front of what was read gives
+-- a byte of a quoted name, in front of what was read behind it
 onto_read : (b : ℕ) (more name rest : List ℕ) → ((shorter : List ℕ) → quoted_name false more ≡ Some (shorter, rest) → more ≡ flat_map double_quote shorter ++ quote ∷ rest)
     → onto_name b (quoted_name false more) ≡ Some (name, rest) → double_quote b ++ more ≡ flat_map double_quote name ++ quote ∷ rest
 onto_read b more name rest again is = by (quoted_name false more) refl is

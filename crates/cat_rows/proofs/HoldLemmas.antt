@@ -137,10 +137,10 @@ columns_refuse before (k ∷ kinds) n [] kind field after split bad good = absur
     nothing [] is = absurd cc
     nothing (column ∷ before) is = absurd cc
 columns_refuse [] (k ∷ kinds) n (f ∷ fields) kind field after split bad good =
+    let number : n ≡ n + 0 = omega arith in
     let same : (k, f) ≡ (kind, field) = cc in
     let same_kind : k ≡ kind = ap (λ (column : Column). column.0) same in
     let none : cell_of k f ≡ None = ap (λ (column : Column). cell_of column.0 column.1) same ∙ bad in
-    let number : n ≡ n + 0 = omega arith in
     cells_at-step k kinds n f fields ∙ ap (next_columns k kinds n fields) none ∙ ap (λ (x : ColKind). Err (BadCell n x)) same_kind ∙ ap (λ (x : ℕ). Err (BadCell x kind)) number
 columns_refuse (column ∷ before) (k ∷ kinds) n (f ∷ fields) kind field after split bad good =
     let same : (k, f) ≡ column = cc in
