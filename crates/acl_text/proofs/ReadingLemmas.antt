@@ -1,18 +1,17 @@
 -- What was read stands in front of what is still to be read.
-use Rattle.std.proofs.Common.{◌≡◌, ◌≢◌, ℕ, suc, ◌+◌, ◌<◌, ◌≤◌, Bool, true, false, cond, eqb, List, [], ◌∷◌, ◌++◌, length, map, drop, get_or, Option, Some, None, Result, Ok, Err, refl, sym, ap, subst, ◌∙◌, append_assoc, add-one, arith, inl, inr, ◌⊎◌}
+use Rattle.std.proofs.Common.{◌≡◌, ℕ, suc, ◌+◌, ◌<◌, ◌≤◌, Bool, true, false, cond, eqb, List, [], ◌∷◌, ◌++◌, length, drop, get_or, Option, Some, None, refl, sym, ap, ◌∙◌, append_assoc, add-one, inl, inr, ◌⊎◌}
 use Rattle.std.proofs.Math.Seq.{drop-cons}
 use Rattle.std.proofs.lemmas.Bool.{cases_Bool}
-use Rattle.std.proofs.lemmas.List.{append-nil, drop_all, map-append}
+use Rattle.std.proofs.lemmas.List.{append-nil, drop_all}
 use Rattle.acl_text.specs.declared.rights.Right.{Right}
 use Rattle.acl_text.specs.declared.rights.Privilege.{Privilege}
 use Rattle.acl_text.specs.declared.list.AclItem.{AclItem}
 use Rattle.acl_text.specs.declared.reading.AclError.{AclError}
 use Rattle.acl_text.specs.declared.reading.AclError.TheVariants.{NotAnAcl, Memory}
-use Rattle.acl_text.specs.declared.reading.Effect.{Effect}
-use Rattle.acl_text.specs.declared.reading.Effect.TheVariants.{Keep, Cut, Skip}
+use Rattle.acl_text.specs.declared.reading.Effect.TheVariants.{Keep, Cut}
 use Rattle.acl_text.specs.declared.reading.State.{State}
 use Rattle.acl_text.specs.declared.reading.State.TheVariants.{Start, Bare, Quoted, Escaped, Closed, Done, Failed}
-use Rattle.acl_text.specs.Acls.{FailsAcl, ◌>>=◌, quote, star, elements_from, elements_before, byte_before, effect_of, next_state, at_end, item_of, items_of, privilege_of, rights_from, right_before, starts_with_star, after_star, behind, quoted_name, onto_name, onto_name_unless}
+use Rattle.acl_text.specs.Acls.{FailsAcl, ◌>>=◌, quote, star, elements_from, elements_before, byte_before, effect_of, next_state, at_end, item_of, items_of, privilege_of, rights_from, right_before, starts_with_star, after_star, behind, quoted_name, onto_name}
 
 -- ---- lists of parts
 

@@ -1,9 +1,9 @@
 -- A list of rights as a text: an array literal of items, each as grantee=rights/grantor.
 -- https://www.postgresql.org/docs/16/ddl-priv.html and https://www.postgresql.org/docs/16/arrays.html
-use Rattle.std.specs.Prelude.{◌≡◌, ℕ, Result, Ok, Err, List, [], ◌∷◌, ◌++◌, length, take, drop, map, Option, Some, None, Bool, true, false, not, nat_le, ◌==◌, ◌&&◌, ◌||◌, if◌then◌else◌}
+use Rattle.std.specs.Prelude.{◌≡◌, ℕ, Result, Ok, Err, List, [], ◌∷◌, ◌++◌, length, take, drop, Option, Some, None, Bool, true, false, not, nat_le, ◌==◌, ◌&&◌, ◌||◌, if◌then◌else◌}
 use Rattle.std.specs.List.{prefix_len, flat_map, list_all, AllByRecursion}
 use Rattle.std.specs.Str.{bytes_eq}
-use Rattle.copy_text.specs.Texts.{IsName, IsText, is_name}
+use Rattle.copy_text.specs.Texts.{IsName, is_name}
 use Rattle.acl_text.specs.declared.rights.Privilege.{Privilege}
 use Rattle.acl_text.specs.declared.rights.Privilege.TheVariants.{Insert, Select, Update, Delete, Truncate, References, Trigger, Usage, Create}
 use Rattle.acl_text.specs.declared.rights.Right.{Right}
@@ -269,10 +269,9 @@ pub record IsAclItem (item : AclItem) : Type 0 where
   pub grantee : IsGrantee item.grantee
   pub grantor : IsName item.grantor
 
--- a list of rights that can be written: its items can, and what is written is UTF-8
-pub record IsAcl (items : List AclItem) : Type 0 where
-  pub each : AllByRecursion IsAclItem items
-  pub utf8 : IsText (spell_acl items)
+-- a list of rights that can be written: each of its items can
+abbrev pub IsAcl : List AclItem → Type 0
+IsAcl items = AllByRecursion IsAclItem items
 
 -- What a call returned, seen by view, is what reading gives, unless memory ran out.
 abbrev pub FailsAcl : {Y : Type 0} → AclError → Option Y → Type 0

@@ -1,1 +1,3 @@
 pub mod Acls
+pub mod Examples
+pub mod Spells

@@ -1,9 +1,10 @@
 //! Texts of lists of rights.
 ghost use Rattle.std.specs.Prelude.{◌≡◌, ◌++◌, ◌∷◌, [], not, IfOk, OnOk};
 ghost use Rattle.std.specs.List.{flat_map, list_all, AllByRecursion};
-ghost use Rattle.copy_text.specs.Texts.{IsName};
+ghost use Rattle.copy_text.specs.Texts.{IsName, IsText};
 ghost use Rattle.acl_text.specs.Acls.{spell_acl, spell_items, spell_element, spell_item, spell_right, spell_grantee, spell_name, escape_byte, double_quote, privilege_letter, is_special, is_plain, comma, IsAcl, IsAclItem, IsGrantee};
 
+use crate::laws::written_list_is_a_text;
 use crate::list::{Acl, AclItem};
 use crate::reading::is_plain;
 use crate::rights::{Privilege, Right};
@@ -15,11 +16,20 @@ pub fn write_acl(alloc: Global, acl: &Acl) -> Result<Text, AllocError>
     ensures text { IfOk result (λ text. text ≡ spell_acl acl.now) }
     ensures written { OnOk result (IsAcl acl.now) }
 {
+    written_list_is_a_text();
     let mut bytes = Vec::new(alloc);
     write_braces(alloc, acl, &mut bytes)?;
+    Ok(text_of(bytes))
+}
 
-    // Each part is UTF-8, so this is never `None`.
-    Text::new(bytes).ok_or(AllocError)
+fn text_of(bytes: Vec<u8>) -> Text
+    requires { IsText bytes.items }
+    ensures { result ≡ bytes.items }
+{
+    match Text::new(bytes) {
+        Some(text) => text,
+        None => unreachable!(),
+    }
 }
 
 #[tactic(auto, unfolding(crate::specs::Acls::spell_acl))]

@@ -4,3 +4,7 @@ pub mod FrontLemmas
 pub mod LineLemmas
 pub mod OrderLemmas
 pub mod WritingLemmas
+pub mod HoldLemmas
+pub mod CellLemmas
+pub mod OneOrder
+pub mod ReadRows

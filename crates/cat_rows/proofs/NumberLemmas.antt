@@ -1,6 +1,6 @@
 -- A text is a plain decimal exactly where it is the decimal of the number that parsing gives.
-use Rattle.std.proofs.Common.{◌≡◌, ◌≢◌, ℕ, suc, ◌+◌, ◌<◌, ◌^◌, Bool, true, false, cond, eqb, ltb, List, [], ◌∷◌, length, get_or, drop, Option, Some, None, Result, Ok, Err, ℤ, pos, negsuc, neg_ℤ, refl, sym, ap, subst, ◌∙◌, arith, inl, inr, ◌⊎◌}
-use Rattle.std.specs.Prelude.{◌&&◌, nat_eq}
+use Rattle.std.proofs.Common.{◌≡◌, ℕ, suc, ◌<◌, ◌^◌, Bool, true, false, cond, eqb, ltb, List, [], ◌∷◌, get_or, Some, None, Result, Ok, Err, ℤ, pos, negsuc, neg_ℤ, refl, sym, ap, subst, ◌∙◌, arith, inl, inr, ◌⊎◌}
+use Rattle.std.specs.Prelude.{◌&&◌}
 use Rattle.std.proofs.lemmas.Bool.{cases_Bool, false≢true, lt-ltb, ltb-true, eqb-true}
 use Rattle.std.proofs.lemmas.Slice.Eq.{bytes_eq-Decides}
 use Rattle.std.proofs.lemmas.Fmt.{decimal_is_IsNumeral, parse-decimal, parse-signed_decimal}
@@ -144,3 +144,65 @@ int_of-unparsed text r e parses none =
     int_of-None text (λ z small is.
     let found : r ≡ Ok z = int_parses z text r small is parses in
     absurd cc)
+
+-- ---- a number that was read has one text
+
+pub oid_of-spelled : (text : List ℕ) (n : ℕ) → oid_of text ≡ Some n → text ≡ decimal n
+unfolding oid_of
+oid_of-spelled text n is = by (cases_Bool (bytes_eq text (decimal (digits_value 10 text)) && ltb (digits_value 10 text) (2 ^ 32)))
+  where
+    by : ((bytes_eq text (decimal (digits_value 10 text)) && ltb (digits_value 10 text) (2 ^ 32)) ≡ true) ⊎ ((bytes_eq text (decimal (digits_value 10 text)) && ltb (digits_value 10 text) (2 ^ 32)) ≡ false)
+        → text ≡ decimal n
+    by (inl holds) =
+        let parts = and_parts (bytes_eq text (decimal (digits_value 10 text))) (ltb (digits_value 10 text) (2 ^ 32)) holds in
+        let read : Some (digits_value 10 text) ≡ Some n = sym (chosen _ (Some (digits_value 10 text)) None holds) ∙ is in
+        let same : digits_value 10 text ≡ n = cc in
+        (bytes_eq-Decides text (decimal (digits_value 10 text))).0 parts.0 ∙ ap decimal same
+    by (inr fails) =
+        let read : None ≡ Some n = sym (passed _ (Some (digits_value 10 text)) None fails) ∙ is in
+        absurd cc
+
+pub int_of-spelled : (text : List ℕ) (z : ℤ) → int_of text ≡ Some z → text ≡ signed_decimal z
+unfolding int_of
+int_of-spelled text z is = by (cases_Bool (bytes_eq text (signed_decimal (signed_digits_value 10 text)) && is_int (signed_digits_value 10 text)))
+  where
+    by : ((bytes_eq text (signed_decimal (signed_digits_value 10 text)) && is_int (signed_digits_value 10 text)) ≡ true) ⊎ ((bytes_eq text (signed_decimal (signed_digits_value 10 text)) && is_int (signed_digits_value 10 text)) ≡ false)
+        → text ≡ signed_decimal z
+    by (inl holds) =
+        let parts = and_parts (bytes_eq text (signed_decimal (signed_digits_value 10 text))) (is_int (signed_digits_value 10 text)) holds in
+        let read : Some (signed_digits_value 10 text) ≡ Some z = sym (chosen _ (Some (signed_digits_value 10 text)) None holds) ∙ is in
+        let same : signed_digits_value 10 text ≡ z = cc in
+        (bytes_eq-Decides text (signed_decimal (signed_digits_value 10 text))).0 parts.0 ∙ ap signed_decimal same
+    by (inr fails) =
+        let read : None ≡ Some z = sym (passed _ (Some (signed_digits_value 10 text)) None fails) ∙ is in
+        absurd cc
+
+pub oid_of-small : (text : List ℕ) (n : ℕ) → oid_of text ≡ Some n → n < 2 ^ 32
+unfolding oid_of
+oid_of-small text n is = by (cases_Bool (bytes_eq text (decimal (digits_value 10 text)) && ltb (digits_value 10 text) (2 ^ 32)))
+  where
+    by : ((bytes_eq text (decimal (digits_value 10 text)) && ltb (digits_value 10 text) (2 ^ 32)) ≡ true) ⊎ ((bytes_eq text (decimal (digits_value 10 text)) && ltb (digits_value 10 text) (2 ^ 32)) ≡ false)
+        → n < 2 ^ 32
+    by (inl holds) =
+        let parts = and_parts (bytes_eq text (decimal (digits_value 10 text))) (ltb (digits_value 10 text) (2 ^ 32)) holds in
+        let read : Some (digits_value 10 text) ≡ Some n = sym (chosen _ (Some (digits_value 10 text)) None holds) ∙ is in
+        let same : digits_value 10 text ≡ n = cc in
+        subst (λ (x : ℕ). x < 2 ^ 32) same (ltb-true _ _ parts.1)
+    by (inr fails) =
+        let read : None ≡ Some n = sym (passed _ (Some (digits_value 10 text)) None fails) ∙ is in
+        absurd cc
+
+pub int_of-small : (text : List ℕ) (z : ℤ) → int_of text ≡ Some z → is_int z ≡ true
+unfolding int_of
+int_of-small text z is = by (cases_Bool (bytes_eq text (signed_decimal (signed_digits_value 10 text)) && is_int (signed_digits_value 10 text)))
+  where
+    by : ((bytes_eq text (signed_decimal (signed_digits_value 10 text)) && is_int (signed_digits_value 10 text)) ≡ true) ⊎ ((bytes_eq text (signed_decimal (signed_digits_value 10 text)) && is_int (signed_digits_value 10 text)) ≡ false)
+        → is_int z ≡ true
+    by (inl holds) =
+        let parts = and_parts (bytes_eq text (signed_decimal (signed_digits_value 10 text))) (is_int (signed_digits_value 10 text)) holds in
+        let read : Some (signed_digits_value 10 text) ≡ Some z = sym (chosen _ (Some (signed_digits_value 10 text)) None holds) ∙ is in
+        let same : signed_digits_value 10 text ≡ z = cc in
+        ap is_int (sym same) ∙ parts.1
+    by (inr fails) =
+        let read : None ≡ Some z = sym (passed _ (Some (signed_digits_value 10 text)) None fails) ∙ is in
+        absurd cc

@@ -1,6 +1,6 @@
 -- What is written for rows reads as these rows.
-use Rattle.std.proofs.Common.{◌≡◌, ◌≢◌, ℕ, zero, suc, ltb, ◌+◌, ◌<◌, ◌≤◌, ◌^◌, Bool, true, false, cond, eqb, List, [], ◌∷◌, ◌++◌, length, map, Option, Some, None, Result, Ok, Err, ◌↔◌, ℤ, pos, negsuc, IsTrue, refl, sym, ap, subst, ◌∙◌, append_assoc, arith, rules, inl, inr, ◌⊎◌}
-use Rattle.std.specs.List.{All, AllByRecursion, flat_map}
+use Rattle.std.proofs.Common.{◌≡◌, ◌≢◌, ℕ, zero, suc, ltb, ◌+◌, ◌<◌, Bool, true, false, cond, eqb, List, [], ◌∷◌, ◌++◌, length, map, Some, None, Ok, ◌↔◌, IsTrue, refl, sym, ap, subst, ◌∙◌, append_assoc, arith}
+use Rattle.std.specs.List.{All, AllByRecursion}
 use Rattle.std.specs.Option.{option_map}
 use Rattle.std.specs.Fmt.{decimal, signed_decimal}
 use Rattle.std.proofs.lemmas.Bool.{lt-ltb, eq-eqb}
@@ -22,41 +22,47 @@ use Rattle.cat_rows.specs.declared.table.SysTable.TheVariants.{PgAuthid, PgAuthM
 use Rattle.cat_rows.specs.declared.kind.ColKind.{ColKind}
 use Rattle.cat_rows.specs.declared.cell.Cell.{Cell}
 use Rattle.cat_rows.specs.declared.cell.Cell.TheVariants.{Oid, Int, Bool as BoolCell, Name, Text, NullText, Letter, Acl}
-use Rattle.cat_rows.specs.declared.fault.RowFault.{RowFault}
 use Rattle.acl_text.specs.declared.list.AclItem.{AclItem}
 use Rattle.acl_text.specs.Acls.{acl_of, spell_acl, IsAcl}
 use Rattle.cat_rows.specs.Kinds.{columns}
 use Rattle.cat_rows.specs.Cells.{cell_of, kind_of, field_of, IsCell}
-use Rattle.cat_rows.specs.Reading.{Place, cell_at, cells_at, row_start, cells_of, table_from, table_of}
+use Rattle.cat_rows.specs.Reading.{cell_at, cells_at, row_start, cells_of, table_from, table_of}
 use Rattle.cat_rows.specs.Writing.{IsRowOf, AreRowsOf, text_of}
 use Rattle.cat_rows.proofs.LineLemmas.{NoNewline, lines-append, before_end_mark-more}
 use Rattle.cat_rows.proofs.NumberLemmas.{oid_of-decimal, int_of-decimal, is_int-Fits}
 
+abbrev pub NameTests : Type 0
+NameTests = (bytes : List ℕ) → IsTrue (is_name bytes) ↔ IsName bytes
+
+abbrev pub ListsRead : Type 0
+ListsRead = (items : List AclItem) → IsAcl items → acl_of (spell_acl items) ≡ Some items
+
 -- what the laws of the crates below say
 pub record Told : Type 0 where
-  pub names : (bytes : List ℕ) → IsTrue (is_name bytes) ↔ IsName bytes
+  pub names : NameTests
   pub spelled : (row : List Field) → IsRow row → SpellsRow row (spell_row row)
   pub exact : (row : List Field) (line : List ℕ) → NoNewline line → (row_of line ≡ Ok row) ↔ SpellsRow row line
-  pub lists : (items : List AclItem) → IsAcl items → acl_of (spell_acl items) ≡ Some items
+  pub lists : ListsRead
+  pub texts : (items : List AclItem) → IsAcl items → IsText (spell_acl items)
 
 passes : {A : Type 0} (test : Bool) (x : A) → test ≡ true → cond test (Some x) None ≡ Some x
 passes test x is = rw is refl
 
 -- ---- cells
 
-pub written_cell : Told → (cell : Cell) → IsCell cell → cell_of (kind_of cell) (field_of cell) ≡ Some cell
+pub written_cell : NameTests → ListsRead → (cell : Cell) → IsCell cell → cell_of (kind_of cell) (field_of cell) ≡ Some cell
 unfolding cell_of
-written_cell told (Oid n) is = ap (option_map Oid) (oid_of-decimal (decimal n) n is refl)
-written_cell told (Int n) is = ap (option_map Int) (int_of-decimal (signed_decimal n) n is refl)
-written_cell told (BoolCell true) is = refl
-written_cell told (BoolCell false) is = refl
-written_cell told (Name name) is = ap (option_map Name) (passes (is_name name) name ((told.names name).1 is))
-written_cell told (Text text) is = refl
-written_cell told (NullText None) is = refl
-written_cell told (NullText (Some text)) is = refl
-written_cell told (Letter b) is = ap (option_map Letter) (passes (ltb b 128) b (lt-ltb b 128 is))
-written_cell told (Acl None) is = refl
-written_cell told (Acl (Some items)) is = ap (option_map (λ l. Acl (Some l))) (told.lists items is)
+written_cell names lists (Oid n) is = ap (option_map Oid) (oid_of-decimal (decimal n) n is refl)
+written_cell names lists (Int n) is = ap (option_map Int) (int_of-decimal (signed_decimal n) n is refl)
+written_cell names lists (BoolCell true) is = refl
+written_cell names lists (BoolCell false) is = refl
+written_cell names lists (Name name) is = ap (option_map Name) (passes (is_name name) name ((names name).1 is))
+written_cell names lists (Text text) is = refl
+written_cell names lists (NullText None) is = refl
+written_cell names lists (NullText (Some text)) is = refl
+written_cell names lists (Letter b) is = ap (option_map Letter) (passes (ltb b 128) b (lt-ltb b 128 is))
+written_cell names lists (Acl None) is = refl
+written_cell names lists (Acl (Some items)) is = ap (option_map (λ l. Acl (Some l))) (lists items is)
 
 ascii_list : (b : ℕ) → b < 128 → IsAscii (b ∷ [])
 ascii_list b below zero = below
@@ -65,28 +71,28 @@ ascii_list b below (suc i) = omega arith
 one_ascii : (b : ℕ) → b < 128 → IsText (b ∷ [])
 one_ascii b below = IsUtf8-from_ascii (b ∷ []) (ascii_list b below)
 
-pub written_field : (cell : Cell) → IsCell cell → IsField (field_of cell)
-written_field (Oid n) is = IsUtf8-from_ascii (decimal n) (IsAscii-decimal n (omega arith))
-written_field (Int n) is = let fits = is_int-Fits n is in IsUtf8-from_ascii (signed_decimal n) (IsAscii-signed n fits.sfits)
-written_field (BoolCell true) is = one_ascii 116 (omega arith)
-written_field (BoolCell false) is = one_ascii 102 (omega arith)
-written_field (Name name) is = is.utf8
-written_field (Text text) is = is
-written_field (NullText text) is = is
-written_field (Letter b) is = one_ascii b is
-written_field (Acl None) is = tt
-written_field (Acl (Some items)) is = is.utf8
+pub written_field : Told → (cell : Cell) → IsCell cell → IsField (field_of cell)
+written_field told (Oid n) is = IsUtf8-from_ascii (decimal n) (IsAscii-decimal n (omega arith))
+written_field told (Int n) is = let fits = is_int-Fits n is in IsUtf8-from_ascii (signed_decimal n) (IsAscii-signed n fits.sfits)
+written_field told (BoolCell true) is = one_ascii 116 (omega arith)
+written_field told (BoolCell false) is = one_ascii 102 (omega arith)
+written_field told (Name name) is = is.utf8
+written_field told (Text text) is = is
+written_field told (NullText text) is = is
+written_field told (Letter b) is = one_ascii b is
+written_field told (Acl None) is = tt
+written_field told (Acl (Some items)) is = told.texts items is
 
 -- ---- rows
 
 pub written_cells : Told → (cells : List Cell) (column : ℕ) → AllByRecursion IsCell cells → cells_at (map kind_of cells) (record { column = column; fields = map field_of cells }) ≡ Ok cells
 unfolding cells_at cell_at
 written_cells told [] column all = refl
-written_cells told (cell ∷ more) column all = rw (written_cell told cell all.0, written_cells told more (column + 1) all.1) refl
+written_cells told (cell ∷ more) column all = rw (written_cell told.names told.lists cell all.0, written_cells told more (column + 1) all.1) refl
 
-all_fields : (cells : List Cell) → AllByRecursion IsCell cells → All IsField (map field_of cells)
-all_fields [] all k d lt = absurd (omega arith)
-all_fields (cell ∷ more) all k d lt = All-cons IsField (field_of cell) (map field_of more) (written_field cell all.0) (all_fields more all.1) k d lt
+all_fields : Told → (cells : List Cell) → AllByRecursion IsCell cells → All IsField (map field_of cells)
+all_fields told [] all k d lt = absurd (omega arith)
+all_fields told (cell ∷ more) all k d lt = All-cons IsField (field_of cell) (map field_of more) (written_field told cell all.0) (all_fields told more all.1) k d lt
 
 some_columns : (table : SysTable) → 0 < length (columns table)
 some_columns PgAuthid = omega arith
@@ -108,10 +114,10 @@ some_columns PgDepend = omega arith
 length_of_row : (table : SysTable) (row : List Cell) → IsRowOf table row → length (map field_of row) ≡ length (columns table)
 length_of_row table row is = length-map row field_of ∙ sym (length-map row kind_of) ∙ ap length is.kinds
 
-pub written_is_row : (table : SysTable) (row : List Cell) → IsRowOf table row → IsRow (map field_of row)
-written_is_row table row is = record {
+pub written_is_row : Told → (table : SysTable) (row : List Cell) → IsRowOf table row → IsRow (map field_of row)
+written_is_row told table row is = record {
   some = omega (arith, length_of_row table row is, some_columns table);
-  each = all_fields row is.cells;
+  each = all_fields told row is.cells;
 }
 
 reads_back : Told → (row : List Field) → IsRow row → row_of (spell_row row) ≡ Ok row
@@ -136,7 +142,7 @@ no_end_mark told row is same =
 pub written_line : Told → (table : SysTable) (row : List Cell) → IsRowOf table row → cells_of (columns table) (spell_row (map field_of row)) ≡ Ok row
 unfolding cells_of row_start
 written_line told table row is =
-    let read = reads_back told (map field_of row) (written_is_row table row is) in
+    let read = reads_back told (map field_of row) (written_is_row told table row is) in
     let same : eqb (length (map field_of row)) (length (columns table)) ≡ true = eq-eqb _ _ (length_of_row table row is) in
     let P : List ColKind → Type 0 = λ kinds. cells_at kinds (record { column = 1; fields = map field_of row }) ≡ Ok row in
     rw (read, same) (subst P is.kinds (written_cells told row 1 is.cells))
@@ -148,7 +154,7 @@ unfolding table_from lines
 written_table_from told table [] n all = refl
 written_table_from told table (row ∷ more) n all =
     let line = spell_row (map field_of row) in
-    let is_row = written_is_row table row all.0 in
+    let is_row = written_is_row told table row all.0 in
     let cut : lines ((line ++ newline ∷ []) ++ text_of more) ≡ line ∷ lines (text_of more) = ap lines (append_assoc line (newline ∷ []) (text_of more)) ∙ lines-append line (text_of more) (told.spelled (map field_of row) is_row).one_line in
     let here : data_lines (text_of (row ∷ more)) ≡ line ∷ data_lines (text_of more) = ap before_end_mark cut ∙ before_end_mark-more line (lines (text_of more)) (no_end_mark told (map field_of row) is_row) in
     rw (here, written_line told table row all.0, written_table_from told table more (n + 1) all.1) refl

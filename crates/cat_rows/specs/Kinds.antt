@@ -1,4 +1,4 @@
--- The fifteen system tables of an export folder: their names, and the kinds of their columns in order.
+-- The fifteen system tables of an export folder: their names, the kinds of their columns in order, and what messages call these.
 -- https://www.postgresql.org/docs/16/catalogs.html
 use Rattle.std.specs.Prelude.{ℕ, List, [], ◌∷◌, ◌++◌, codes}
 use Rattle.cat_rows.specs.declared.table.SysTable.{SysTable}
@@ -44,3 +44,14 @@ columns PgSequence = Oid ∷ TextCol ∷ Int ∷ Int ∷ Int ∷ Int ∷ Int ∷
 columns PgRewrite = Oid ∷ Oid ∷ TextCol ∷ []
 columns PgDescription = Oid ∷ Oid ∷ Int ∷ TextCol ∷ []
 columns PgDepend = Oid ∷ Oid ∷ Int ∷ Oid ∷ Oid ∷ Int ∷ Letter ∷ []
+
+-- what a message calls a column
+abbrev pub kind_text : ColKind → List ℕ
+kind_text Oid = codes "oid"
+kind_text Int = codes "integer"
+kind_text Bool = codes "bool"
+kind_text NameCol = codes "name"
+kind_text TextCol = codes "text"
+kind_text NullText = codes "text"
+kind_text Letter = codes "letter"
+kind_text Acl = codes "list of rights"

@@ -2,7 +2,9 @@ pub mod Kinds
 pub mod Numbers
 pub mod Cells
 pub mod Reading
+pub mod Holds
 pub mod Order
 pub mod Writing
 pub mod RowCells
 pub mod Catalogues
+pub mod Examples

@@ -5,7 +5,7 @@ use Rattle.std.specs.Ordering.{is_lt, ordering_then, int_cmp}
 use Rattle.std.specs.declared.cmp.Ordering.{Ordering}
 use Rattle.std.specs.List.Sorted.{IsPermutation, IsSortedBy, ties}
 use Rattle.cat_rows.specs.declared.table.SysTable.{SysTable}
-use Rattle.cat_rows.specs.declared.table.SysTable.TheVariants.{PgAuthid, PgAuthMembers, PgDatabase, PgNamespace, PgType, PgEnum, PgClass, PgAttribute, PgAttrdef, PgConstraint, PgIndex, PgSequence, PgRewrite, PgDescription, PgDepend}
+use Rattle.cat_rows.specs.declared.table.SysTable.TheVariants.{PgEnum, PgAttribute, PgDescription, PgDepend}
 use Rattle.cat_rows.specs.declared.cell.Cell.{Cell}
 use Rattle.cat_rows.specs.declared.cell.Cell.TheVariants as cells
 

@@ -1,6 +1,6 @@
 -- Reading a table's text: the cells of each line by the kinds of the columns, or the first line without them and why.
 -- In a line the fault of its COPY text counts first, then the number of its fields, then its first bad column.
-use Rattle.std.specs.Prelude.{◌≡◌, ℕ, ◌+◌, List, [], ◌∷◌, ◌++◌, length, map, Option, Some, None, Result, Ok, Err, ◌==◌, if◌then◌else◌}
+use Rattle.std.specs.Prelude.{◌≡◌, ℕ, ◌+◌, List, [], ◌∷◌, length, Option, Some, None, Result, Ok, Err, ◌==◌, if◌then◌else◌}
 use Rattle.copy_text.specs.Rows.{Field}
 use Rattle.copy_text.specs.Reading.{row_of}
 use Rattle.copy_text.specs.Lines.{data_lines}

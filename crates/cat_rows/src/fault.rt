@@ -1,5 +1,6 @@
 //! Why a line or a text has no rows.
-ghost use Rattle.std.specs.Prelude.{◌≡◌};
+ghost use Rattle.std.specs.Prelude.{◌≡◌, Some};
+ghost use Rattle.cat_rows.specs.Kinds.{kind_text};
 ghost use Rattle.cat_rows.specs.declared.fault.ReadCellsError.TheVariants as cells_errors;
 ghost use Rattle.cat_rows.specs.declared.fault.ReadTableError.TheVariants as table_errors;
 
@@ -56,16 +57,10 @@ pub enum ReadTableError {
 }
 
 impl fmt::Display for ColKind {
+    ghost output = { λ kind. Some (kind_text kind) };
+
     fn fmt<W: fmt::Write>(&self, f: &mut fmt::Formatter<W>) -> fmt::Result {
-        f.write_str(match self {
-            ColKind::Oid => "oid",
-            ColKind::Int => "integer",
-            ColKind::Bool => "bool",
-            ColKind::NameCol => "name",
-            ColKind::TextCol | ColKind::NullText => "text",
-            ColKind::Letter => "letter",
-            ColKind::Acl => "list of rights",
-        })
+        f.write_str(self.text())
     }
 }
 

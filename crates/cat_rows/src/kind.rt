@@ -1,6 +1,6 @@
 //! The kinds of columns, and which of them each system table has.
 ghost use Rattle.std.specs.Prelude.{◌≡◌};
-ghost use Rattle.cat_rows.specs.Kinds.{columns};
+ghost use Rattle.cat_rows.specs.Kinds.{columns, kind_text};
 
 use crate::table::SysTable;
 
@@ -23,6 +23,23 @@ pub enum ColKind {
     Letter,
     /// Null or a list of rights.
     Acl,
+}
+
+impl ColKind {
+    /// What a message calls a column of this kind.
+    pub(crate) fn text(self) -> &'static str
+        ensures { result.now ≡ kind_text self }
+    {
+        match self {
+            ColKind::Oid => "oid",
+            ColKind::Int => "integer",
+            ColKind::Bool => "bool",
+            ColKind::NameCol => "name",
+            ColKind::TextCol | ColKind::NullText => "text",
+            ColKind::Letter => "letter",
+            ColKind::Acl => "list of rights",
+        }
+    }
 }
 
 /// The columns of a system table, in order.

@@ -43,3 +43,6 @@ pub use schemas::NamespaceRow;
 pub use sequences::SequenceRow;
 pub use table::SysTable;
 pub use types::{EnumRow, TypeRow};
+
+#[cfg(test)]
+mod tests;

@@ -1,9 +1,6 @@
-use Rattle.std.proofs.Common.{◌≡◌, ℕ, ◌+◌, ◌<◌, ◌≤◌, ◌++◌, List, [], ◌∷◌, Option, Some, None, Vec, Global, false, length, map, get_or, take, drop, refl, sym, ap, subst, ◌∙◌, arith}
-use Rattle.std.proofs.lemmas.Result.{err_from_is_err_and}
-use Rattle.std.proofs.lemmas.List.{map-append, length-map, get_or-map}
-use Rattle.acl_text.specs.Acls.{elements_before, byte_before}
-use Rattle.acl_text.specs.declared.reading.Effect.TheVariants.{Keep, Cut, Skip}
-use Rattle.acl_text.proofs.ReadingLemmas.{put_keep, put_cut}
+use Rattle.std.proofs.Common.{◌≡◌, ℕ, ◌++◌, List, [], ◌∷◌, Vec, Global, map, ap, ◌∙◌}
+use Rattle.std.proofs.lemmas.List.{map-append}
+use Rattle.acl_text.proofs.ReadingLemmas.{put_cut}
 use Rattle.acl_text.proofs.reading.put_byte.Goals as goal
 
 pub returns-in_ok-push-in-Cut : goal.returns-in_ok-push-in-Cut

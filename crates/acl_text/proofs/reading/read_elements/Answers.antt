@@ -1,8 +1,6 @@
-use Rattle.std.proofs.Common.{◌≡◌, ℕ, ◌+◌, ◌<◌, ◌≤◌, ◌++◌, List, [], ◌∷◌, Option, Some, None, Vec, Global, false, length, map, get_or, take, drop, refl, sym, ap, subst, ◌∙◌, arith}
-use Rattle.std.proofs.lemmas.Result.{err_from_is_err_and}
-use Rattle.std.proofs.lemmas.List.{map-append, length-map, get_or-map}
+use Rattle.std.proofs.Common.{◌≡◌, ℕ, ◌+◌, ◌<◌, ◌++◌, List, [], ◌∷◌, Some, Vec, Global, length, map, get_or, drop, refl, sym, ap, ◌∙◌}
+use Rattle.std.proofs.lemmas.List.{map-append}
 use Rattle.acl_text.specs.declared.reading.State.{State}
-use Rattle.acl_text.specs.declared.reading.State.TheVariants.{Start, Done}
 use Rattle.acl_text.specs.declared.reading.Effect.{Effect}
 use Rattle.acl_text.specs.Acls.{elements_before, elements_from, elements_of, byte_before, at_end}
 use Rattle.acl_text.proofs.ReadingLemmas.{elements_step, elements_end, elements_done, elements_open}

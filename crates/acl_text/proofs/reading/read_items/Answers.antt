@@ -1,8 +1,8 @@
-use Rattle.std.proofs.Common.{◌≡◌, ℕ, ◌+◌, ◌<◌, ◌≤◌, ◌++◌, List, [], ◌∷◌, Option, Some, None, Vec, Global, Bor, Bool, false, length, map, get_or, take, drop, refl, sym, ap, subst, ◌∙◌, arith}
+use Rattle.std.proofs.Common.{◌≡◌, ℕ, ◌<◌, ◌≤◌, List, [], Vec, Global, length, map, get_or, sym, ap, ◌∙◌, arith}
 use Rattle.std.proofs.lemmas.Result.{err_from_is_err_and}
-use Rattle.std.proofs.lemmas.List.{map-append, length-map, get_or-map}
+use Rattle.std.proofs.lemmas.List.{length-map, get_or-map}
 use Rattle.acl_text.specs.Acls.{items_of, item_of}
-use Rattle.acl_text.proofs.ReadingLemmas.{in_front, in_front-nil, items_step, items_fail, items_end, FailsAcl-from}
+use Rattle.acl_text.proofs.ReadingLemmas.{items_step, items_fail, items_end, FailsAcl-from}
 use Rattle.acl_text.proofs.reading.read_items.Goals as goal
 
 pub returns-in_err-read_item : goal.returns-in_err-read_item

@@ -1,8 +1,6 @@
-use Rattle.std.proofs.Common.{◌≡◌, ℕ, ◌+◌, ◌<◌, ◌≤◌, ◌++◌, List, [], ◌∷◌, Option, Some, None, Vec, Global, Bor, Bool, false, length, map, get_or, take, drop, refl, sym, ap, subst, ◌∙◌, arith}
-use Rattle.std.proofs.lemmas.Result.{err_from_is_err_and}
-use Rattle.std.proofs.lemmas.List.{map-append, length-map, get_or-map}
+use Rattle.std.proofs.Common.{◌≡◌, ℕ, ◌++◌, List, [], ◌∷◌, Bor, false, sym, subst}
 use Rattle.std.proofs.lemmas.Bool.{false_from_ne_true, eqb-true}
-use Rattle.acl_text.specs.Acls.{quoted_name, quote}
+use Rattle.acl_text.specs.Acls.{quoted_name}
 use Rattle.acl_text.proofs.ReadingLemmas.{name_before, name_before-nil, name_double, name_end, name_byte, name_open}
 use Rattle.acl_text.proofs.reading.read_quoted.Goals as goal
 use Rattle.acl_text.proofs.reading.read_quoted.Goals.{then-byte-eq34+in-Some-after, else-byte-eq34}

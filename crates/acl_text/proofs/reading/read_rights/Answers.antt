@@ -1,9 +1,7 @@
-use Rattle.std.proofs.Common.{◌≡◌, ℕ, ◌+◌, ◌<◌, ◌≤◌, ◌++◌, List, [], ◌∷◌, Option, Some, None, Vec, Global, Bool, false, length, map, get_or, take, drop, refl, sym, ap, subst, ◌∙◌, arith}
+use Rattle.std.proofs.Common.{Some, false, sym, ap, ◌∙◌}
 use Rattle.std.proofs.lemmas.Result.{err_from_is_err_and}
-use Rattle.std.proofs.lemmas.List.{map-append, length-map, get_or-map}
-use Rattle.acl_text.specs.declared.rights.Right.{Right}
 use Rattle.acl_text.specs.Acls.{rights_of, rights_from, privilege_of}
-use Rattle.acl_text.proofs.ReadingLemmas.{in_front, in_front-nil, rights_step, rights_fail, rights_end, FailsAcl-from}
+use Rattle.acl_text.proofs.ReadingLemmas.{in_front-nil, rights_step, rights_fail, rights_end, FailsAcl-from}
 use Rattle.acl_text.proofs.reading.read_rights.Goals as goal
 
 pub loop-letter-init : goal.loop-letter-init

@@ -8,5 +8,6 @@ returns c =
       spelled = c.written_row_is_spelled.ensures;
       exact = c.reading_is_exact.ensures.row;
       lists = c.written_list_reads.ensures;
+      texts = c.written_list_is_a_text.ensures;
     } in
     λ table rows all. written_table told table rows all

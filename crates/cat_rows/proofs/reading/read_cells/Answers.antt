@@ -1,8 +1,8 @@
-use Rattle.std.proofs.Common.{◌≡◌, ◌+◌, ◌<◌, ◌≤◌, ◌++◌, List, [], ◌∷◌, length, get_or, drop, Result, Ok, Err, refl, sym, ap, subst, ◌∙◌, arith, rules, length-append}
+use Rattle.std.proofs.Common.{◌≡◌, ◌<◌, ◌≤◌, [], ◌∷◌, length, get_or, ◌∙◌, arith, length-append}
 use Rattle.std.proofs.lemmas.Result.{err_from_is_err_and}
 use Rattle.cat_rows.specs.declared.kind.ColKind.TheVariants.{Oid}
-use Rattle.cat_rows.specs.Reading.{GivesRow, FailsRow, row_start, cells_of, cells_at, cell_at}
-use Rattle.cat_rows.proofs.FrontLemmas.{with_front, cells_of-started, cells_step, cells_fail, cells_end, FailsRow-from}
+use Rattle.cat_rows.specs.Reading.{cells_of, cells_at, cell_at}
+use Rattle.cat_rows.proofs.FrontLemmas.{cells_of-started, cells_step, cells_fail, cells_end, FailsRow-from}
 use Rattle.cat_rows.proofs.reading.read_cells.Goals as goal
 
 pub returns-in_err-cell : goal.returns-in_err-cell

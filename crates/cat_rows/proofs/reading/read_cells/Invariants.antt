@@ -1,4 +1,4 @@
-use Rattle.std.proofs.Common.{◌≡◌, ◌+◌, ◌-◌, ◌≤◌, length, drop}
+use Rattle.std.proofs.Common.{◌≡◌, length, drop}
 use Rattle.cat_rows.specs.Reading.{cells_at}
 use Rattle.cat_rows.proofs.FrontLemmas.{with_front}
 use Rattle.cat_rows.proofs.reading.read_cells.Given as goal

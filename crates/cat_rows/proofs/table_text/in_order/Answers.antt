@@ -1,9 +1,9 @@
-use Rattle.std.proofs.Common.{◌≡◌, ℤ, List, [], ◌∷◌, length, map, refl, sym, ap, subst, ◌∙◌, Bor, rules}
+use Rattle.std.proofs.Common.{◌≡◌, ℤ, List, map, ap, subst, ◌∙◌, Bor, rules}
 use Rattle.std.specs.List.{All, filter}
 use Rattle.std.specs.List.Sorted.{IsPermutation, ties}
 use Rattle.std.proofs.lemmas.List.Sorted.{IsPermutation-map, answers_always}
 use Rattle.cat_rows.specs.declared.cell.Cell.{Cell}
-use Rattle.cat_rows.specs.Order.{IsInOrder, key_of, key_cmp, comes_before}
+use Rattle.cat_rows.specs.Order.{key_of, comes_before}
 use Rattle.cat_rows.proofs.OrderLemmas.{sorted_map, stable_map, map-map}
 use Rattle.cat_rows.proofs.table_text.in_order.Goals as goal
 

@@ -1,4 +1,4 @@
-use Rattle.std.proofs.Common.{◌≡◌, ◌+◌, ◌-◌, ◌≤◌, ◌++◌, length, map, take}
+use Rattle.std.proofs.Common.{◌≡◌, ◌++◌, map, take}
 use Rattle.cat_rows.specs.Writing.{text_of, AreRowsOf}
 use Rattle.cat_rows.proofs.table_text.write_lines.Given as goal
 
