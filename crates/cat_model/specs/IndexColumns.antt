@@ -1,8 +1,9 @@
 -- The columns of an index that are plain: its text is a bracket of names and nothing else.
 use Rattle.std.specs.Prelude.{Bool, true, false, ◌&&◌, List, [], ◌∷◌, Option, Some, None, if◌then◌else◌}
 use Rattle.std.specs.Option.{option_map}
+use Rattle.copy_text.specs.Texts.{is_name}
 use Rattle.cat_model.specs.Values.{Bytes}
-use Rattle.cat_model.specs.Lexemes.{Lexeme, lexemes, is_sign, is_name, name_in, no_more}
+use Rattle.cat_model.specs.Lexemes.{Lexeme, lexemes, is_sign, name_in, no_more}
 
 -- a name, where the lexeme spells one
 abbrev pub checked_name : Option Bytes → Option Bytes

@@ -2,6 +2,7 @@ pub mod Conditions
 pub mod CopiedRows
 pub mod CopyEffect
 pub mod Effects
+pub mod Examples
 pub mod FieldTypes
 pub mod Footprints
 pub mod Grants
