@@ -28,5 +28,5 @@ abbrev pub names_in_brackets : List Lexeme → Option (List Bytes)
 names_in_brackets [] = None
 names_in_brackets (open_bracket ∷ rest) = if is_sign 40 open_bracket then names_to_bracket rest else None
 
-abbrev pub plain_columns : Bytes → Option (List Bytes)
+unfoldable pub plain_columns : Bytes → Option (List Bytes)
 plain_columns text = names_in_brackets (lexemes text)

@@ -16,6 +16,7 @@ pub mod ObjectEffects
 pub mod References
 pub mod RelationEffects
 pub mod RoleEffects
+pub mod Runs
 pub mod Tables
 pub mod Trees
 pub mod TypeEffects

@@ -69,7 +69,7 @@ references_in [] = []
 references_in (x ∷ rest) = cast_references x rest ++ references_in rest
 
 -- the references of an expression
-abbrev pub expression_references : Bytes → List Key
+unfoldable pub expression_references : Bytes → List Key
 expression_references text = references_in (lexemes text)
 
 -- ---- in a view's body
@@ -173,5 +173,5 @@ references_from at (x ∷ rest) =
     cast_references x rest ++ reference key.Rel (relation_here relation (x ∷ rest)) ++ references_from (place_after at x relation) rest
 
 -- the references of a view's body
-abbrev pub view_references : Bytes → List Key
+unfoldable pub view_references : Bytes → List Key
 view_references text = references_from start (lexemes text)

@@ -1,11 +1,12 @@
 //! Worked examples, and what follows of the definitions for whole classes of them: each is the contract of a function
 //! that does nothing.
-ghost use Rattle.std.specs.Prelude.{◌≡◌, ℕ, Bool, true, false, ◌||◌, List, [], ◌∷◌, ◌++◌, Option, Some, None, codes};
-ghost use Rattle.std.specs.FinMap.{get};
+ghost use Rattle.std.specs.Prelude.{◌≡◌, ℕ, Bool, true, false, ◌||◌, List, [], ◌∷◌, ◌++◌, Option, Some, None, codes, map};
+ghost use Rattle.std.specs.FinMap.{get, entries};
 ghost use Rattle.cat_model.specs.Examples.{causes, catalogue_after, opening, postgres, public, setvals, bigints, children, equal_rows, domains, views};
 ghost use Rattle.cat_model.specs.Footprints.{footprint_of, is_given};
 ghost use Rattle.cat_model.specs.Grants.{granted, revoked, joined, both_items, item_or_none, rights_less, has_rights};
 ghost use Rattle.cat_model.specs.Marks.{conflict};
+ghost use Rattle.cat_model.specs.Runs.{empty_cluster, run_one, said_one, keys_one, run_two, said_two, keys_two, run_three, said_three, keys_three, run_four, said_four, keys_four};
 ghost use Rattle.cat_model.specs.Trees.{same_path};
 ghost use Rattle.cat_model.specs.Values as value;
 ghost use Rattle.cat_model.specs.Values.{Bytes, Holder, OWNER, ROLE, Item, Grants};
@@ -26,6 +27,18 @@ pub fn statements_meet_the_examples()
     ensures equal_rows { causes postgres equal_rows opening ≡ None ∷ None ∷ Some (cause.Duplicate (codes "t_n_key") 2 3) ∷ Some (cause.NullValue 1 5) ∷ Some (cause.Duplicate (codes "t_i") 2 3) ∷ None ∷ [] }
     ensures domains { causes postgres domains opening ≡ None ∷ Some (cause.Absent (key.UserType (public (codes "e")))) ∷ [] }
     ensures views { causes postgres views opening ≡ None ∷ None ∷ Some (cause.Absent (key.Rel (public (codes "q")))) ∷ [] }
+{}
+
+/// What each statement of four runs says, from the export of an empty cluster on, and which keys are there at the end.
+pub fn runs_end_as_worked_out()
+    ensures one { causes postgres run_one empty_cluster ≡ said_one }
+    ensures one_keys { map (λ e. e.0) (entries (catalogue_after postgres run_one empty_cluster)) ≡ keys_one }
+    ensures two { causes postgres run_two empty_cluster ≡ said_two }
+    ensures two_keys { map (λ e. e.0) (entries (catalogue_after postgres run_two empty_cluster)) ≡ keys_two }
+    ensures three { causes postgres run_three empty_cluster ≡ said_three }
+    ensures three_keys { map (λ e. e.0) (entries (catalogue_after postgres run_three empty_cluster)) ≡ keys_three }
+    ensures four { causes postgres run_four empty_cluster ≡ said_four }
+    ensures four_keys { map (λ e. e.0) (entries (catalogue_after postgres run_four empty_cluster)) ≡ keys_four }
 {}
 
 /// COPYs of two tables conflict exactly where a foreign key pairs them, one way or the other.

@@ -25,7 +25,7 @@ pub use conflict::conflicts;
 pub use constraint::{ConstraintKind, Encoding, SequenceKind};
 pub use examples::{
     copies_meet_where_paired, new_owner_keeps_its_rights, options_go_with_rights,
-    statements_meet_the_examples,
+    runs_end_as_worked_out, statements_meet_the_examples,
 };
 pub use fk_set::FkSet;
 pub use footprint::Footprint;

@@ -13,6 +13,7 @@ use std::alloc::{AllocError, Global};
 /// The columns of an index whose text behind the method is a bracket of names and nothing else, as `(a, b)`; `None`
 /// for any other text, as one with an expression, an order or a WHERE. The error says that there was no memory.
 /// <https://www.postgresql.org/docs/16/sql-createindex.html>
+#[tactic(auto, unfolding(cat_model::specs::IndexColumns::plain_columns))]
 pub fn plain_columns(alloc: Global, text: &[u8]) -> Result<Option<Items<Name>>, AllocError>
     ensures { IfOk result (λ names. names ≡ plain_columns text.now) }
 {

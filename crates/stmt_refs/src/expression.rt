@@ -14,6 +14,7 @@ use std::alloc::{AllocError, Global};
 /// A literal before `::regclass` whose text is a qualified name is a relation, and a qualified name behind `::` is a
 /// type. Names in the system's schemas are none. The error says that there was no memory.
 /// <https://www.postgresql.org/docs/16/datatype-oid.html>
+#[tactic(auto, unfolding(cat_model::specs::References::expression_references))]
 pub fn expr_refs(alloc: Global, text: &[u8]) -> Result<Vec<Key>, AllocError>
     ensures { IfOk result (λ keys. keys.items ≡ expression_references text.now) }
 {

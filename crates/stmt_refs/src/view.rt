@@ -18,6 +18,7 @@ use std::alloc::{AllocError, Global};
 /// of IS DISTINCT FROM and those between the brackets of EXTRACT, SUBSTRING, TRIM, OVERLAY and POSITION begin no list.
 /// Names in the system's schemas are none. The error says that there was no memory.
 /// <https://www.postgresql.org/docs/16/queries-table-expressions.html>
+#[tactic(auto, unfolding(cat_model::specs::References::view_references))]
 pub fn view_refs(alloc: Global, text: &[u8]) -> Result<Vec<Key>, AllocError>
     ensures { IfOk result (λ keys. keys.items ≡ view_references text.now) }
 {

@@ -19,7 +19,9 @@ use Rattle.cat_model.specs.declared.cause.Cause.{Cause}
 use Rattle.cat_model.specs.declared.cause.Cause.TheVariants as cause
 use Rattle.cat_model.specs.declared.stmt.Stmt.{Stmt}
 use Rattle.cat_model.specs.Keys.{key_cmp}
+use Rattle.cat_model.specs.IndexColumns.{plain_columns}
 use Rattle.cat_model.specs.Lexemes.{lexemes}
+use Rattle.cat_model.specs.References.{expression_references, view_references}
 use Rattle.cat_model.specs.Values as value
 use Rattle.cat_model.specs.Values.{Value}
 use Rattle.cat_model.specs.Examples.{causes, catalogue_after, opening, postgres, public, setvals, bigints, children, equal_rows, domains, views}
@@ -44,27 +46,27 @@ set_values : causes_in postgres setvals listed ≡ None ∷ Some cause.OutOfRang
 set_values = refl
 
 big_numbers : causes_in postgres bigints listed ≡ None ∷ None ∷ Some (cause.BadValue 1 1) ∷ Some (cause.BadValue 1 2) ∷ []
-unfolding lines row_of fields_of field_of pieces_after escape decode_behind ends_escaping chars is_utf8 encode_utf8 is_blank is_digit begins_word in_word is_sign marks_escapes in_line next_is run_end quote_end escape_end comment_end fraction_end number_end begins_line closed begun in_utf8 piece_at next_within next_token_of tokens_within tokens_of spelling inside undoubled name_of literal_of lexemes
+unfolding lines row_of fields_of field_of pieces_after escape decode_behind ends_escaping chars is_utf8 encode_utf8 is_blank is_digit begins_word in_word is_sign marks_escapes in_line next_is run_end quote_end escape_end comment_end fraction_end number_end begins_line closed begun in_utf8 piece_at next_within next_token_of tokens_within tokens_of spelling inside undoubled name_of literal_of lexemes expression_references view_references plain_columns
 big_numbers = refl
 
 number_kept : find key_cmp (key.Rows (public (codes "t"))) (entries_after postgres bigints listed) ≡ Some (value.rows ((Some (codes "9223372036854775807") ∷ []) ∷ []))
-unfolding lines row_of fields_of field_of pieces_after escape decode_behind ends_escaping chars is_utf8 encode_utf8 is_blank is_digit begins_word in_word is_sign marks_escapes in_line next_is run_end quote_end escape_end comment_end fraction_end number_end begins_line closed begun in_utf8 piece_at next_within next_token_of tokens_within tokens_of spelling inside undoubled name_of literal_of lexemes
+unfolding lines row_of fields_of field_of pieces_after escape decode_behind ends_escaping chars is_utf8 encode_utf8 is_blank is_digit begins_word in_word is_sign marks_escapes in_line next_is run_end quote_end escape_end comment_end fraction_end number_end begins_line closed begun in_utf8 piece_at next_within next_token_of tokens_within tokens_of spelling inside undoubled name_of literal_of lexemes expression_references view_references plain_columns
 number_kept = refl
 
 orphans : causes_in postgres children listed ≡ None ∷ None ∷ None ∷ None ∷ None ∷ Some (cause.NoParent (codes "c_fk") 3) ∷ None ∷ None ∷ []
-unfolding lines row_of fields_of field_of pieces_after escape decode_behind ends_escaping chars is_utf8 encode_utf8 is_blank is_digit begins_word in_word is_sign marks_escapes in_line next_is run_end quote_end escape_end comment_end fraction_end number_end begins_line closed begun in_utf8 piece_at next_within next_token_of tokens_within tokens_of spelling inside undoubled name_of literal_of lexemes
+unfolding lines row_of fields_of field_of pieces_after escape decode_behind ends_escaping chars is_utf8 encode_utf8 is_blank is_digit begins_word in_word is_sign marks_escapes in_line next_is run_end quote_end escape_end comment_end fraction_end number_end begins_line closed begun in_utf8 piece_at next_within next_token_of tokens_within tokens_of spelling inside undoubled name_of literal_of lexemes expression_references view_references plain_columns
 orphans = refl
 
 duplicates : causes_in postgres equal_rows listed ≡ None ∷ None ∷ Some (cause.Duplicate (codes "t_n_key") 2 3) ∷ Some (cause.NullValue 1 5) ∷ Some (cause.Duplicate (codes "t_i") 2 3) ∷ None ∷ []
-unfolding lines row_of fields_of field_of pieces_after escape decode_behind ends_escaping chars is_utf8 encode_utf8 is_blank is_digit begins_word in_word is_sign marks_escapes in_line next_is run_end quote_end escape_end comment_end fraction_end number_end begins_line closed begun in_utf8 piece_at next_within next_token_of tokens_within tokens_of spelling inside undoubled name_of literal_of lexemes
+unfolding lines row_of fields_of field_of pieces_after escape decode_behind ends_escaping chars is_utf8 encode_utf8 is_blank is_digit begins_word in_word is_sign marks_escapes in_line next_is run_end quote_end escape_end comment_end fraction_end number_end begins_line closed begun in_utf8 piece_at next_within next_token_of tokens_within tokens_of spelling inside undoubled name_of literal_of lexemes expression_references view_references plain_columns
 duplicates = refl
 
 own_names : causes_in postgres domains listed ≡ None ∷ Some (cause.Absent (key.UserType (public (codes "e")))) ∷ []
-unfolding chars is_utf8 encode_utf8 is_blank is_digit begins_word in_word is_sign marks_escapes in_line next_is run_end quote_end escape_end comment_end fraction_end number_end begins_line closed begun in_utf8 piece_at next_within next_token_of tokens_within tokens_of spelling inside undoubled name_of literal_of lexemes
+unfolding chars is_utf8 encode_utf8 is_blank is_digit begins_word in_word is_sign marks_escapes in_line next_is run_end quote_end escape_end comment_end fraction_end number_end begins_line closed begun in_utf8 piece_at next_within next_token_of tokens_within tokens_of spelling inside undoubled name_of literal_of lexemes expression_references view_references plain_columns
 own_names = refl
 
 relations : causes_in postgres views listed ≡ None ∷ None ∷ Some (cause.Absent (key.Rel (public (codes "q")))) ∷ []
-unfolding chars is_utf8 encode_utf8 is_blank is_digit begins_word in_word is_sign marks_escapes in_line next_is run_end quote_end escape_end comment_end fraction_end number_end begins_line closed begun in_utf8 piece_at next_within next_token_of tokens_within tokens_of spelling inside undoubled name_of literal_of lexemes
+unfolding chars is_utf8 encode_utf8 is_blank is_digit begins_word in_word is_sign marks_escapes in_line next_is run_end quote_end escape_end comment_end fraction_end number_end begins_line closed begun in_utf8 piece_at next_within next_token_of tokens_within tokens_of spelling inside undoubled name_of literal_of lexemes expression_references view_references plain_columns
 relations = refl
 
 pub returns : goal.returns
