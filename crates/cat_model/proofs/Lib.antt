@@ -2,7 +2,9 @@ pub mod Changes
 pub mod CopyStays
 pub mod Entries
 pub mod Exchange
+pub mod Holders
 pub mod KeyOrder
+pub mod Listed
 pub mod MarkLaws
 pub mod Parts
 pub mod Stays

@@ -1,8 +1,9 @@
 -- The columns of an index that are plain: its text is a bracket of names and nothing else.
 use Rattle.std.specs.Prelude.{Bool, true, false, ◌&&◌, List, [], ◌∷◌, Option, Some, None, if◌then◌else◌}
 use Rattle.std.specs.Option.{option_map}
+use Rattle.copy_text.specs.Texts.{is_name}
 use Rattle.cat_model.specs.Values.{Bytes}
-use Rattle.cat_model.specs.Lexemes.{Lexeme, lexemes, is_sign, is_name, name_in, no_more}
+use Rattle.cat_model.specs.Lexemes.{Lexeme, lexemes, is_sign, name_in, no_more}
 
 -- a name, where the lexeme spells one
 abbrev pub checked_name : Option Bytes → Option Bytes
@@ -27,5 +28,5 @@ abbrev pub names_in_brackets : List Lexeme → Option (List Bytes)
 names_in_brackets [] = None
 names_in_brackets (open_bracket ∷ rest) = if is_sign 40 open_bracket then names_to_bracket rest else None
 
-abbrev pub plain_columns : Bytes → Option (List Bytes)
+unfoldable pub plain_columns : Bytes → Option (List Bytes)
 plain_columns text = names_in_brackets (lexemes text)

@@ -1,8 +1,13 @@
 //! The laws of the definitions: each is the contract of a function that does nothing.
-ghost use Rattle.std.specs.Prelude.{◌≡◌, Bool, true, false, List, [], ◌∷◌, Result, Ok, Err};
+ghost use Rattle.std.specs.Prelude.{◌≡◌, ◌<◌, Bool, true, false, List, [], ◌∷◌, Result, Ok, Err};
 ghost use Rattle.std.specs.List.{list_any};
 ghost use Rattle.std.specs.FinMap.{get};
+ghost use Rattle.std.specs.Cmp.{IsTotalOrder};
+ghost use Rattle.std.specs.Cmp.Lexicographic.{slice_cmp};
+ghost use Rattle.std.specs.Ordering.{nat_cmp};
+ghost use Rattle.std.specs.declared.cmp.Ordering.TheVariants.{Less, Equal};
 ghost use Rattle.cat_model.specs.Effects.{effect};
+ghost use Rattle.cat_model.specs.Keys.{key_cmp, key_kind, key_names};
 ghost use Rattle.cat_model.specs.Footprints.{footprint_of, GivesParents};
 ghost use Rattle.cat_model.specs.Marks.{IsWithin, Agree, key_meets, conflict};
 ghost use Rattle.cat_model.specs.Trees.{Tree, Seen, seen, outcome, run, next};
@@ -14,6 +19,14 @@ ghost use Rattle.cat_model.specs.declared.stmt.Stmt.{Stmt};
 ghost use Rattle.cat_model.specs.declared.key.Key.TheVariants as key;
 ghost use Rattle.cat_model.specs.declared.cause.Cause.TheVariants as cause;
 ghost use Rattle.cat_model.specs.declared.stmt.Stmt.TheVariants as stmt;
+
+/// Keys are ordered by kind and then by their names, one after another, and keys that compare alike are one key.
+pub fn keys_are_ordered()
+    ensures total { IsTotalOrder key_cmp }
+    ensures same { (a b : Key) → key_cmp a b ≡ Equal → a ≡ b }
+    ensures kinds { (a b : Key) → key_kind a < key_kind b → key_cmp a b ≡ Less }
+    ensures names { (a b : Key) → key_kind a ≡ key_kind b → key_cmp a b ≡ slice_cmp (slice_cmp nat_cmp) (key_names a) (key_names b) }
+{}
 
 /// What a tree says depends only on what its footprint reads.
 pub fn outcomes_depend_on_reads()
