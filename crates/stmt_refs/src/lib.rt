@@ -12,3 +12,6 @@ mod view;
 pub use columns::plain_columns;
 pub use expression::expr_refs;
 pub use view::view_refs;
+
+#[cfg(test)]
+mod tests;
