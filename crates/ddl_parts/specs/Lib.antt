@@ -1,0 +1,5 @@
+pub mod Lexemes
+pub mod Parts
+pub mod Laws
+pub mod Leaves
+pub mod Pieces
