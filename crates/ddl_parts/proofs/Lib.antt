@@ -5,3 +5,4 @@ pub mod Choice
 pub mod Repeated
 pub mod Machines
 pub mod Joined
+pub mod Collects

@@ -1,6 +1,6 @@
 -- A token with its bytes, and the text of a run of them.
 -- Between two tokens stand white space and comments: the gap of the second.
-use Rattle.std.specs.Prelude.{ℕ, Bool, false, ◌&&◌, ◌==◌, List, [], ◌∷◌, ◌++◌, slice_range}
+use Rattle.std.specs.Prelude.{ℕ, Bool, false, ◌&&◌, ◌==◌, List, [], ◌∷◌, ◌++◌, slice_range, Option, Some, None}
 use Rattle.sql_lex.specs.declared.token.TokenKind.{TokenKind}
 use Rattle.sql_lex.specs.declared.token.TokenKind.TheVariants.{Word, QuotedName, Literal, Number, Sign, MetaLine}
 use Rattle.sql_lex.specs.Meaning.{is_keyword_of}
@@ -43,3 +43,8 @@ never t = false
 abbrev pub starts : (Lexeme → Bool) → List Lexeme → Bool
 starts test [] = false
 starts test (t ∷ ts) = test t
+
+-- the place of the first of the tokens
+abbrev pub start_of : List Lexeme → Option ℕ
+start_of [] = None
+start_of (t ∷ ts) = Some t.start

@@ -3,3 +3,4 @@ pub mod Parts
 pub mod Laws
 pub mod Leaves
 pub mod Pieces
+pub mod Collecting

@@ -1,9 +1,13 @@
 //! The parts of the grammar of statements: their definitions, laws and readers.
 #![tactic(auto)]
 
+mod collecting;
 mod fault;
 mod laws;
 mod pieces;
+mod qualified;
 
+pub use collecting::{Run, collect};
 pub use fault::{Halt, ReadError};
 pub use pieces::{Piece, Pieces};
+pub use qualified::qualified_name;

@@ -1,7 +1,7 @@
 //! The tokens of a statement.
 ghost use Rattle.std.specs.Prelude.{◌≡◌, ◌≤◌, ◌<◌, ◌+◌, ◌∷◌, [], ℕ, List, length, drop, false, true, Err, IsTrue, IfOk, IfSome, MatchOption, option_map, ◌||◌, ◌==◌};
 ghost use Rattle.std.specs.List.{list_any};
-ghost use Rattle.ddl_parts.specs.Lexemes.{Lexeme, is_word, is_sign, is_sign_kind, starts};
+ghost use Rattle.ddl_parts.specs.Lexemes.{Lexeme, is_word, is_sign, is_sign_kind, starts, start_of};
 ghost use Rattle.ddl_parts.specs.Leaves.{name, literal, name_in, text_in};
 ghost use Rattle.ddl_parts.specs.Parts.{Part, mark, stop};
 ghost use Rattle.ddl_parts.specs.Pieces.{lexeme_of, lexemes, are_joined, GivesPlace, GivesPart};
@@ -46,6 +46,21 @@ impl<'a> Model for Pieces<'a> {
 }
 
 impl<'a> Pieces<'a> {
+    /// The tokens of a text that were collected.
+    pub fn new(text: &'a [u8], pieces: Vec<Piece>) -> Pieces<'a>
+        requires { are_joined (length text.now) pieces.items ≡ true }
+        ensures { result ≡ lexemes text.now pieces.items }
+    {
+        Pieces { text, pieces }
+    }
+
+    /// The place of a token's first byte in the text.
+    pub fn start(&self, at: usize) -> Option<usize>
+        ensures { result ≡ start_of (drop at self.now) }
+    {
+        start_at(self.text, &self.pieces, at)
+    }
+
     /// How many there are.
     pub fn len(&self) -> usize
         ensures { result ≡ length self.now }
@@ -110,6 +125,16 @@ fn piece_at(text: &[u8], pieces: &[Piece], at: usize) -> Option<Piece>
     }
 }
 
+fn start_at(text: &[u8], pieces: &[Piece], at: usize) -> Option<usize>
+    requires { are_joined (length text.now) pieces.now ≡ true }
+    ensures { result ≡ start_of (drop at (lexemes text.now pieces.now)) }
+{
+    match piece_at(text, pieces, at) {
+        Some(piece) => Some(piece.token.start),
+        None => None,
+    }
+}
+
 /// Reading stops at a place.
 fn halt<T>(at: usize) -> Result<T, ReadError>
     ensures { result ≡ Err (Halted (record { long = false; at = at })) }
@@ -129,7 +154,7 @@ fn is_word_at(text: &[u8], pieces: &[Piece], at: usize, key: &str) -> bool
 }
 
 /// Whether a token of this kind is this byte.
-fn is_sign_kind(kind: TokenKind, byte: u8) -> bool
+pub(crate) fn is_sign_kind(kind: TokenKind, byte: u8) -> bool
     ensures { result ≡ is_sign_kind byte kind }
 {
     match kind {
