@@ -25,6 +25,7 @@ pub fn collect(alloc: Global, text: &[u8], from: usize) -> Result<Run, AllocErro
     ensures exact { IfOk result (λ r. collected text.now from ≡ record { pieces = r.pieces.items; end = r.end; fault = r.fault }) }
     ensures joined { IfOk result (λ r. are_joined (length text.now) r.pieces.items ≡ true) }
     ensures within { IfOk result (λ r. (from ≤ r.end) × (r.end ≤ length text.now)) }
+    ensures forward { IfOk result (λ r. 0 < length r.pieces.items → from < r.end) }
 {
     let mut pieces = Vec::new(alloc);
     let mut at = from;

@@ -1,4 +1,4 @@
-use Rattle.std.proofs.Common.{◌≡◌, Ok, Some, sym, ap, ◌∙◌, length, arith}
+use Rattle.std.proofs.Common.{◌≡◌, Ok, Some, sym, ap, ◌∙◌, length, List, arith}
 use Rattle.ddl_parts.specs.Collecting.{collected}
 use Rattle.ddl_parts.proofs.Collects.{all_left, at_end, at_fault, at_semicolon, at_token, end_of_none, end_of_one_more, joined_none, joined_one_more, joined_whole}
 use Rattle.ddl_parts.proofs.collecting.collect.Goals as goal
@@ -11,6 +11,7 @@ tokens-init c =
       joined = rw e (joined_none (length c.args.text.now) c.args.from);
       ends = rw e (end_of_none c.args.from);
       low = omega arith;
+      forward = λ some. absurd (omega (arith, ap length e));
       high = omega arith;
     }
 
@@ -53,5 +54,6 @@ tokens-preserved c =
       joined = rw e (joined_one_more (length c.args.text.now) c.args.from c.tokens.pieces.items (record { from = c.tokens.at; token = c.in-Ok-Some.token }) c.tokens.invariant.joined c.tokens.invariant.ends lies.0 lies.1 lies.2);
       ends = rw e (end_of_one_more c.args.from c.tokens.pieces.items (record { from = c.tokens.at; token = c.in-Ok-Some.token }));
       low = omega (arith, lies.0, lies.1);
+      forward = λ some. omega (arith, lies.0, lies.1);
       high = lies.2;
     }

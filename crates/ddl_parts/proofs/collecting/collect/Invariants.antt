@@ -1,4 +1,4 @@
-use Rattle.std.proofs.Common.{◌≡◌, ◌-◌, ◌≤◌, length, true}
+use Rattle.std.proofs.Common.{◌≡◌, ◌-◌, ◌≤◌, ◌<◌, length, true}
 use Rattle.ddl_parts.specs.Pieces.{are_joined_from}
 use Rattle.ddl_parts.specs.Collecting.{collected}
 use Rattle.ddl_parts.proofs.Collects.{IsLeft, end_of}
@@ -11,6 +11,7 @@ invariant-tokens l = record {
   joined : are_joined_from (length l.text) l.from l.pieces.items ≡ true;
   ends : end_of l.from l.pieces.items ≡ l.at;
   low : l.from ≤ l.at;
+  forward : 0 < length l.pieces.items → l.from < l.at;
   high : l.at ≤ length l.text;
 }
 
