@@ -6,3 +6,5 @@ pub mod Repeated
 pub mod Machines
 pub mod Joined
 pub mod Collects
+pub mod Leads
+pub mod RunLaws

@@ -4,3 +4,5 @@ pub mod Laws
 pub mod Leaves
 pub mod Pieces
 pub mod Collecting
+pub mod Expressions
+pub mod Types
