@@ -8,3 +8,4 @@ pub mod Joined
 pub mod Collects
 pub mod Leads
 pub mod RunLaws
+pub mod Tables

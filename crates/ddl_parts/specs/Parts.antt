@@ -1,7 +1,7 @@
 -- A part of the grammar of statements: which tokens spell which value, and how it is read.
 -- Parts are put together by a few combinators, so that a statement's grammar reads like its row of a table of texts.
 use Rattle.std.specs.Prelude.{◌≡◌, ℕ, zero, suc, Bool, true, false, ◌||◌, ◌⊎◌, List, [], ◌∷◌, ◌++◌, length, Option, Some, None, Result, Ok, Err, option_and_then, if◌then◌else◌}
-use Rattle.ddl_parts.specs.Lexemes.{Lexeme, starts, never}
+use Rattle.ddl_parts.specs.Lexemes.{Lexeme, starts, never, is_word}
 
 -- Why reading stops: the tokens from the first one on with which nothing goes on. `long` says that the token is a name
 -- but for its length.
@@ -99,6 +99,19 @@ choose test p q = record {
   read = λ ts. choose_at (starts test ts) (p.read ts) (q.read ts);
   goes_on = λ t. p.goes_on t || q.goes_on t;
 }
+
+-- a part behind a key word
+pub record Branch (A : Type 0) : Type 1 where
+  pub key : List ℕ
+  pub part : Part A
+
+abbrev pub branch : {A : Type 0} → Branch A → Part A
+branch b = is_word b.key ▸ b.part
+
+-- one of several by their key words
+abbrev pub one_of : {A : Type 0} → Branch A → List (Branch A) → Part A
+one_of b [] = branch b
+one_of b (c ∷ rest) = choose (is_word b.key) (branch b) (one_of c rest)
 
 -- no token, where none of these follows
 abbrev pub nothing : {A : Type 0} → (Lexeme → Bool) → A → Part A

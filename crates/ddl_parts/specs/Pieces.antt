@@ -42,3 +42,17 @@ GivesPart ts view (Err error) reading = Fails ts error reading
 abbrev pub GivesPlace : List Lexeme → Result ℕ ReadError → Reading (Unit {0}) → Type 0
 GivesPlace ts (Ok at) reading = reading ≡ Ok (tt, drop at ts)
 GivesPlace ts (Err error) reading = Fails ts error reading
+
+-- a value, whatever stands behind it
+abbrev pub value_of : {B : Type 0} → Reading B → Result B Stop
+value_of (Ok x) = Ok x.0
+value_of (Err s) = Err s
+
+abbrev pub FailsValue : {B : Type 0} → List Lexeme → ReadError → Result B Stop → Type 0
+FailsValue ts errors.Memory given = ⊤
+FailsValue ts (errors.Halted h) given = given ≡ Err (halted ts h)
+
+-- the value that was read, seen by view
+abbrev pub GivesValue : {A B : Type 0} → List Lexeme → (A → B) → Result A ReadError → Result B Stop → Type 0
+GivesValue ts view (Ok x) given = given ≡ Ok (view x)
+GivesValue ts view (Err error) given = FailsValue ts error given

@@ -1,13 +1,13 @@
 -- The grammar of statements: what stands behind the words that tell them apart, kind by kind.
 -- Key words stand in letters of any case, names bare or quoted; white space and comments stand anywhere between tokens.
-use Rattle.std.specs.Prelude.{ℕ, Bool, false, ◌||◌, List, Option, Some, None, codes}
+use Rattle.std.specs.Prelude.{ℕ, Bool, false, ◌||◌, List, [], ◌∷◌, Option, Some, None, codes}
 use Rattle.cat_model.specs.declared.object.QName.{QName}
 use Rattle.cat_model.specs.declared.grant.Owned.{Owned}
 use Rattle.cat_model.specs.declared.grant.Owned.TheVariants as owned
 use Rattle.cat_model.specs.declared.stmt.Stmt.{Stmt}
 use Rattle.cat_model.specs.declared.stmt.Stmt.TheVariants as stmt
 use Rattle.ddl_parts.specs.Lexemes.{Lexeme, is_word, is_sign}
-use Rattle.ddl_parts.specs.Parts.{Part, mark, seen, choose, ◌then◌, ◌▸◌, ◌◂◌}
+use Rattle.ddl_parts.specs.Parts.{Part, Branch, mark, seen, choose, one_of, ◌then◌, ◌▸◌, ◌◂◌}
 use Rattle.ddl_parts.specs.Leaves.{name, literal, qualified}
 
 abbrev pub semicolon : Lexeme → Bool
@@ -17,34 +17,36 @@ semicolon = is_sign 59
 
 -- SCHEMA name;
 unfoldable pub create_schema : Part Stmt
-create_schema = seen stmt.CreateSchema (is_word (codes "schema") ▸ (name ◂ semicolon))
+create_schema = seen stmt.CreateSchema (name ◂ semicolon)
 
 unfoldable pub created : Part Stmt
-created = create_schema
+created = one_of (record { key = codes "schema"; part = create_schema }) []
 
--- ---- ALTER .. OWNER TO ..
+-- ---- ALTER ..
 
 -- OWNER TO role;
 unfoldable pub new_owner : Part (List ℕ)
 new_owner = is_word (codes "owner") ▸ (is_word (codes "to") ▸ (name ◂ semicolon))
 
--- kind name OWNER TO role;
-abbrev pub owned_name : List ℕ → (List ℕ → Owned) → Part Stmt
-owned_name key kind = seen (λ x. stmt.OwnerTo (kind x.0) x.1) (is_word key ▸ (name then new_owner))
+-- name OWNER TO role;
+unfoldable pub name_and_owner : Part (List ℕ × List ℕ)
+name_and_owner = name then new_owner
 
--- kind path OWNER TO role;
-abbrev pub owned_path : List ℕ → (QName → Owned) → Part Stmt
-owned_path key kind = seen (λ x. stmt.OwnerTo (kind x.0) x.1) (is_word key ▸ (qualified then new_owner))
+-- path OWNER TO role;
+unfoldable pub path_and_owner : Part (QName × List ℕ)
+path_and_owner = qualified then new_owner
+
+abbrev pub owned_name : List ℕ → (List ℕ → Owned) → Branch Stmt
+owned_name key kind = record { key = key; part = seen (λ x. stmt.OwnerTo (kind x.0) x.1) name_and_owner }
+
+abbrev pub owned_path : List ℕ → (QName → Owned) → Branch Stmt
+owned_path key kind = record { key = key; part = seen (λ x. stmt.OwnerTo (kind x.0) x.1) path_and_owner }
 
 unfoldable pub altered : Part Stmt
 altered =
-    choose (is_word (codes "schema")) (owned_name (codes "schema") owned.Schema)
-    (choose (is_word (codes "type")) (owned_path (codes "type") owned.Type)
-    (choose (is_word (codes "domain")) (owned_path (codes "domain") owned.Domain)
-    (choose (is_word (codes "table")) (owned_path (codes "table") owned.Table)
-    (choose (is_word (codes "sequence")) (owned_path (codes "sequence") owned.Sequence)
-    (choose (is_word (codes "view")) (owned_path (codes "view") owned.View)
-    (owned_name (codes "database") owned.Database))))))
+    one_of (owned_name (codes "schema") owned.Schema)
+    (owned_path (codes "type") owned.Type ∷ owned_path (codes "domain") owned.Domain ∷ owned_path (codes "table") owned.Table
+    ∷ owned_path (codes "sequence") owned.Sequence ∷ owned_path (codes "view") owned.View ∷ owned_name (codes "database") owned.Database ∷ [])
 
 -- ---- SELECT ..
 
@@ -58,9 +60,8 @@ selected =
 
 unfoldable pub command : Part Stmt
 command =
-    choose (is_word (codes "create")) (is_word (codes "create") ▸ created)
-    (choose (is_word (codes "alter")) (is_word (codes "alter") ▸ altered)
-    (is_word (codes "select") ▸ selected))
+    one_of (record { key = codes "create"; part = created })
+    (record { key = codes "alter"; part = altered } ∷ record { key = codes "select"; part = selected } ∷ [])
 
 -- a semicolon alone is an empty statement
 unfoldable pub statement : Part (Option Stmt)

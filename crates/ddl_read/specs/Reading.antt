@@ -1,13 +1,15 @@
 -- The statements of a text, and the first place from which on it has none.
 -- A statement's tokens are those up to its semicolon; all of them together spell it.
-use Rattle.std.specs.Prelude.{◌≡◌, ℕ, zero, suc, ◌+◌, Bool, true, false, List, [], ◌∷◌, ◌++◌, length, Option, Some, None, Result, Ok, Err, if◌then◌else◌, ⊤}
+use Rattle.std.specs.Prelude.{◌≡◌, ℕ, zero, suc, ◌+◌, Bool, true, false, List, [], ◌∷◌, ◌++◌, length, drop, Option, Some, None, Result, Ok, Err, if◌then◌else◌, ⊤}
 use Rattle.sql_lex.specs.declared.fault.LexFault.{LexFault}
 use Rattle.cat_model.specs.declared.stmt.Stmt.{Stmt}
 use Rattle.ddl_parts.specs.declared.pieces.Piece.{Piece}
 use Rattle.ddl_parts.specs.Lexemes.{Lexeme, start_of}
 use Rattle.ddl_parts.specs.Parts.{Stop, Reading}
-use Rattle.ddl_parts.specs.Pieces.{lexemes}
+use Rattle.ddl_parts.specs.Pieces.{lexemes, value_of}
 use Rattle.ddl_parts.specs.Collecting.{Collected, collected}
+use Rattle.ddl_parts.specs.declared.fault.ReadError.{ReadError}
+use Rattle.ddl_parts.specs.declared.fault.ReadError.TheVariants as reading
 use Rattle.ddl_read.specs.declared.located.Located.{Located}
 use Rattle.ddl_read.specs.declared.fault.DdlFault.{DdlFault}
 use Rattle.ddl_read.specs.declared.fault.DdlFault.TheVariants.{Lex, Unknown, LongName, Incomplete}
@@ -23,55 +25,53 @@ abbrev pub ◌>>=◌ : {A B : Type 0} → Result A DdlFault → (A → Result B 
 -- ---- where reading stops
 
 -- behind the last token: the text has a fault there, or it ends too early
-abbrev pub fault_behind : List ℕ → Option LexFault → DdlFault
-fault_behind text (Some fault) = Lex fault
-fault_behind text None = Incomplete (length text)
+abbrev pub fault_behind : ℕ → Option LexFault → DdlFault
+fault_behind limit (Some fault) = Lex fault
+fault_behind limit None = Incomplete limit
 
-abbrev pub fault_by : List ℕ → Option LexFault → Bool → Option ℕ → DdlFault
-fault_by text fault long None = fault_behind text fault
-fault_by text fault true (Some at) = LongName at
-fault_by text fault false (Some at) = Unknown at
+abbrev pub fault_by : ℕ → Option LexFault → Bool → Option ℕ → DdlFault
+fault_by limit fault long None = fault_behind limit fault
+fault_by limit fault true (Some at) = LongName at
+fault_by limit fault false (Some at) = Unknown at
 
--- the fault where reading the collected tokens stops
-abbrev pub fault_of : List ℕ → Option LexFault → Stop → DdlFault
-fault_of text fault s = fault_by text fault s.long (start_of s.rest)
+-- the fault where reading the collected tokens stops, in a text of this length
+abbrev pub fault_of : ℕ → Option LexFault → Stop → DdlFault
+fault_of limit fault s = fault_by limit fault s.long (start_of s.rest)
 
 -- ---- one statement
 
-abbrev pub all_of : {A : Type 0} → A → List Lexeme → Result A Stop
-all_of v [] = Ok v
-all_of v (t ∷ ts) = Err (record { long = false; rest = t ∷ ts })
+abbrev pub told : {A : Type 0} → ℕ → Option LexFault → Result A Stop → Result A DdlFault
+told limit fault (Ok v) = Ok v
+told limit fault (Err s) = Err (fault_of limit fault s)
 
--- a value that all of the tokens spell
-abbrev pub whole : {A : Type 0} → Reading A → Result A Stop
-whole (Ok x) = all_of x.0 x.1
-whole (Err s) = Err s
-
-abbrev pub told : {A : Type 0} → List ℕ → Option LexFault → Result A Stop → Result A DdlFault
-told text fault (Ok v) = Ok v
-told text fault (Err s) = Err (fault_of text fault s)
-
--- the statement that tokens spell, with a fault behind them; None for an empty one
-unfoldable pub statement_of : List ℕ → List Lexeme → Option LexFault → Result (Option Stmt) DdlFault
-statement_of text ts fault = told text fault (whole (statement.read ts))
+-- the statement at the front of tokens of a text of this length, with a fault behind them; None for an empty one
+unfoldable pub statement_of : ℕ → List Lexeme → Option LexFault → Result (Option Stmt) DdlFault
+statement_of limit ts fault = told limit fault (value_of (statement.read ts))
 
 -- ---- all of them
 
 -- a statement before the others, unless it is empty
-abbrev pub listed : Option Stmt → ℕ → Option ℕ → List Located → List Located
-listed None end start more = more
-listed (Some s) end None more = more
-listed (Some s) end (Some start) more = record { stmt = s; start = start; end = end } ∷ more
+abbrev pub listed : Option Stmt → ℕ → ℕ → List Located → List Located
+listed None start end more = more
+listed (Some s) start end more = record { stmt = s; start = start; end = end } ∷ more
 
--- the statements from a place on, whose tokens are collected; `later` says those behind a place
-abbrev pub statements_by : (ℕ → Result (List Located) DdlFault) → List ℕ → ℕ → Option LexFault → List Piece → Result (List Located) DdlFault
-statements_by later text end (Some fault) [] = Err (Lex fault)
-statements_by later text end None [] = Ok []
-statements_by later text end fault (p ∷ ps) =
-    statement_of text (lexemes text (p ∷ ps)) fault >>= λ s. later end >>= λ more. Ok (listed s end (Some p.token.start) more)
+abbrev pub first_start : List Piece → Option ℕ
+first_start [] = None
+first_start (p ∷ ps) = Some p.token.start
+
+abbrev pub no_more : Option LexFault → Result (List Located) DdlFault
+no_more (Some fault) = Err (Lex fault)
+no_more None = Ok []
+
+-- The statements from a place on, whose tokens are collected, by the place of the first; `later` says those behind a
+-- place.
+abbrev pub statements_by : (ℕ → Result (List Located) DdlFault) → List ℕ → Collected → Option ℕ → Result (List Located) DdlFault
+statements_by later text c None = no_more c.fault
+statements_by later text c (Some start) =
+    statement_of (length text) (lexemes text c.pieces) c.fault >>= λ s. later c.end >>= λ more. Ok (listed s start c.end more)
 
 abbrev pub statements_from : (ℕ → Result (List Located) DdlFault) → List ℕ → Collected → Result (List Located) DdlFault
-statements_from later text c = statements_by later text c.end c.fault c.pieces
+statements_from later text c = statements_by later text c (first_start c.pieces)
 
 -- at most n statements from a place on
 unfoldable pub statements_within : ℕ → List ℕ → ℕ → Result (List Located) DdlFault
@@ -92,3 +92,13 @@ Fails (errors.Fault fault) given = given ≡ Err fault
 abbrev pub Gives : {A B : Type 0} → (A → B) → Result A ReadStmtsError → Result B DdlFault → Type 0
 Gives view (Ok x) given = given ≡ Ok (view x)
 Gives view (Err error) given = Fails error given
+
+-- the error of a reader of tokens, at a place of the text
+abbrev pub error_of : ℕ → Option LexFault → List Lexeme → ReadError → ReadStmtsError
+error_of limit fault ts reading.Memory = errors.Memory
+error_of limit fault ts (reading.Halted h) = errors.Fault (fault_by limit fault h.long (start_of (drop h.at ts)))
+
+-- a call that read a statement added it to those before, unless memory ran out
+abbrev pub Adds : List Located → List Located → Result (Unit {0}) ReadStmtsError → ℕ → ℕ → Result (Option Stmt) DdlFault → Type 0
+Adds old new (Ok u) start end given = (s : Option Stmt) × (given ≡ Ok s) × (new ≡ old ++ listed s start end [])
+Adds old new (Err error) start end given = Fails error given

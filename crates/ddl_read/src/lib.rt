@@ -4,6 +4,7 @@
 mod fault;
 mod kinds;
 mod located;
+mod reading;
 
 pub use fault::{DdlFault, ReadStmtsError};
 pub use located::Located;
