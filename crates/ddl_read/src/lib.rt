@@ -8,3 +8,4 @@ mod reading;
 
 pub use fault::{DdlFault, ReadStmtsError};
 pub use located::Located;
+pub use reading::read_stmts;
