@@ -3,7 +3,7 @@
 
 mod collecting;
 mod fault;
-mod laws;
+pub mod laws;
 mod pieces;
 mod qualified;
 
@@ -11,3 +11,6 @@ pub use collecting::{Run, collect};
 pub use fault::{Halt, ReadError};
 pub use pieces::{Piece, Pieces};
 pub use qualified::qualified_name;
+
+#[cfg(test)]
+mod tests;

@@ -10,3 +10,6 @@ mod reading;
 pub use fault::{DdlFault, ReadStmtsError};
 pub use located::Located;
 pub use reading::read_stmts;
+
+#[cfg(test)]
+mod tests;
