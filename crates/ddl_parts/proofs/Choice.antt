@@ -66,6 +66,7 @@ choose_laws {A} test p q lp lq begins avoids = record {
         ap (λ b. choose_at b (p.read (front ++ rest)) (q.read (front ++ rest))) (starts-append test front rest (begins v front spells)) ∙ lp.only v front rest spells free
     by_part v front rest (inr spells) free free' =
         ap (λ b. choose_at b (p.read (front ++ rest)) (q.read (front ++ rest))) (avoids v front rest spells free') ∙ lq.only v front rest spells free'
+
     only : (v : A) (front rest : List Lexeme) → p.Spells v front ⊎ q.Spells v front → starts (λ t. p.goes_on t || q.goes_on t) rest ≡ false → (choose test p q).read (front ++ rest) ≡ Ok (v, rest)
     only v front rest spells free =
         let h = starts_neither p.goes_on q.goes_on rest free in

@@ -66,7 +66,7 @@ at_token whole text front at t left e b low long high =
       fuel = o.0;
       enough = omega (arith, o.1);
       same = o.2 ∙ ap (turn o.0 text front at) e ∙ ap (said o.0 text front at t) b
-        ∙ ap (λ ps. record (collected_within o.0 text t.end) { pieces = ps }) (sym (append_assoc front (piece at t ∷ []) (collected_within o.0 text t.end).pieces));
+          ∙ ap (λ ps. record (collected_within o.0 text t.end) { pieces = ps }) (sym (append_assoc front (piece at t ∷ []) (collected_within o.0 text t.end).pieces));
     }
 
 -- ---- joined tokens

@@ -55,6 +55,7 @@ name_begins = one_begins name_value is_name by_kind
     by Number w v e = absurd cc
     by (Sign b) w v e = absurd cc
     by MetaLine w v e = absurd cc
+
     by_kind : (t : Lexeme) (v : List ℕ) → name_value t ≡ Ok v → is_name t ≡ true
     by_kind t v e = by t.kind t.word v e
 
@@ -69,6 +70,7 @@ literal_begins = one_begins literal_value is_literal by_kind
     by Number w v e = absurd cc
     by (Sign b) w v e = absurd cc
     by MetaLine w v e = absurd cc
+
     by_kind : (t : Lexeme) (v : List ℕ) → literal_value t ≡ Ok v → is_literal t ≡ true
     by_kind t v e = by t.kind t.word v e
 

@@ -82,8 +82,8 @@ scan_stays m s t ts taken rest none e =
       runs = refl;
       done = d.0;
       local = λ x behind is other.
-        subst (λ (y : Lexeme). scan m s (y ∷ other) ≡ Ok ([], y ∷ other)) (head_is t x ts behind (d.2 ∙ is))
-        (stepped m s t other None none ∙ ap (by_done m (m.long s t) (t ∷ other)) d.0);
+          subst (λ (y : Lexeme). scan m s (y ∷ other) ≡ Ok ([], y ∷ other)) (head_is t x ts behind (d.2 ∙ is))
+          (stepped m s t other None none ∙ ap (by_done m (m.long s t) (t ∷ other)) d.0);
     })
 
 scan_goes : (m : Machine) (s : m.State) (t : Lexeme) (ts : List Lexeme) (x : m.State) (taken rest : List Lexeme) → m.step s t ≡ Some x → Scanned m x ts taken rest → Scanned m s (t ∷ ts) (t ∷ taken) rest
@@ -139,8 +139,8 @@ stops_here m s t ts u none e =
       last = s;
       runs = refl;
       local = λ x behind is other.
-        subst (λ (y : Lexeme). scan m s (y ∷ other) ≡ Err (record { long = u.long; rest = y ∷ other })) (head_is t x ts behind (sym d.2 ∙ is))
-        (stepped m s t other None none ∙ ap (by_done m (m.long s t) (t ∷ other)) d.0 ∙ ap (λ (l : Bool). Err (record { long = l; rest = t ∷ other })) (sym d.1));
+          subst (λ (y : Lexeme). scan m s (y ∷ other) ≡ Err (record { long = u.long; rest = y ∷ other })) (head_is t x ts behind (sym d.2 ∙ is))
+          (stepped m s t other None none ∙ ap (by_done m (m.long s t) (t ∷ other)) d.0 ∙ ap (λ (l : Bool). Err (record { long = l; rest = t ∷ other })) (sym d.1));
     }
 
 stops_later : (m : Machine) (s : m.State) (t : Lexeme) (ts : List Lexeme) (x : m.State) (u : Stop) → m.step s t ≡ Some x → Refused m x ts u → Refused m s (t ∷ ts) u
@@ -159,6 +159,7 @@ scan_stopped m s (t ∷ ts) u e = by_next (λ x u e. scan_stopped m x ts u e) (m
     by_err : ((x : m.State) (u : Stop) → scan m x ts ≡ Err u → Refused m x ts u) → (x : m.State) → m.step s t ≡ Some x → (scan m x ts ≡ Err u) ⊎ ((r : List Lexeme × List Lexeme) × (scan m x ts ≡ Ok r) × (gives (t ∷ r.0) r.1 ≡ Err u)) → Refused m s (t ∷ ts) u
     by_err later x is (inl g) = stops_later m s t ts x u is (later x u g)
     by_err later x is (inr g) = absurd (cc g.2)
+
     by_next : ((x : m.State) (u : Stop) → scan m x ts ≡ Err u → Refused m x ts u) → (next : Option m.State) → m.step s t ≡ next → Refused m s (t ∷ ts) u
     by_next later None is = stops_here m s t ts u is e
     by_next later (Some x) is = by_err later x is (bind_err (scan m x ts) (λ r. gives (t ∷ r.0) r.1) u (sym (stepped m s t ts (Some x) is) ∙ e))
@@ -175,10 +176,10 @@ pub machine_laws : (m : Machine) → CanEnd m → Lawful (runs_of m)
 machine_laws m h = record {
   found = λ ts v rest e. let f = scan_found m m.start ts v rest e in record { front = v; parts = f.parts; spells = (refl, record { last = f.last; runs = f.runs; done = f.done }); local = f.local };
   only = λ v front rest spells free.
-    let r : Runs m front = spells.1 in
-    scan_only m h m.start r.last front rest r.runs r.done free ∙ ap (λ (x : List Lexeme). gives x rest) (sym spells.0);
+      let r : Runs m front = spells.1 in
+      scan_only m h m.start r.last front rest r.runs r.done free ∙ ap (λ (x : List Lexeme). gives x rest) (sym spells.0);
   stopped = λ ts u e.
-    let f = scan_stopped m m.start ts u e in
-    record { front = f.front; parts = f.parts; value = f.front ++ h.finish f.last; more = h.finish f.last; finished = (refl, finished_run m h f.last f.front f.runs); local = f.local };
+      let f = scan_stopped m m.start ts u e in
+      record { front = f.front; parts = f.parts; value = f.front ++ h.finish f.last; more = h.finish f.last; finished = (refl, finished_run m h f.last f.front f.runs); local = f.local };
   example = record { value = h.finish m.start; tokens = h.finish m.start; spells = (refl, finished_run m h m.start [] refl) };
 }

@@ -76,6 +76,7 @@ more_found items goes_on h s ts v mid vs rest begins f g =
   where
     begun : starts (items.more s) f.front ≡ true
     begun = h.begins s v f.front f.spells
+
     again : (t : Lexeme) (behind : List Lexeme) → rest ≡ t ∷ behind → (other : List Lexeme) (m : ℕ) → length (f.front ++ (g.front ++ t ∷ other)) ≤ m → many_at items m s (f.front ++ (g.front ++ t ∷ other)) ≡ Ok (v ∷ vs, t ∷ other)
     again t behind is other m le =
         let all = f.front ++ (g.front ++ t ∷ other) in
@@ -204,6 +205,7 @@ more_stopped items goes_on h s ts v mid u f g =
   where
     begun : starts (items.more s) f.front ≡ true
     begun = h.begins s v f.front f.spells
+
     again : (t : Lexeme) (behind : List Lexeme) → u.rest ≡ t ∷ behind → (other : List Lexeme) (m : ℕ) → length (f.front ++ (g.front ++ t ∷ other)) ≤ m → many_at items m s (f.front ++ (g.front ++ t ∷ other)) ≡ Err (record { long = u.long; rest = t ∷ other })
     again t behind is other m le =
         let all = f.front ++ (g.front ++ t ∷ other) in
@@ -228,6 +230,7 @@ stops_more {A} items goes_on h n later s ts le u begins e =
         let f = (h.laws s).found ts a.0 a.1 is in
         more_stopped items goes_on h s ts a.0 a.1 u f (later (items.next s a.0) a.1 (shorter (items.more s) n ts f.front a.1 (h.begins s a.0 f.front f.spells) f.parts le) u g)
     by_later a is (inr g) = absurd (cc g.2)
+
     by_first : ((items.item s).read ts ≡ Err u) ⊎ ((a : A × List Lexeme) × ((items.item s).read ts ≡ Ok a) × ((many_at items n (items.next s a.0) a.1 >>= λ others. listed a.0 others.0 others.1) ≡ Err u)) → ManyStopped items s ts u
     by_first (inl f) = one_stopped items s ts u begins ((h.laws s).stopped ts u f)
     by_first (inr f) = by_later f.0 f.1 (bind_err (many_at items n (items.next s f.0.0) f.0.1) (λ others. listed f.0.0 others.0 others.1) u f.2)
@@ -246,23 +249,23 @@ many_stopped items goes_on h (suc n) s ts le u e = stops_by items goes_on h n (�
 pub many_laws : {A : Type 0} (goes_on : Lexeme → Bool) (items : Items A) → AreApart goes_on items → Lawful (many goes_on items)
 many_laws goes_on items h = record {
   found = λ ts vs rest e.
-    let f = many_found items goes_on h (length ts) items.start ts (omega arith) vs rest e in
-    record {
-      front = f.front;
-      parts = f.parts;
-      spells = f.spells;
-      local = λ t behind is other. f.local t behind is other (length (f.front ++ t ∷ other)) (omega arith);
-    };
+      let f = many_found items goes_on h (length ts) items.start ts (omega arith) vs rest e in
+      record {
+        front = f.front;
+        parts = f.parts;
+        spells = f.spells;
+        local = λ t behind is other. f.local t behind is other (length (f.front ++ t ∷ other)) (omega arith);
+      };
   only = λ vs front rest spells free. many_only items goes_on h items.start vs front rest spells free (length (front ++ rest)) (omega arith);
   stopped = λ ts u e.
-    let f = many_stopped items goes_on h (length ts) items.start ts (omega arith) u e in
-    record {
-      front = f.front;
-      parts = f.parts;
-      value = f.value;
-      more = f.more;
-      finished = f.finished;
-      local = λ t behind is other. f.local t behind is other (length (f.front ++ t ∷ other)) (omega arith);
-    };
+      let f = many_stopped items goes_on h (length ts) items.start ts (omega arith) u e in
+      record {
+        front = f.front;
+        parts = f.parts;
+        value = f.value;
+        more = f.more;
+        finished = f.finished;
+        local = λ t behind is other. f.local t behind is other (length (f.front ++ t ∷ other)) (omega arith);
+      };
   example = record { value = []; tokens = []; spells = no_more items.start };
 }

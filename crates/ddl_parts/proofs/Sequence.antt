@@ -20,9 +20,9 @@ both_found p q ts v mid w rest f g =
       parts = f.parts ∙ ap (λ (r : List Lexeme). f.front ++ r) g.parts ∙ sym (append_assoc f.front g.front rest);
       spells = (f.front, g.front, refl, f.spells, g.spells);
       local = λ t behind is other.
-        ap (then_at p.read q.read) (append_assoc f.front g.front (t ∷ other))
-        ∙ both p q (f.front ++ (g.front ++ t ∷ other)) v (g.front ++ t ∷ other) (carried p ts v mid f g.front rest t behind other g.parts is)
-        ∙ ap (λ r. r >>= λ b. Ok ((v, b.0), b.1)) (g.local t behind is other);
+          ap (then_at p.read q.read) (append_assoc f.front g.front (t ∷ other))
+          ∙ both p q (f.front ++ (g.front ++ t ∷ other)) v (g.front ++ t ∷ other) (carried p ts v mid f g.front rest t behind other g.parts is)
+          ∙ ap (λ r. r >>= λ b. Ok ((v, b.0), b.1)) (g.local t behind is other);
     }
 
 then_found : {A B : Type 0} (p : Part A) (q : Part B) → Lawful p → Lawful q → (ts : List Lexeme) (x : A × B) (rest : List Lexeme) → then_at p.read q.read ts ≡ Ok (x, rest) → Found (p then q) ts x rest
@@ -62,9 +62,9 @@ second_stopped p q ts v mid s f g =
       more = g.more;
       finished = (f.front, g.front ++ g.more, append_assoc f.front g.front g.more, f.spells, g.finished);
       local = λ t behind is other.
-        ap (then_at p.read q.read) (append_assoc f.front g.front (t ∷ other))
-        ∙ both p q (f.front ++ (g.front ++ t ∷ other)) v (g.front ++ t ∷ other) (carried p ts v mid f g.front s.rest t behind other g.parts is)
-        ∙ ap (λ r. r >>= λ b. Ok ((v, b.0), b.1)) (g.local t behind is other);
+          ap (then_at p.read q.read) (append_assoc f.front g.front (t ∷ other))
+          ∙ both p q (f.front ++ (g.front ++ t ∷ other)) v (g.front ++ t ∷ other) (carried p ts v mid f g.front s.rest t behind other g.parts is)
+          ∙ ap (λ r. r >>= λ b. Ok ((v, b.0), b.1)) (g.local t behind is other);
     }
 
 then_stopped : {A B : Type 0} (p : Part A) (q : Part B) → Lawful p → Lawful q → (ts : List Lexeme) (s : Stop) → then_at p.read q.read ts ≡ Err s → Stopped (p then q) ts s
@@ -73,6 +73,7 @@ then_stopped {A} {B} p q lp lq ts s e = by_first (bind_err (p.read ts) (λ a. q.
     by_second : (a : A × List Lexeme) → p.read ts ≡ Ok a → (q.read a.1 ≡ Err s) ⊎ ((b : B × List Lexeme) × (q.read a.1 ≡ Ok b) × (paired a.0 b.0 b.1 ≡ Err s)) → Stopped (p then q) ts s
     by_second a h (inl g) = second_stopped p q ts a.0 a.1 s (lp.found ts a.0 a.1 h) (lq.stopped a.1 s g)
     by_second a h (inr g) = absurd (cc g.2)
+
     by_first : (p.read ts ≡ Err s) ⊎ ((a : A × List Lexeme) × (p.read ts ≡ Ok a) × ((q.read a.1 >>= λ b. paired a.0 b.0 b.1) ≡ Err s)) → Stopped (p then q) ts s
     by_first (inl h) = first_stopped p q ts s (lp.stopped ts s h) lq.example
     by_first (inr h) = by_second h.0 h.1 (bind_err (q.read h.0.1) (λ b. paired h.0.0 b.0 b.1) s h.2)

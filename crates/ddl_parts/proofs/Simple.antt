@@ -112,25 +112,25 @@ seen_err f (Err u) s e = cc
 pub seen_laws : {A B : Type 0} (f : A → B) (p : Part A) → Lawful p → Lawful (seen f p)
 seen_laws {A} {B} f p lp = record {
   found = λ ts w rest e.
-    let o = seen_ok f (p.read ts) w rest e in
-    let h = lp.found ts o.0 rest o.1 in
-    record {
-      front = h.front;
-      parts = h.parts;
-      spells = (o.0, o.2, h.spells);
-      local = λ t behind is other. ap (seen_at f) (h.local t behind is other) ∙ ap (λ (u : B). gives u (t ∷ other)) (sym o.2);
-    };
+      let o = seen_ok f (p.read ts) w rest e in
+      let h = lp.found ts o.0 rest o.1 in
+      record {
+        front = h.front;
+        parts = h.parts;
+        spells = (o.0, o.2, h.spells);
+        local = λ t behind is other. ap (seen_at f) (h.local t behind is other) ∙ ap (λ (u : B). gives u (t ∷ other)) (sym o.2);
+      };
   only = λ w front rest spells free. ap (seen_at f) (lp.only spells.0 front rest spells.2 free) ∙ ap (λ (u : B). gives u rest) (sym spells.1);
   stopped = λ ts s e.
-    let h = lp.stopped ts s (seen_err f (p.read ts) s e) in
-    record {
-      front = h.front;
-      parts = h.parts;
-      value = f h.value;
-      more = h.more;
-      finished = (h.value, refl, h.finished);
-      local = λ t behind is other. ap (seen_at f) (h.local t behind is other);
-    };
+      let h = lp.stopped ts s (seen_err f (p.read ts) s e) in
+      record {
+        front = h.front;
+        parts = h.parts;
+        value = f h.value;
+        more = h.more;
+        finished = (h.value, refl, h.finished);
+        local = λ t behind is other. ap (seen_at f) (h.local t behind is other);
+      };
   example = record { value = f lp.example.value; tokens = lp.example.tokens; spells = (lp.example.value, refl, lp.example.spells) };
 }
 

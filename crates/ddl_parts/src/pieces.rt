@@ -5,7 +5,6 @@ ghost use Rattle.ddl_parts.specs.Lexemes.{Lexeme, is_word, is_sign, is_sign_kind
 ghost use Rattle.ddl_parts.specs.Leaves.{name, literal, name_in, text_in};
 ghost use Rattle.ddl_parts.specs.Parts.{Part, mark, stop};
 ghost use Rattle.ddl_parts.specs.Pieces.{lexeme_of, lexemes, are_joined, GivesPlace, GivesPart};
-
 ghost use Rattle.ddl_parts.specs.declared.fault.ReadError.TheVariants.{Halted};
 
 use crate::fault::{Halt, ReadError};
@@ -205,7 +204,12 @@ fn sign_at(text: &[u8], pieces: &[Piece], at: usize, byte: u8) -> Result<usize, 
 }
 
 #[tactic(auto, unfolding(crate::specs::Leaves::name_value))]
-fn name_at(alloc: Global, text: &[u8], pieces: &[Piece], at: usize) -> Result<(Name, usize), ReadError>
+fn name_at(
+    alloc: Global,
+    text: &[u8],
+    pieces: &[Piece],
+    at: usize,
+) -> Result<(Name, usize), ReadError>
     requires { are_joined (length text.now) pieces.now ≡ true }
     ensures { GivesPart (lexemes text.now pieces.now) (λ n. n) result (name.read (drop at (lexemes text.now pieces.now))) }
 {
@@ -220,7 +224,12 @@ fn name_at(alloc: Global, text: &[u8], pieces: &[Piece], at: usize) -> Result<(N
 }
 
 #[tactic(auto, unfolding(crate::specs::Leaves::literal_value))]
-fn literal_at(alloc: Global, text: &[u8], pieces: &[Piece], at: usize) -> Result<(Text, usize), ReadError>
+fn literal_at(
+    alloc: Global,
+    text: &[u8],
+    pieces: &[Piece],
+    at: usize,
+) -> Result<(Text, usize), ReadError>
     requires { are_joined (length text.now) pieces.now ≡ true }
     ensures { GivesPart (lexemes text.now pieces.now) (λ t. t) result (literal.read (drop at (lexemes text.now pieces.now))) }
 {

@@ -55,9 +55,19 @@ altered_laws =
     one_of_laws (owned_name (codes "schema") owned.Schema)
     (owned_path (codes "type") owned.Type ∷ owned_path (codes "domain") owned.Domain ∷ owned_path (codes "table") owned.Table
     ∷ owned_path (codes "sequence") owned.Sequence ∷ owned_path (codes "view") owned.View ∷ owned_name (codes "database") owned.Database ∷ [])
-    refl
-    (owned_name_laws (codes "schema") owned.Schema, (owned_path_laws (codes "type") owned.Type, (owned_path_laws (codes "domain") owned.Domain, (owned_path_laws (codes "table") owned.Table,
-    (owned_path_laws (codes "sequence") owned.Sequence, (owned_path_laws (codes "view") owned.View, owned_name_laws (codes "database") owned.Database))))))
+    refl (
+      owned_name_laws (codes "schema") owned.Schema,
+      (
+        owned_path_laws (codes "type") owned.Type,
+        (
+          owned_path_laws (codes "domain") owned.Domain,
+          (
+            owned_path_laws (codes "table") owned.Table,
+            (owned_path_laws (codes "sequence") owned.Sequence, (owned_path_laws (codes "view") owned.View, owned_name_laws (codes "database") owned.Database)),
+          ),
+        ),
+      ),
+    )
 
 abbrev value_end : Part (List ℕ)
 value_end = literal ◂ is_sign 44 ◂ is_word (codes "false") ◂ is_sign 41 ◂ semicolon

@@ -201,12 +201,14 @@ fails_by n behind text at le enough fault (Some start) first e = by_statement (b
   where
     c : Collected
     c = collected text at
+
     by_others : (s : Option Stmt) → parsed text at ≡ Ok s → (statements_within n text c.end ≡ Err fault) ⊎ ((more : List Located) × (statements_within n text c.end ≡ Ok more) × (read_all (listed s start c.end more) ≡ Err fault)) → FailsAt text at fault
     by_others s is (inl f) =
         let lies = bounds text at le in
         let past = lies.2 start first in
         later at s start c.end fault (a_statement text at s start first is) (behind text c.end lies.1 (omega (arith, past)) fault f)
     by_others s is (inr f) = absurd (cc f.2)
+
     by_statement : (parsed text at ≡ Err fault) ⊎ ((s : Option Stmt) × (parsed text at ≡ Ok s) × ((statements_within n text c.end >>= λ more. Ok (listed s start c.end more)) ≡ Err fault)) → FailsAt text at fault
     by_statement (inl f) = stuck at start fault first (is_stuck text at fault f)
     by_statement (inr f) = by_others f.0 f.1 (bind_err (statements_within n text c.end) (λ more. Ok (listed f.0 start c.end more)) fault f.2)

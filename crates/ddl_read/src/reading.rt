@@ -131,7 +131,15 @@ pub fn read_stmts(alloc: Global, text: &[u8]) -> Result<Vec<Located>, ReadStmtsE
             return Ok(statements);
         };
         let pieces = Pieces::new(text, pieces);
-        add_statement(alloc, text.len(), &pieces, fault, start, end, &mut statements)?;
+        add_statement(
+            alloc,
+            text.len(),
+            &pieces,
+            fault,
+            start,
+            end,
+            &mut statements,
+        )?;
         at = end;
     }
 }

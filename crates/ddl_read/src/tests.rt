@@ -15,15 +15,36 @@ const CASES: &[(&str, &str)] = &[
     ("CREATE SCHEMA p,ublic;", "Unknown(15)"),
     ("C )REATE SCHEMA a;", "Unknown(0)"),
     ("CREATE SCHEMA \"\";", "Unknown(14)"),
-    ("ALTER SCHEMA public OWNER TO postgres;", "0..38 ALTER SCHEMA public OWNER TO postgres;\n"),
-    ("ALTER DATABASE postgres OWNER TO postgres;", "0..42 ALTER DATABASE postgres OWNER TO postgres;\n"),
-    ("ALTER VIEW a.u OWNER TO eve;", "0..28 ALTER VIEW a.u OWNER TO eve;\n"),
-    ("ALTER TABLE a.t OWNER TO eve;", "0..29 ALTER TABLE a.t OWNER TO eve;\n"),
+    (
+        "ALTER SCHEMA public OWNER TO postgres;",
+        "0..38 ALTER SCHEMA public OWNER TO postgres;\n",
+    ),
+    (
+        "ALTER DATABASE postgres OWNER TO postgres;",
+        "0..42 ALTER DATABASE postgres OWNER TO postgres;\n",
+    ),
+    (
+        "ALTER VIEW a.u OWNER TO eve;",
+        "0..28 ALTER VIEW a.u OWNER TO eve;\n",
+    ),
+    (
+        "ALTER TABLE a.t OWNER TO eve;",
+        "0..29 ALTER TABLE a.t OWNER TO eve;\n",
+    ),
     ("ALTER SCHEMA public OWNER TO ) postgres;", "Unknown(29)"),
     ("ALTER VI", "Unknown(6)"),
-    ("ALTER DATABASE p )ostgres OWNER TO postgres;", "Unknown(17)"),
-    ("SELECT pg_catalog.set_config('search_path', '', false);", "0..55 SELECT pg_catalog.set_config('search_path', '', false);\n"),
-    ("SELECT pg_catalog.set_config(E'a', '', false);", "Unknown(29)"),
+    (
+        "ALTER DATABASE p )ostgres OWNER TO postgres;",
+        "Unknown(17)",
+    ),
+    (
+        "SELECT pg_catalog.set_config('search_path', '', false);",
+        "0..55 SELECT pg_catalog.set_config('search_path', '', false);\n",
+    ),
+    (
+        "SELECT pg_catalog.set_config(E'a', '', false);",
+        "Unknown(29)",
+    ),
     ("ALTER SCHEMA 'x", "Lex(Unclosed(13))"),
     ("ALTER x 'y", "Unknown(6)"),
 ];

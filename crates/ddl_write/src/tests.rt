@@ -23,7 +23,9 @@ fn written(alloc: Global, stmt: &Stmt) -> Option<Vec<u8>> {
 #[test]
 fn a_schema_is_written(rt: HostRuntime) -> Result<(), Fail> {
     let alloc = rt.alloc();
-    let stmt = Stmt::CreateSchema { name: name(alloc, "A b").ok().ok_or("memory")? };
+    let stmt = Stmt::CreateSchema {
+        name: name(alloc, "A b").ok().ok_or("memory")?,
+    };
     let out = written(alloc, &stmt).ok_or("not written")?;
     assert_eq!(rt; out.as_slice(), b"CREATE SCHEMA \"A b\";\n".as_slice());
     Ok(())
@@ -35,8 +37,14 @@ fn an_owner_is_written(rt: HostRuntime) -> Result<(), Fail> {
     let schema = name(alloc, "public").ok().ok_or("memory")?;
     let t = name(alloc, "t").ok().ok_or("memory")?;
     let object = Owned::Table(QName { schema, name: t });
-    let stmt = Stmt::OwnerTo { object, role: name(alloc, "user").ok().ok_or("memory")? };
+    let stmt = Stmt::OwnerTo {
+        object,
+        role: name(alloc, "user").ok().ok_or("memory")?,
+    };
     let out = written(alloc, &stmt).ok_or("not written")?;
-    assert_eq!(rt; out.as_slice(), b"ALTER TABLE public.t OWNER TO \"user\";\n".as_slice());
+    assert_eq!(rt;
+        out.as_slice(),
+        b"ALTER TABLE public.t OWNER TO \"user\";\n".as_slice()
+    );
     Ok(())
 }
