@@ -18,6 +18,7 @@ use Rattle.ddl_read.specs.Grammar.{statement, command, created, altered, selecte
 use Rattle.ddl_read.specs.Reading.{◌>>=◌, listed, first_start, fault_by, fault_of, told, no_more, statement_of, statements_by, statements_from, statements_within, statements_of}
 use Rattle.ddl_read.specs.Readings.{IsStatement, Reads, all_read, one_read, IsStuck, FailsAt, no_token, stuck, later}
 use Rattle.ddl_read.proofs.GrammarLaws.{statement_laws}
+use Rattle.ddl_read.proofs.Closed.{takes_all}
 
 -- ---- where collected tokens end
 
@@ -138,7 +139,8 @@ bind_err (Err d) f s e = inl cc
 a_statement : (text : List ℕ) (at : ℕ) (s : Option Stmt) (start : ℕ) → first_start (collected text at).pieces ≡ Some start → parsed text at ≡ Ok s → IsStatement text at s start (collected text at).end
 a_statement text at s start first e =
     let p = is_spelled (length text) (lexemes text (collected text at).pieces) (collected text at).fault s e in
-    record { first = first; taken = p.0; left = p.1; tokens = p.2; spells = p.3; last = refl }
+    let all : lexemes text (collected text at).pieces ≡ p.0 = p.2 ∙ ap (λ (r : List Lexeme). p.0 ++ r) (takes_all text at s p.0 p.1 p.2 p.3) ∙ append-nil p.0 in
+    record { first = first; spells = subst (λ (ts : List Lexeme). statement.Spells s ts) (sym all) p.3; last = refl }
 
 no_more_ok : (fault : Option LexFault) (more : List Located) → no_more fault ≡ Ok more → (fault ≡ None) × ([] ≡ more)
 no_more_ok None more e = (refl, cc)
@@ -186,7 +188,7 @@ reads_only text _ _ (one_read at s start end more is others) le n enough =
     let past = lies.2 start is.first in
     let rest : statements_within k.0 text end ≡ Ok more = reads_only text end more others (rw (← is.last) lies.1) k.0 (omega (arith, past, is.last, k.1)) in
     ap (λ m. statements_within m text at) k.1 ∙ begun k.0 text at (Some start) is.first
-    ∙ ap (λ (r : Result (Option Stmt) DdlFault). r >>= λ s. statements_within k.0 text c.end >>= λ more. Ok (listed s start c.end more)) (is_read (length text) (lexemes text c.pieces) c.fault s is.taken is.left is.tokens is.spells)
+    ∙ ap (λ (r : Result (Option Stmt) DdlFault). r >>= λ s. statements_within k.0 text c.end >>= λ more. Ok (listed s start c.end more)) (is_read (length text) (lexemes text c.pieces) c.fault s (lexemes text c.pieces) [] (sym (append-nil (lexemes text c.pieces))) is.spells)
     ∙ ap (λ (e : ℕ). statements_within k.0 text e >>= λ more. Ok (listed s start e more)) is.last
     ∙ ap (λ (r : Result (List Located) DdlFault). r >>= λ more. Ok (listed s start end more)) rest
 

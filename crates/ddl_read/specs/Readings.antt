@@ -12,13 +12,10 @@ use Rattle.ddl_read.specs.declared.fault.DdlFault.TheVariants.{Lex, Unknown, Lon
 use Rattle.ddl_read.specs.Grammar.{statement}
 use Rattle.ddl_read.specs.Reading.{listed, first_start, fault_by}
 
--- the tokens from a place up to a semicolon begin with a statement, or an empty one; they stand between two places
+-- all tokens from a place up to a semicolon spell a statement, or an empty one; they stand between two places
 pub record IsStatement (text : List ℕ) (at : ℕ) (s : Option Stmt) (start end : ℕ) : Type 0 where
   pub first : first_start (collected text at).pieces ≡ Some start
-  pub taken : List Lexeme
-  pub left : List Lexeme
-  pub tokens : lexemes text (collected text at).pieces ≡ taken ++ left
-  pub spells : statement.Spells s taken
+  pub spells : statement.Spells s (lexemes text (collected text at).pieces)
   pub last : (collected text at).end ≡ end
 
 -- from a place on a text reads as these statements: one after another, up to where no token is left
