@@ -1,0 +1,43 @@
+-- Tokens of a text by their places.
+use Rattle.std.proofs.Common.{◌≡◌, ℕ, zero, suc, ◌+◌, ◌<◌, ◌≤◌, Bool, true, false, List, [], ◌∷◌, length, drop, get_or, map, refl, sym, ap, ◌∙◌, arith, add-one, leb-true, ltb-true, eqb-true}
+use Rattle.std.proofs.lemmas.Bool.{and_parts}
+use Rattle.ddl_parts.specs.declared.pieces.Piece.{Piece}
+use Rattle.ddl_parts.specs.Lexemes.{Lexeme}
+use Rattle.ddl_parts.specs.Pieces.{lexeme_of, lexemes, are_joined, are_joined_from}
+
+read_within : (text : List ℕ) (ps : List Piece) (i : ℕ) (d : Piece) → i < length ps → drop i (lexemes text ps) ≡ lexeme_of text (get_or ps i d) ∷ drop (suc i) (lexemes text ps)
+read_within text [] i d lt = absurd (omega arith)
+read_within text (q ∷ ps) zero d lt = refl
+read_within text (q ∷ ps) (suc i) d lt = read_within text ps i d (omega arith)
+
+pub read_at : (text : List ℕ) (ps : List Piece) (i : ℕ) (d : Piece) → i < length ps → drop i (lexemes text ps) ≡ lexeme_of text (get_or ps i d) ∷ drop (i + 1) (lexemes text ps)
+read_at text ps i d lt = rw (add-one) (read_within text ps i d lt)
+
+pub read_past : (text : List ℕ) (ps : List Piece) (i : ℕ) → length ps ≤ i → drop i (lexemes text ps) ≡ []
+read_past text [] zero le = refl
+read_past text [] (suc i) le = refl
+read_past text (q ∷ ps) zero le = absurd (omega arith)
+read_past text (q ∷ ps) (suc i) le = read_past text ps i (omega arith)
+
+-- a token of a byte at least in a text
+abbrev pub Lies : ℕ → Piece → Type 0
+Lies limit p = (p.from ≤ p.token.start) × (p.token.start < p.token.end) × (p.token.end ≤ limit)
+
+joined_head : (limit at : ℕ) (p : Piece) (ps : List Piece) → are_joined_from limit at (p ∷ ps) ≡ true → Lies limit p × (p.from ≡ at) × (are_joined_from limit p.token.end ps ≡ true)
+unfolding are_joined_from
+joined_head limit at p ps e =
+    let a = and_parts _ _ e in
+    let b = and_parts _ _ a.0 in
+    let c = and_parts _ _ b.0 in
+    let d = and_parts _ _ c.0 in
+    (((let h : at ≤ p.token.start = leb-true _ _ d.1 in let k : p.from ≡ at = eqb-true _ _ d.0 in omega arith), ltb-true _ _ c.1, leb-true _ _ b.1), eqb-true _ _ d.0, a.1)
+
+lies_from : (limit at : ℕ) (ps : List Piece) (i : ℕ) (d : Piece) → are_joined_from limit at ps ≡ true → i < length ps → Lies limit (get_or ps i d)
+lies_from limit at [] i d e lt = absurd (omega arith)
+lies_from limit at (q ∷ ps) zero d e lt = (joined_head limit at q ps e).0
+lies_from limit at (q ∷ ps) (suc i) d e lt = lies_from limit q.token.end ps i d (joined_head limit at q ps e).2 (omega arith)
+
+pub lies_at : (limit : ℕ) (ps : List Piece) (i : ℕ) (d : Piece) → are_joined limit ps ≡ true → i < length ps → Lies limit (get_or ps i d)
+unfolding are_joined
+lies_at limit [] i d e lt = absurd (omega arith)
+lies_at limit (q ∷ ps) i d e lt = lies_from limit q.from (q ∷ ps) i d e lt

@@ -1,0 +1,144 @@
+-- The laws of words, signs, names and literals; key words that differ are told apart.
+use Rattle.std.proofs.Common.{◌≡◌, ℕ, Bool, true, false, List, [], ◌∷◌, ◌++◌, Result, Ok, Err, refl, sym, ap, ◌∙◌, ◌⊎◌, inl, inr, bytes_eq, codes, ◌||◌, eq-eqb}
+use Rattle.std.proofs.lemmas.Bool.{false_from_ne_true}
+use Rattle.std.specs.Str.{str_eq_ignore_ascii_case, str_to_ascii_lowercase, is_utf8, chars}
+use Rattle.std.proofs.Math.Utf8.{encode}
+use Rattle.std.proofs.lemmas.Slice.Eq.{bytes_eq-Decides}
+use Rattle.sql_lex.specs.Bytes.{next_is}
+use Rattle.sql_lex.specs.declared.token.TokenKind.{TokenKind}
+use Rattle.sql_lex.specs.declared.token.TokenKind.TheVariants.{Word, QuotedName, Literal, Number, Sign, MetaLine}
+use Rattle.sql_lex.specs.Meaning.{name_of, literal_of, is_keyword_of, undoubled, inside}
+use Rattle.cat_model.specs.declared.object.QName.{QName}
+use Rattle.ddl_parts.specs.Lexemes.{Lexeme, is_word, is_sign, is_sign_kind, starts, never}
+use Rattle.ddl_parts.specs.Parts.{Part, choose, one, mark, passes, seen, ◌then◌, ◌▸◌, ◌◂◌}
+use Rattle.ddl_parts.specs.Laws.{Lawful, Begins, Avoids, Apart}
+use Rattle.ddl_parts.specs.Leaves.{name, name_value, name_in, is_name, is_name_kind, literal, literal_value, text_in, is_literal, is_literal_kind, qualified}
+use Rattle.ddl_parts.proofs.Steps.{starts-append, starts_neither, avoids_never, avoids_begun}
+use Rattle.ddl_parts.proofs.Simple.{one_laws, one_begins, seen_laws, seen_begins, seen_avoids, mark_laws, mark_begins}
+use Rattle.ddl_parts.proofs.Sequence.{then_laws, then_begins, lead_laws, lead_begins, close_laws, close_begins}
+
+-- ---- tokens that stand for something
+
+abbrev pub a_word : List ℕ → Lexeme
+a_word key = record { gap = 32 ∷ []; kind = Word; word = key; start = 0 }
+
+abbrev pub a_sign : ℕ → Lexeme
+a_sign b = record { gap = []; kind = Sign b; word = b ∷ []; start = 0 }
+
+abbrev pub a_literal : Lexeme
+a_literal = record { gap = 32 ∷ []; kind = Literal; word = 39 ∷ 39 ∷ []; start = 0 }
+
+pub word_is : (key : List ℕ) → is_word key (a_word key) ≡ true
+unfolding is_word is_keyword_of
+word_is key = (bytes_eq-Decides (str_to_ascii_lowercase key) (str_to_ascii_lowercase key)).1 refl
+
+pub sign_is : (b : ℕ) → is_sign b (a_sign b) ≡ true
+unfolding is_sign
+sign_is b = eq-eqb b b refl
+
+pub name_laws : Lawful name
+unfolding name_value name_in name_of is_utf8 chars encode
+name_laws = one_laws name_value (a_word (codes "a")) (codes "a") refl
+
+pub literal_laws : Lawful literal
+unfolding literal_value text_in literal_of undoubled inside next_is is_utf8 chars encode
+literal_laws = one_laws literal_value a_literal [] refl
+
+pub name_begins : Begins is_name name
+unfolding is_name name_value name_in name_of
+name_begins = one_begins name_value is_name by_kind
+  where
+    by : (k : TokenKind) (w : List ℕ) (v : List ℕ) → name_in (name_of k w) ≡ Ok v → is_name_kind k ≡ true
+    by Word w v e = refl
+    by QuotedName w v e = refl
+    by Literal w v e = absurd cc
+    by Number w v e = absurd cc
+    by (Sign b) w v e = absurd cc
+    by MetaLine w v e = absurd cc
+
+    by_kind : (t : Lexeme) (v : List ℕ) → name_value t ≡ Ok v → is_name t ≡ true
+    by_kind t v e = by t.kind t.word v e
+
+pub literal_begins : Begins is_literal literal
+unfolding is_literal literal_value text_in literal_of
+literal_begins = one_begins literal_value is_literal by_kind
+  where
+    by : (k : TokenKind) (w : List ℕ) (v : List ℕ) → text_in (literal_of k w) ≡ Ok v → is_literal_kind k ≡ true
+    by Literal w v e = refl
+    by Word w v e = absurd cc
+    by QuotedName w v e = absurd cc
+    by Number w v e = absurd cc
+    by (Sign b) w v e = absurd cc
+    by MetaLine w v e = absurd cc
+
+    by_kind : (t : Lexeme) (v : List ℕ) → literal_value t ≡ Ok v → is_literal t ≡ true
+    by_kind t v e = by t.kind t.word v e
+
+-- ---- a word or a sign before a part, or behind it
+
+pub word_laws : {A : Type 0} (key : List ℕ) (p : Part A) → Lawful p → Lawful (is_word key ▸ p)
+word_laws key p lp = lead_laws (is_word key) (a_word key) p (word_is key) lp
+
+pub sign_laws : {A : Type 0} (b : ℕ) (p : Part A) → Lawful p → Lawful (is_sign b ▸ p)
+sign_laws b p lp = lead_laws (is_sign b) (a_sign b) p (sign_is b) lp
+
+-- behind a part that never goes on
+pub ended_laws : {A : Type 0} (b : ℕ) (p : Part A) → Lawful p → Apart (is_sign b) p.goes_on → Lawful (p ◂ is_sign b)
+ended_laws b p lp apart = close_laws p (is_sign b) (a_sign b) (sign_is b) lp apart
+
+pub worded_laws : {A : Type 0} (key : List ℕ) (p : Part A) → Lawful p → Apart (is_word key) p.goes_on → Lawful (p ◂ is_word key)
+worded_laws key p lp apart = close_laws p (is_word key) (a_word key) (word_is key) lp apart
+
+pub qualified_laws : Lawful qualified
+qualified_laws =
+    let pair : List ℕ × List ℕ → QName = λ x. record { schema = x.0; name = x.1 } in
+    seen_laws pair (name then (is_sign 46 ▸ name)) (then_laws name (is_sign 46 ▸ name) name_laws (sign_laws 46 name name_laws) (avoids_never (is_sign 46 ▸ name)))
+
+pub qualified_begins : Begins is_name qualified
+qualified_begins =
+    let pair : List ℕ × List ℕ → QName = λ x. record { schema = x.0; name = x.1 } in
+    seen_begins is_name pair (name then (is_sign 46 ▸ name)) (then_begins is_name name (is_sign 46 ▸ name) name_begins)
+
+-- ---- tokens that are told apart
+
+words_by : (k : TokenKind) (w a b : List ℕ) → str_eq_ignore_ascii_case a b ≡ false → is_keyword_of k w a ≡ true → is_keyword_of k w b ≡ false
+unfolding is_keyword_of
+words_by Word w a b differ e = let same = (bytes_eq-Decides (str_to_ascii_lowercase w) (str_to_ascii_lowercase a)).0 e in ap (λ (x : List ℕ). bytes_eq x (str_to_ascii_lowercase b)) same ∙ differ
+words_by QuotedName w a b differ e = refl
+words_by Literal w a b differ e = refl
+words_by Number w a b differ e = refl
+words_by (Sign c) w a b differ e = refl
+words_by MetaLine w a b differ e = refl
+
+pub words_apart : (a b : List ℕ) → str_eq_ignore_ascii_case a b ≡ false → Apart (is_word a) (is_word b)
+unfolding is_word
+words_apart a b differ t e = words_by t.kind t.word a b differ e
+
+word_no_sign_by : (k : TokenKind) (w key : List ℕ) (b : ℕ) → is_keyword_of k w key ≡ true → is_sign_kind b k ≡ false
+unfolding is_keyword_of
+word_no_sign_by Word w key b e = refl
+word_no_sign_by QuotedName w key b e = refl
+word_no_sign_by Literal w key b e = refl
+word_no_sign_by Number w key b e = refl
+word_no_sign_by (Sign c) w key b e = absurd cc
+word_no_sign_by MetaLine w key b e = refl
+
+pub word_no_sign : (key : List ℕ) (b : ℕ) → Apart (is_word key) (is_sign b)
+unfolding is_word is_sign
+word_no_sign key b t e = word_no_sign_by t.kind t.word key b e
+
+-- ---- one of two parts that both avoid some tokens
+
+pub choose_avoids : {A : Type 0} (test which : Lexeme → Bool) (p q : Part A) → Avoids test p → Avoids test q → Avoids test (choose which p q)
+choose_avoids {A} test which p q a b v ts rest spells free = by_part spells (starts_neither p.goes_on q.goes_on rest free)
+  where
+    by_part : p.Spells v ts ⊎ q.Spells v ts → (starts p.goes_on rest ≡ false) × (starts q.goes_on rest ≡ false) → starts test (ts ++ rest) ≡ false
+    by_part (inl h) f = a v ts rest h f.0
+    by_part (inr h) f = b v ts rest h f.1
+
+-- what begins with one word doesn't begin with another
+pub word_avoids : {A : Type 0} (other key : List ℕ) (p : Part A) → str_eq_ignore_ascii_case key other ≡ false → Begins (is_word key) p → Avoids (is_word other) p
+word_avoids other key p differ begins = avoids_begun (is_word key) (is_word other) p begins (words_apart key other differ)
+
+pub sign_avoids : {A : Type 0} (b : ℕ) (key : List ℕ) (p : Part A) → Begins (is_word key) p → Avoids (is_sign b) p
+sign_avoids b key p begins = avoids_begun (is_word key) (is_sign b) p begins (word_no_sign key b)

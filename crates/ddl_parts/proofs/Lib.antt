@@ -1,0 +1,11 @@
+pub mod Steps
+pub mod Simple
+pub mod Sequence
+pub mod Choice
+pub mod Repeated
+pub mod Machines
+pub mod Joined
+pub mod Collects
+pub mod Leads
+pub mod RunLaws
+pub mod Tables

@@ -1,0 +1,206 @@
+-- The laws of expressions and types.
+use Rattle.std.proofs.Common.{◌≡◌, ℕ, Bool, true, false, cond, not, List, [], ◌∷◌, Option, Some, None, Result, Ok, Err, refl, sym, ap, ◌∙◌, ◌||◌, codes}
+use Rattle.std.proofs.lemmas.Bool.{or_parts}
+use Rattle.std.specs.Str.{is_utf8, chars}
+use Rattle.std.proofs.Math.Utf8.{encode}
+use Rattle.sql_lex.specs.declared.token.TokenKind.{TokenKind}
+use Rattle.sql_lex.specs.declared.token.TokenKind.TheVariants.{Word, QuotedName, Literal, Number, Sign, MetaLine}
+use Rattle.sql_lex.specs.Meaning.{is_keyword_of, name_of}
+use Rattle.ddl_parts.specs.Lexemes.{Lexeme, is_word, is_sign, source}
+use Rattle.ddl_parts.specs.Parts.{Part, Machine, run, runs_of, seen}
+use Rattle.ddl_parts.specs.Laws.{Lawful}
+use Rattle.ddl_parts.specs.Leaves.{name_value, name_in}
+use Rattle.ddl_parts.specs.Expressions.{Bracket, round, square, Spot, first, first_not, later_not, inside, closed as shut, Nest, nested, nest_step, nest_done, ends_run, step_by, behind_bounded, behind_kind, moved, expression, default_text, default_and_null, without_not_null}
+use Rattle.ddl_parts.specs.Types.{TypeSpot, begin, first_word, schema, dotted, path, words, bracket, number, comma, behind, array, closed, typing, type_step, type_done, type_goes_on, is_type_word, is_number, type_part, type_of}
+use Rattle.ddl_parts.proofs.Simple.{seen_laws}
+use Rattle.ddl_parts.proofs.Machines.{CanEnd, machine_laws}
+use Rattle.ddl_parts.proofs.Leads.{a_word, a_sign}
+
+abbrev a_number : Lexeme
+a_number = record { gap = 32 ∷ []; kind = Number; word = 48 ∷ []; start = 0 }
+
+-- ---- expressions
+
+abbrev nest : List Bracket → Spot → Nest
+nest brackets spot = record { brackets = brackets; spot = spot }
+
+abbrev closing : Bracket → Lexeme
+closing round = a_sign 41
+closing square = a_sign 93
+
+abbrev closers : List Bracket → List Lexeme
+closers [] = []
+closers (b ∷ bs) = closing b ∷ closers bs
+
+abbrev finish_by : Spot → List Bracket → List Lexeme
+finish_by first [] = a_number ∷ []
+finish_by _ bs = closers bs
+
+abbrev last_by : Spot → List Bracket → Nest
+last_by first [] = nest [] inside
+last_by spot [] = nest [] spot
+last_by _ (b ∷ bs) = nest [] inside
+
+closes : (bounded takes : Bool) (bs : List Bracket) → run (nested bounded takes) (Some (nest bs inside)) (closers bs) ≡ Some (nest [] inside)
+unfolding nest_step
+closes bounded takes [] = refl
+closes bounded takes (round ∷ bs) = closes bounded takes bs
+closes bounded takes (square ∷ bs) = closes bounded takes bs
+
+finishes : (bounded takes : Bool) (spot : Spot) (bs : List Bracket) → run (nested bounded takes) (Some (nest bs spot)) (finish_by spot bs) ≡ Some (last_by spot bs)
+unfolding nest_step ends_run is_word is_sign is_keyword_of
+finishes true takes first [] = refl
+finishes false takes first [] = refl
+finishes bounded takes first_not [] = refl
+finishes bounded takes later_not [] = refl
+finishes bounded takes inside [] = refl
+finishes bounded takes shut [] = refl
+finishes bounded takes first (round ∷ bs) = closes bounded takes bs
+finishes bounded takes first (square ∷ bs) = closes bounded takes bs
+finishes bounded takes first_not (round ∷ bs) = closes bounded takes bs
+finishes bounded takes first_not (square ∷ bs) = closes bounded takes bs
+finishes bounded takes later_not (round ∷ bs) = closes bounded takes bs
+finishes bounded takes later_not (square ∷ bs) = closes bounded takes bs
+finishes bounded takes inside (round ∷ bs) = closes bounded takes bs
+finishes bounded takes inside (square ∷ bs) = closes bounded takes bs
+finishes bounded takes shut (round ∷ bs) = closes bounded takes bs
+finishes bounded takes shut (square ∷ bs) = closes bounded takes bs
+
+inside_flat : (spot : Spot) (bs : List Bracket) → nest_done (nest bs spot) ≡ true → bs ≡ []
+unfolding nest_done
+inside_flat first [] e = refl
+inside_flat first_not [] e = refl
+inside_flat later_not [] e = refl
+inside_flat inside [] e = refl
+inside_flat shut [] e = refl
+inside_flat first (b ∷ bs) e = absurd cc
+inside_flat first_not (b ∷ bs) e = absurd cc
+inside_flat later_not (b ∷ bs) e = absurd cc
+inside_flat inside (b ∷ bs) e = absurd cc
+inside_flat shut (b ∷ bs) e = absurd cc
+
+last_done : (spot : Spot) (bs : List Bracket) → nest_done (last_by spot bs) ≡ true
+unfolding nest_done
+last_done first [] = refl
+last_done first (b ∷ bs) = refl
+last_done first_not [] = refl
+last_done first_not (b ∷ bs) = refl
+last_done later_not [] = refl
+last_done later_not (b ∷ bs) = refl
+last_done inside [] = refl
+last_done inside (b ∷ bs) = refl
+last_done shut [] = refl
+last_done shut (b ∷ bs) = refl
+
+not_false : (b : Bool) → not b ≡ false → b ≡ true
+not_false true e = refl
+not_false false e = absurd cc
+
+covered : (bounded takes : Bool) (s : Nest) (t : Lexeme) → nest_done s ≡ true → not (ends_run bounded t) ≡ false → nest_step bounded takes s t ≡ None
+unfolding nest_step
+covered bounded takes s t done free =
+    ap (step_by bounded takes s.spot t) (inside_flat s.spot s.brackets done)
+    ∙ ap (λ (e : Bool). cond e None (cond bounded (behind_bounded takes s.spot t) (moved (behind_kind t.kind [])))) (not_false (ends_run bounded t) free)
+
+nested_ends : (bounded takes : Bool) → CanEnd (nested bounded takes)
+nested_ends bounded takes = record {
+  finish = λ s. finish_by s.spot s.brackets;
+  last = λ s. last_by s.spot s.brackets;
+  finished = λ s. finishes bounded takes s.spot s.brackets;
+  done = λ s. last_done s.spot s.brackets;
+  covers = covered bounded takes;
+}
+
+pub expression_laws : Lawful expression
+unfolding expression
+expression_laws = seen_laws source (runs_of (nested false false)) (machine_laws (nested false false) (nested_ends false false))
+
+pub default_text_laws : Lawful default_text
+unfolding default_text
+default_text_laws = seen_laws source (runs_of (nested true false)) (machine_laws (nested true false) (nested_ends true false))
+
+pub default_and_null_laws : Lawful default_and_null
+unfolding default_and_null
+default_and_null_laws = seen_laws without_not_null (runs_of (nested true true)) (machine_laws (nested true true) (nested_ends true true))
+
+-- ---- types
+
+type_finish : TypeSpot → List Lexeme
+type_finish begin = a_word (codes "text") ∷ []
+type_finish (first_word short) = []
+type_finish schema = a_sign 46 ∷ a_word (codes "a") ∷ []
+type_finish dotted = a_word (codes "a") ∷ []
+type_finish path = []
+type_finish words = []
+type_finish bracket = a_number ∷ a_sign 41 ∷ []
+type_finish number = a_sign 41 ∷ []
+type_finish comma = a_number ∷ a_sign 41 ∷ []
+type_finish behind = []
+type_finish array = a_sign 93 ∷ []
+type_finish closed = []
+
+type_last : TypeSpot → TypeSpot
+type_last begin = first_word true
+type_last (first_word short) = first_word short
+type_last schema = path
+type_last dotted = path
+type_last path = path
+type_last words = words
+type_last bracket = behind
+type_last number = behind
+type_last comma = behind
+type_last behind = behind
+type_last array = closed
+type_last closed = closed
+
+type_finished : (s : TypeSpot) → run typing (Some s) (type_finish s) ≡ Some (type_last s)
+unfolding type_step type_finish type_last is_type_word is_number is_word is_sign is_keyword_of name_value name_in name_of is_utf8 chars encode
+type_finished begin = refl
+type_finished (first_word short) = refl
+type_finished schema = refl
+type_finished dotted = refl
+type_finished path = refl
+type_finished words = refl
+type_finished bracket = refl
+type_finished number = refl
+type_finished comma = refl
+type_finished behind = refl
+type_finished array = refl
+type_finished closed = refl
+
+type_is_done : (s : TypeSpot) → type_done (type_last s) ≡ true
+unfolding type_done type_last
+type_is_done begin = refl
+type_is_done (first_word short) = refl
+type_is_done schema = refl
+type_is_done dotted = refl
+type_is_done path = refl
+type_is_done words = refl
+type_is_done bracket = refl
+type_is_done number = refl
+type_is_done comma = refl
+type_is_done behind = refl
+type_is_done array = refl
+type_is_done closed = refl
+
+type_covers : (s : TypeSpot) (t : Lexeme) → type_done s ≡ true → type_goes_on t ≡ false → type_step s t ≡ None
+unfolding type_step type_done type_goes_on
+type_covers begin t d free = absurd cc
+type_covers (first_word short) t d free = let a = or_parts (is_type_word t) (is_sign 46 t || (is_sign 40 t || is_sign 91 t)) free in let b = or_parts (is_sign 46 t) (is_sign 40 t || is_sign 91 t) a.1 in let c = or_parts (is_sign 40 t) (is_sign 91 t) b.1 in rw (b.0, a.0, c.0, c.1) refl
+type_covers schema t d free = absurd cc
+type_covers dotted t d free = absurd cc
+type_covers path t d free = refl
+type_covers words t d free = let a = or_parts (is_type_word t) (is_sign 46 t || (is_sign 40 t || is_sign 91 t)) free in let b = or_parts (is_sign 46 t) (is_sign 40 t || is_sign 91 t) a.1 in let c = or_parts (is_sign 40 t) (is_sign 91 t) b.1 in rw (a.0, c.0, c.1) refl
+type_covers bracket t d free = absurd cc
+type_covers number t d free = absurd cc
+type_covers comma t d free = absurd cc
+type_covers behind t d free = let a = or_parts (is_type_word t) (is_sign 46 t || (is_sign 40 t || is_sign 91 t)) free in let b = or_parts (is_sign 46 t) (is_sign 40 t || is_sign 91 t) a.1 in let c = or_parts (is_sign 40 t) (is_sign 91 t) b.1 in rw (a.0, c.1) refl
+type_covers array t d free = absurd cc
+type_covers closed t d free = refl
+
+typing_ends : CanEnd typing
+typing_ends = record { finish = type_finish; last = type_last; finished = type_finished; done = type_is_done; covers = type_covers }
+
+pub type_laws : Lawful type_part
+unfolding type_part
+type_laws = seen_laws type_of (runs_of typing) (machine_laws typing typing_ends)

@@ -1,0 +1,45 @@
+-- The laws of one of several parts by their key words.
+use Rattle.std.proofs.Common.{◌≡◌, ℕ, Bool, true, false, not, ◌&&◌, List, [], ◌∷◌, refl, sym, ap, ◌∙◌}
+use Rattle.std.proofs.lemmas.Bool.{and_parts, not-true}
+use Rattle.std.specs.Str.{str_eq_ignore_ascii_case}
+use Rattle.ddl_parts.specs.Lexemes.{Lexeme, is_word, is_sign}
+use Rattle.ddl_parts.specs.Parts.{Part, Branch, branch, one_of, choose, ◌▸◌}
+use Rattle.ddl_parts.specs.Laws.{Lawful, Begins, Avoids, Apart}
+use Rattle.ddl_parts.proofs.Sequence.{lead_begins}
+use Rattle.ddl_parts.proofs.Choice.{choose_laws}
+use Rattle.ddl_parts.proofs.Leads.{word_laws, word_avoids, choose_avoids, word_no_sign}
+use Rattle.ddl_parts.proofs.Steps.{avoids_begun}
+
+-- the key words are all different
+abbrev pub unlike : {A : Type 0} → List ℕ → Branch A → List (Branch A) → Bool
+unlike key b [] = not (str_eq_ignore_ascii_case b.key key)
+unlike key b (c ∷ rest) = not (str_eq_ignore_ascii_case b.key key) && unlike key c rest
+
+abbrev pub distinct : {A : Type 0} → Branch A → List (Branch A) → Bool
+distinct b [] = true
+distinct b (c ∷ rest) = unlike b.key c rest && distinct c rest
+
+abbrev pub AllLawful : {A : Type 0} → Branch A → List (Branch A) → Type 0
+AllLawful b [] = Lawful b.part
+AllLawful b (c ∷ rest) = Lawful b.part × AllLawful c rest
+
+pub branch_begins : {A : Type 0} (b : Branch A) → Begins (is_word b.key) (branch b)
+branch_begins b = lead_begins (is_word b.key) b.part
+
+pub one_of_avoids : {A : Type 0} (key : List ℕ) (b : Branch A) (rest : List (Branch A)) → unlike key b rest ≡ true → Avoids (is_word key) (one_of b rest)
+one_of_avoids key b [] e = word_avoids key b.key (branch b) (not-true _ e) (branch_begins b)
+one_of_avoids key b (c ∷ rest) e =
+    let h = and_parts (not (str_eq_ignore_ascii_case b.key key)) (unlike key c rest) e in
+    choose_avoids (is_word key) (is_word b.key) (branch b) (one_of c rest) (word_avoids key b.key (branch b) (not-true _ h.0) (branch_begins b)) (one_of_avoids key c rest h.1)
+
+-- no key word is another kind of token
+pub one_of_avoids_others : {A : Type 0} (test : Lexeme → Bool) → ((key : List ℕ) → Apart (is_word key) test) → (b : Branch A) (rest : List (Branch A)) → Avoids test (one_of b rest)
+one_of_avoids_others test apart b [] = avoids_begun (is_word b.key) test (branch b) (branch_begins b) (apart b.key)
+one_of_avoids_others test apart b (c ∷ rest) =
+    choose_avoids test (is_word b.key) (branch b) (one_of c rest) (avoids_begun (is_word b.key) test (branch b) (branch_begins b) (apart b.key)) (one_of_avoids_others test apart c rest)
+
+pub one_of_laws : {A : Type 0} (b : Branch A) (rest : List (Branch A)) → distinct b rest ≡ true → AllLawful b rest → Lawful (one_of b rest)
+one_of_laws b [] e laws = word_laws b.key b.part laws
+one_of_laws b (c ∷ rest) e laws =
+    let h = and_parts (unlike b.key c rest) (distinct c rest) e in
+    choose_laws (is_word b.key) (branch b) (one_of c rest) (word_laws b.key b.part laws.0) (one_of_laws c rest h.1 laws.1) (branch_begins b) (one_of_avoids b.key c rest h.0)

@@ -1,0 +1,14 @@
+use Rattle.ddl_parts.proofs.Leads.{name_laws, literal_laws, qualified_laws}
+use Rattle.ddl_parts.proofs.RunLaws.{expression_laws, default_text_laws, default_and_null_laws, type_laws}
+use Rattle.ddl_parts.proofs.laws.parts_have_their_laws.Goals as goal
+
+pub returns : goal.returns
+returns c = record {
+  name = name_laws;
+  literal = literal_laws;
+  qualified = qualified_laws;
+  expression = expression_laws;
+  default_text = default_text_laws;
+  default_and_null = default_and_null_laws;
+  type_part = type_laws;
+}

@@ -1,0 +1,58 @@
+-- Tokens of a text, one after another, and what the code's readers answer.
+use Rattle.std.specs.Prelude.{◌≡◌, ℕ, Bool, true, ◌&&◌, ◌==◌, nat_le, nat_lt, List, [], ◌∷◌, length, map, drop, slice_range, Result, Ok, Err, ⊤}
+use Rattle.sql_lex.specs.Meaning.{spelling}
+use Rattle.ddl_parts.specs.declared.pieces.Piece.{Piece}
+use Rattle.ddl_parts.specs.declared.fault.Halt.{Halt}
+use Rattle.ddl_parts.specs.declared.fault.ReadError.{ReadError}
+use Rattle.ddl_parts.specs.declared.fault.ReadError.TheVariants as errors
+use Rattle.ddl_parts.specs.Lexemes.{Lexeme}
+use Rattle.ddl_parts.specs.Parts.{Stop, Reading}
+
+abbrev pub lexeme_of : List ℕ → Piece → Lexeme
+lexeme_of text p = record { gap = slice_range text p.from p.token.start; kind = p.token.kind; word = spelling text p.token; start = p.token.start }
+
+abbrev pub lexemes : List ℕ → List Piece → List Lexeme
+lexemes text ps = map (lexeme_of text) ps
+
+-- each begins where the one before ends, has a token of a byte at least, and ends in the text
+unfoldable pub are_joined_from : ℕ → ℕ → List Piece → Bool
+are_joined_from limit at [] = true
+are_joined_from limit at (p ∷ ps) =
+    p.from == at && nat_le at p.token.start && nat_lt p.token.start p.token.end && nat_le p.token.end limit && are_joined_from limit p.token.end ps
+
+unfoldable pub are_joined : ℕ → List Piece → Bool
+are_joined limit [] = true
+are_joined limit (p ∷ ps) = are_joined_from limit p.from (p ∷ ps)
+
+-- a place among tokens stands for those from it on
+abbrev pub halted : List Lexeme → Halt → Stop
+halted ts h = record { long = h.long; rest = drop h.at ts }
+
+abbrev pub Fails : {B : Type 0} → List Lexeme → ReadError → Reading B → Type 0
+Fails ts errors.Memory reading = ⊤
+Fails ts (errors.Halted h) reading = reading ≡ Err (halted ts h)
+
+-- What a reader of the code answered, a value seen by view and the place behind it, is what the part reads, unless
+-- memory ran out.
+abbrev pub GivesPart : {A B : Type 0} → List Lexeme → (A → B) → Result (A × ℕ) ReadError → Reading B → Type 0
+GivesPart ts view (Ok x) reading = reading ≡ Ok (view x.0, drop x.1 ts)
+GivesPart ts view (Err error) reading = Fails ts error reading
+
+-- the same of a part that says no more
+abbrev pub GivesPlace : List Lexeme → Result ℕ ReadError → Reading (Unit {0}) → Type 0
+GivesPlace ts (Ok at) reading = reading ≡ Ok (tt, drop at ts)
+GivesPlace ts (Err error) reading = Fails ts error reading
+
+-- a value, whatever stands behind it
+abbrev pub value_of : {B : Type 0} → Reading B → Result B Stop
+value_of (Ok x) = Ok x.0
+value_of (Err s) = Err s
+
+abbrev pub FailsValue : {B : Type 0} → List Lexeme → ReadError → Result B Stop → Type 0
+FailsValue ts errors.Memory given = ⊤
+FailsValue ts (errors.Halted h) given = given ≡ Err (halted ts h)
+
+-- the value that was read, seen by view
+abbrev pub GivesValue : {A B : Type 0} → List Lexeme → (A → B) → Result A ReadError → Result B Stop → Type 0
+GivesValue ts view (Ok x) given = given ≡ Ok (view x)
+GivesValue ts view (Err error) given = FailsValue ts error given

@@ -1,0 +1,125 @@
+-- The types of columns and domains: words, one of which numbers in brackets may follow, and brackets without anything
+-- for arrays; or a qualified name.
+use Rattle.std.specs.Prelude.{ℕ, Bool, true, false, ◌||◌, ◌&&◌, not, List, [], ◌∷◌, Option, Some, None, Result, Ok, Err, is_ok, if◌then◌else◌, codes}
+use Rattle.std.specs.List.{list_any}
+use Rattle.sql_lex.specs.declared.token.TokenKind.{TokenKind}
+use Rattle.sql_lex.specs.declared.token.TokenKind.TheVariants.{Word, QuotedName, Literal, Number, Sign, MetaLine}
+use Rattle.cat_model.specs.declared.object.QName.{QName}
+use Rattle.cat_model.specs.declared.type_name.TypeName.{TypeName}
+use Rattle.cat_model.specs.declared.type_name.TypeName.TheVariants as type_name
+use Rattle.ddl_parts.specs.Lexemes.{Lexeme, is_word, is_sign, source}
+use Rattle.ddl_parts.specs.Parts.{Part, Machine, runs_of, seen}
+use Rattle.ddl_parts.specs.Leaves.{name_value}
+
+-- words that follow a type and are none of its words
+abbrev pub stop_words : List (List ℕ)
+stop_words =
+    codes "check" ∷ codes "collate" ∷ codes "constraint" ∷ codes "default" ∷ codes "generated" ∷ codes "not" ∷
+    codes "null" ∷ codes "primary" ∷ codes "references" ∷ codes "unique" ∷ []
+
+abbrev pub is_word_kind : TokenKind → Bool
+is_word_kind Word = true
+is_word_kind _ = false
+
+unfoldable pub is_type_word : Lexeme → Bool
+is_type_word t = is_word_kind t.kind && not (list_any (λ w. is_word w t) stop_words)
+
+abbrev pub is_number_kind : TokenKind → Bool
+is_number_kind Number = true
+is_number_kind _ = false
+
+unfoldable pub is_number : Lexeme → Bool
+is_number t = is_number_kind t.kind
+
+-- Where reading a type stands. A first word may be a schema's name, unless it is too long for a name.
+pub data TypeSpot : Type 0 where
+  begin : TypeSpot
+  first_word : Bool → TypeSpot
+  schema : TypeSpot
+  dotted : TypeSpot
+  path : TypeSpot
+  words : TypeSpot
+  bracket : TypeSpot
+  number : TypeSpot
+  comma : TypeSpot
+  behind : TypeSpot
+  array : TypeSpot
+  closed : TypeSpot
+
+abbrev pub if_name : Result (List ℕ) Bool → TypeSpot → Option TypeSpot
+if_name (Ok n) s = Some s
+if_name (Err long) s = None
+
+abbrev pub only_if : Bool → TypeSpot → Option TypeSpot
+only_if b s = if b then Some s else None
+
+abbrev pub more_words : Lexeme → Option TypeSpot
+more_words t =
+    if is_type_word t then Some words
+    else (if is_sign 40 t then Some bracket else only_if (is_sign 91 t) array)
+
+unfoldable pub type_step : TypeSpot → Lexeme → Option TypeSpot
+type_step begin t = if is_type_word t then Some (first_word (is_ok (name_value t))) else if_name (name_value t) schema
+type_step (first_word short) t = if is_sign 46 t then only_if short dotted else more_words t
+type_step schema t = only_if (is_sign 46 t) dotted
+type_step dotted t = if_name (name_value t) path
+type_step path t = None
+type_step words t = more_words t
+type_step bracket t = only_if (is_number t) number
+type_step number t = if is_sign 44 t then Some comma else only_if (is_sign 41 t) behind
+type_step comma t = only_if (is_number t) number
+type_step behind t = if is_type_word t then Some behind else only_if (is_sign 91 t) array
+type_step array t = only_if (is_sign 93 t) closed
+type_step closed t = None
+
+unfoldable pub type_done : TypeSpot → Bool
+type_done begin = false
+type_done (first_word short) = true
+type_done schema = false
+type_done dotted = false
+type_done path = true
+type_done words = true
+type_done bracket = false
+type_done number = false
+type_done comma = false
+type_done behind = true
+type_done array = false
+type_done closed = true
+
+abbrev pub is_long_by : Result (List ℕ) Bool → Bool
+is_long_by (Ok n) = false
+is_long_by (Err long) = long
+
+-- where a name would be read but for its length
+unfoldable pub type_long : TypeSpot → Lexeme → Bool
+type_long begin t = is_long_by (name_value t)
+type_long dotted t = is_long_by (name_value t)
+type_long _ t = false
+
+unfoldable pub type_goes_on : Lexeme → Bool
+type_goes_on t = is_type_word t || (is_sign 46 t || (is_sign 40 t || is_sign 91 t))
+
+abbrev pub typing : Machine
+typing = record {
+  State = TypeSpot;
+  start = begin;
+  step = type_step;
+  done = type_done;
+  long = type_long;
+  goes_on = type_goes_on;
+}
+
+abbrev pub named : Result (List ℕ) Bool → List ℕ
+named (Ok n) = n
+named (Err long) = []
+
+-- the type that tokens spell
+unfoldable pub type_of : List Lexeme → TypeName
+type_of (a ∷ dot ∷ b ∷ rest) =
+    if is_sign 46 dot
+    then type_name.Path (record { schema = named (name_value a); name = named (name_value b) })
+    else type_name.Words (source (a ∷ dot ∷ b ∷ rest))
+type_of ts = type_name.Words (source ts)
+
+unfoldable pub type_part : Part TypeName
+type_part = seen type_of (runs_of typing)

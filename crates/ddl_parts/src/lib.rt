@@ -1,0 +1,16 @@
+//! The parts of the grammar of statements: their definitions, laws and readers.
+#![tactic(auto)]
+
+mod collecting;
+mod fault;
+pub mod laws;
+mod pieces;
+mod qualified;
+
+pub use collecting::{Run, collect};
+pub use fault::{Halt, ReadError};
+pub use pieces::{Piece, Pieces};
+pub use qualified::qualified_name;
+
+#[cfg(test)]
+mod tests;

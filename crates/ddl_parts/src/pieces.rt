@@ -1,0 +1,285 @@
+//! The tokens of a statement.
+ghost use Rattle.std.specs.Prelude.{◌≡◌, ◌≤◌, ◌<◌, ◌+◌, ◌∷◌, [], ℕ, List, length, drop, false, true, Err, IsTrue, IfOk, IfSome, MatchOption, option_map, ◌||◌, ◌==◌};
+ghost use Rattle.std.specs.List.{list_any};
+ghost use Rattle.ddl_parts.specs.Lexemes.{Lexeme, is_word, is_sign, is_sign_kind, starts, start_of};
+ghost use Rattle.ddl_parts.specs.Leaves.{name, literal, name_in, text_in};
+ghost use Rattle.ddl_parts.specs.Parts.{Part, mark, stop};
+ghost use Rattle.ddl_parts.specs.Pieces.{lexeme_of, lexemes, are_joined, GivesPlace, GivesPart};
+ghost use Rattle.ddl_parts.specs.declared.fault.ReadError.TheVariants.{Halted};
+
+use crate::fault::{Halt, ReadError};
+use copy_text::{Name, Text};
+use sql_lex::{Token, TokenKind, is_keyword, literal_text, token_name};
+use std::alloc::Global;
+use std::marker::Model;
+
+/// The most bytes of a name: PostgreSQL's NAMEDATALEN less one.
+const LONGEST_NAME: usize = 63;
+
+/// A token, and where the one before it ends.
+#[derive(Clone, Copy, Debug, PartialEq, Eq)]
+pub struct Piece {
+    /// The end of the token before, or where reading began.
+    pub from: usize,
+    /// The token.
+    pub token: Token,
+}
+
+/// The tokens of a statement in a text. A contract sees each with its bytes.
+#[derive(Debug, Drop)]
+pub struct Pieces<'a> {
+    text: &'a [u8],
+    pieces: Vec<Piece>,
+}
+
+impl<'a> Model for Pieces<'a> {
+    ghost use Rattle.std.specs.Prelude.{◌≡◌, List, length, true};
+    ghost use Rattle.ddl_parts.specs.Lexemes.{Lexeme};
+    ghost use Rattle.ddl_parts.specs.Pieces.{lexemes, are_joined};
+
+    ghost Value = { List Lexeme };
+
+    ghost view = { λ p. lexemes p.text.now p.pieces.items };
+
+    ghost invariant = { λ p. are_joined (length p.text.now) p.pieces.items ≡ true };
+}
+
+impl<'a> Pieces<'a> {
+    /// The tokens of a text that were collected.
+    pub fn new(text: &'a [u8], pieces: Vec<Piece>) -> Pieces<'a>
+        requires { are_joined (length text.now) pieces.items ≡ true }
+        ensures { result ≡ lexemes text.now pieces.items }
+    {
+        Pieces { text, pieces }
+    }
+
+    /// The place of a token's first byte in the text.
+    pub fn start(&self, at: usize) -> Option<usize>
+        ensures { result ≡ start_of (drop at self.now) }
+    {
+        start_at(self.text, &self.pieces, at)
+    }
+
+    /// How many there are.
+    pub fn len(&self) -> usize
+        ensures { result ≡ length self.now }
+    {
+        self.pieces.len()
+    }
+
+    /// The key word at a place, in letters of any case, and the place behind it.
+    pub fn word(&self, at: usize, key: &str) -> Result<usize, ReadError>
+        ensures { GivesPlace self.now result ((mark (is_word key.now)).read (drop at self.now)) }
+    {
+        word_at(self.text, &self.pieces, at, key)
+    }
+
+    /// The token of this one byte at a place, and the place behind it.
+    pub fn sign(&self, at: usize, byte: u8) -> Result<usize, ReadError>
+        ensures { GivesPlace self.now result ((mark (is_sign byte)).read (drop at self.now)) }
+    {
+        sign_at(self.text, &self.pieces, at, byte)
+    }
+
+    /// Whether the key word stands at a place.
+    pub fn is_word(&self, at: usize, key: &str) -> bool
+        ensures { result ≡ starts (is_word key.now) (drop at self.now) }
+    {
+        is_word_at(self.text, &self.pieces, at, key)
+    }
+
+    /// Whether the token of this one byte stands at a place.
+    pub fn is_sign(&self, at: usize, byte: u8) -> bool
+        ensures { result ≡ starts (is_sign byte) (drop at self.now) }
+    {
+        is_sign_at(self.text, &self.pieces, at, byte)
+    }
+
+    /// The name at a place, and the place behind it.
+    pub fn name(&self, alloc: Global, at: usize) -> Result<(Name, usize), ReadError>
+        ensures { GivesPart self.now (λ n. n) result (name.read (drop at self.now)) }
+    {
+        name_at(alloc, self.text, &self.pieces, at)
+    }
+
+    /// The text of the literal at a place, and the place behind it.
+    pub fn literal(&self, alloc: Global, at: usize) -> Result<(Text, usize), ReadError>
+        ensures { GivesPart self.now (λ t. t) result (literal.read (drop at self.now)) }
+    {
+        literal_at(alloc, self.text, &self.pieces, at)
+    }
+}
+
+/// The token at a place.
+fn piece_at(text: &[u8], pieces: &[Piece], at: usize) -> Option<Piece>
+    requires { are_joined (length text.now) pieces.now ≡ true }
+    ensures read { MatchOption result (drop at (lexemes text.now pieces.now) ≡ [])
+        (λ p. (drop at (lexemes text.now pieces.now) ≡ lexeme_of text.now p ∷ drop (at + 1) (lexemes text.now pieces.now)) × (at < length pieces.now)) }
+    ensures lies { IfSome result (λ p. (p.from ≤ p.token.start) × (p.token.start < p.token.end) × (p.token.end ≤ length text.now)) }
+{
+    if at < pieces.len() {
+        Some(pieces[at])
+    } else {
+        None
+    }
+}
+
+fn start_at(text: &[u8], pieces: &[Piece], at: usize) -> Option<usize>
+    requires { are_joined (length text.now) pieces.now ≡ true }
+    ensures { result ≡ start_of (drop at (lexemes text.now pieces.now)) }
+{
+    match piece_at(text, pieces, at) {
+        Some(piece) => Some(piece.token.start),
+        None => None,
+    }
+}
+
+/// Reading stops at a place.
+fn halt<T>(at: usize) -> Result<T, ReadError>
+    ensures { result ≡ Err (Halted (record { long = false; at = at })) }
+{
+    Err(ReadError::Halted(Halt { long: false, at }))
+}
+
+#[tactic(auto, unfolding(crate::specs::Lexemes::is_word))]
+fn is_word_at(text: &[u8], pieces: &[Piece], at: usize, key: &str) -> bool
+    requires { are_joined (length text.now) pieces.now ≡ true }
+    ensures { result ≡ starts (is_word key.now) (drop at (lexemes text.now pieces.now)) }
+{
+    match piece_at(text, pieces, at) {
+        Some(piece) => is_keyword(text, piece.token, key),
+        None => false,
+    }
+}
+
+/// Whether a token of this kind is this byte.
+pub(crate) fn is_sign_kind(kind: TokenKind, byte: u8) -> bool
+    ensures { result ≡ is_sign_kind byte kind }
+{
+    match kind {
+        TokenKind::Sign(sign) => byte == sign,
+        _ => false,
+    }
+}
+
+#[tactic(auto, unfolding(crate::specs::Lexemes::is_sign))]
+fn is_sign_at(text: &[u8], pieces: &[Piece], at: usize, byte: u8) -> bool
+    requires { are_joined (length text.now) pieces.now ≡ true }
+    ensures { result ≡ starts (is_sign byte) (drop at (lexemes text.now pieces.now)) }
+{
+    match piece_at(text, pieces, at) {
+        Some(piece) => is_sign_kind(piece.token.kind, byte),
+        None => false,
+    }
+}
+
+#[tactic(auto, unfolding(crate::specs::Lexemes::is_word))]
+fn word_at(text: &[u8], pieces: &[Piece], at: usize, key: &str) -> Result<usize, ReadError>
+    requires { are_joined (length text.now) pieces.now ≡ true }
+    ensures { GivesPlace (lexemes text.now pieces.now) result ((mark (is_word key.now)).read (drop at (lexemes text.now pieces.now))) }
+{
+    let Some(piece) = piece_at(text, pieces, at) else {
+        return halt(at);
+    };
+    if is_keyword(text, piece.token, key) {
+        Ok(at + 1)
+    } else {
+        halt(at)
+    }
+}
+
+#[tactic(auto, unfolding(crate::specs::Lexemes::is_sign))]
+fn sign_at(text: &[u8], pieces: &[Piece], at: usize, byte: u8) -> Result<usize, ReadError>
+    requires { are_joined (length text.now) pieces.now ≡ true }
+    ensures { GivesPlace (lexemes text.now pieces.now) result ((mark (is_sign byte)).read (drop at (lexemes text.now pieces.now))) }
+{
+    let Some(piece) = piece_at(text, pieces, at) else {
+        return halt(at);
+    };
+    if is_sign_kind(piece.token.kind, byte) {
+        Ok(at + 1)
+    } else {
+        halt(at)
+    }
+}
+
+#[tactic(auto, unfolding(crate::specs::Leaves::name_value))]
+fn name_at(
+    alloc: Global,
+    text: &[u8],
+    pieces: &[Piece],
+    at: usize,
+) -> Result<(Name, usize), ReadError>
+    requires { are_joined (length text.now) pieces.now ≡ true }
+    ensures { GivesPart (lexemes text.now pieces.now) (λ n. n) result (name.read (drop at (lexemes text.now pieces.now))) }
+{
+    let Some(piece) = piece_at(text, pieces, at) else {
+        return halt(at);
+    };
+    let name = name_in(token_name(alloc, text, piece.token)?);
+    match name {
+        Ok(name) => Ok((name, at + 1)),
+        Err(long) => Err(ReadError::Halted(Halt { long, at })),
+    }
+}
+
+#[tactic(auto, unfolding(crate::specs::Leaves::literal_value))]
+fn literal_at(
+    alloc: Global,
+    text: &[u8],
+    pieces: &[Piece],
+    at: usize,
+) -> Result<(Text, usize), ReadError>
+    requires { are_joined (length text.now) pieces.now ≡ true }
+    ensures { GivesPart (lexemes text.now pieces.now) (λ t. t) result (literal.read (drop at (lexemes text.now pieces.now))) }
+{
+    let Some(piece) = piece_at(text, pieces, at) else {
+        return halt(at);
+    };
+    let literal = text_in(literal_text(alloc, text, piece.token)?);
+    match literal {
+        Ok(literal) => Ok((literal, at + 1)),
+        Err(long) => Err(ReadError::Halted(Halt { long, at })),
+    }
+}
+
+/// The name of these bytes; the error says whether it is one but for its length.
+#[tactic(auto, unfolding(crate::specs::Leaves::name_in))]
+fn name_in(bytes: Option<Vec<u8>>) -> Result<Name, bool>
+    ensures { result ≡ name_in (option_map (λ v. v.items) bytes) }
+{
+    let Some(bytes) = bytes else {
+        return Err(false);
+    };
+    if is_no_name(&bytes) {
+        return Err(false);
+    }
+    if bytes.len() > LONGEST_NAME {
+        return Err(true);
+    }
+    match Name::new(bytes) {
+        Some(name) => Ok(name),
+        None => Err(false),
+    }
+}
+
+/// Whether the bytes can be no name, whatever their number: there are none, or one is 0.
+fn is_no_name(bytes: &[u8]) -> bool
+    ensures { result ≡ (length bytes.now == 0 || list_any (λ b. b == 0) bytes.now) }
+{
+    bytes.is_empty() || bytes.contains(&0)
+}
+
+/// The text of these bytes.
+#[tactic(auto, unfolding(crate::specs::Leaves::text_in))]
+fn text_in(bytes: Option<Vec<u8>>) -> Result<Text, bool>
+    ensures { result ≡ text_in (option_map (λ v. v.items) bytes) }
+{
+    let Some(bytes) = bytes else {
+        return Err(false);
+    };
+    match Text::new(bytes) {
+        Some(text) => Ok(text),
+        None => Err(false),
+    }
+}

@@ -1,0 +1,11 @@
+use super::*;
+use std::test::*;
+
+#[test]
+fn a_qualified_name_is_read(rt: HostRuntime) -> Result<(), Fail> {
+    let text = b" Public . \"T\" ; x";
+    let run = collect(rt.alloc(), text, 0).ok().ok_or("memory")?;
+    assert_eq!(rt; run.pieces.len(), 4);
+    assert_eq!(rt; run.end, 16);
+    Ok(())
+}

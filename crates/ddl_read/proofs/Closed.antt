@@ -1,0 +1,190 @@
+-- A statement takes all of its tokens: it ends with a semicolon, and no semicolon stands before the last token.
+use Rattle.std.proofs.Common.{◌≡◌, ℕ, zero, suc, ◌+◌, Bool, true, false, not, cond, ◌&&◌, List, [], ◌∷◌, ◌++◌, Option, Some, None, Result, Ok, Err, refl, sym, ap, ◌∙◌, ◌⊎◌, inl, inr, codes, length}
+use Rattle.std.proofs.lemmas.Bool.{and_parts, and_from}
+use Rattle.sql_lex.specs.declared.token.Token.{Token}
+use Rattle.sql_lex.specs.declared.fault.LexFault.{LexFault}
+use Rattle.sql_lex.specs.Next.{next_token_of}
+use Rattle.cat_model.specs.declared.object.QName.{QName}
+use Rattle.cat_model.specs.declared.grant.Owned.{Owned}
+use Rattle.cat_model.specs.declared.grant.Owned.TheVariants as owned
+use Rattle.cat_model.specs.declared.stmt.Stmt.{Stmt}
+use Rattle.ddl_parts.specs.declared.pieces.Piece.{Piece}
+use Rattle.ddl_parts.specs.Lexemes.{Lexeme, is_word, is_sign, is_sign_kind}
+use Rattle.ddl_parts.specs.Parts.{Part, Branch, branch, one_of, mark, passes, seen, choose, ◌then◌, ◌▸◌, ◌◂◌}
+use Rattle.ddl_parts.specs.Pieces.{lexeme_of, lexemes}
+use Rattle.ddl_parts.specs.Collecting.{Collected, collected, collected_within, collected_by, nothing_more, preceded}
+use Rattle.ddl_parts.specs.Leaves.{name, literal, qualified}
+use Rattle.ddl_read.specs.Grammar.{semicolon, create_schema, created, new_owner, name_and_owner, path_and_owner, owned_name, owned_path, altered, selected, command, statement}
+
+-- ---- the last token
+
+abbrev ends_with : (Lexeme → Bool) → List Lexeme → Bool
+ends_with test [] = false
+ends_with test (t ∷ []) = test t
+ends_with test (t ∷ u ∷ ts) = ends_with test (u ∷ ts)
+
+ends_cons : (test : Lexeme → Bool) (t : Lexeme) (ts : List Lexeme) → ends_with test ts ≡ true → ends_with test (t ∷ ts) ≡ true
+ends_cons test t [] e = absurd cc
+ends_cons test t (u ∷ ts) e = e
+
+ends_append : (test : Lexeme → Bool) (a b : List Lexeme) → ends_with test b ≡ true → ends_with test (a ++ b) ≡ true
+ends_append test [] b e = e
+ends_append test (t ∷ a) b e = ends_cons test t (a ++ b) (ends_append test a b e)
+
+abbrev Closes : {A : Type 0} → (Lexeme → Bool) → Part A → Type 0
+Closes {A} test p = (v : A) (ts : List Lexeme) → p.Spells v ts → ends_with test ts ≡ true
+
+abbrev passes_by : Bool → Result (Unit {0}) Bool
+passes_by b = cond b (Ok tt) (Err false)
+
+passed : (v : Unit {0}) (b : Bool) → passes_by b ≡ Ok v → b ≡ true
+passed v true e = refl
+passed v false e = absurd cc
+
+mark_closes : (test : Lexeme → Bool) → Closes test (mark test)
+mark_closes test v ts spells = ap (ends_with test) spells.1 ∙ passed v (test spells.0) spells.2
+
+then_closes : {A B : Type 0} (test : Lexeme → Bool) (p : Part A) (q : Part B) → Closes test q → Closes test (p then q)
+then_closes test p q closes v ts spells = ap (ends_with test) spells.2 ∙ ends_append test spells.0 spells.1 (closes v.1 spells.1 spells.4)
+
+seen_closes : {A B : Type 0} (test : Lexeme → Bool) (f : A → B) (p : Part A) → Closes test p → Closes test (seen f p)
+seen_closes test f p closes w ts spells = closes spells.0 ts spells.2
+
+choose_closes : {A : Type 0} (test which : Lexeme → Bool) (p q : Part A) → Closes test p → Closes test q → Closes test (choose which p q)
+choose_closes {A} test which p q a b v ts spells = by_part spells
+  where
+    by_part : p.Spells v ts ⊎ q.Spells v ts → ends_with test ts ≡ true
+    by_part (inl h) = a v ts h
+    by_part (inr h) = b v ts h
+
+lead_closes : {A : Type 0} (test which : Lexeme → Bool) (p : Part A) → Closes test p → Closes test (which ▸ p)
+lead_closes test which p closes = seen_closes test (λ x. x.1) (mark which then p) (then_closes test (mark which) p closes)
+
+end_closes : {A : Type 0} (test : Lexeme → Bool) (p : Part A) → Closes test (p ◂ test)
+end_closes test p = seen_closes test (λ x. x.0) (p then mark test) (then_closes test p (mark test) (mark_closes test))
+
+abbrev AllClose : {A : Type 0} → (Lexeme → Bool) → Branch A → List (Branch A) → Type 0
+AllClose test b [] = Closes test b.part
+AllClose test b (c ∷ rest) = Closes test b.part × AllClose test c rest
+
+one_of_closes : {A : Type 0} (test : Lexeme → Bool) (b : Branch A) (rest : List (Branch A)) → AllClose test b rest → Closes test (one_of b rest)
+one_of_closes test b [] closes = lead_closes test (is_word b.key) b.part closes
+one_of_closes test b (c ∷ rest) closes =
+    choose_closes test (is_word b.key) (branch b) (one_of c rest) (lead_closes test (is_word b.key) b.part closes.0) (one_of_closes test c rest closes.1)
+
+-- ---- the kinds
+
+create_schema_closes : Closes semicolon create_schema
+unfolding create_schema
+create_schema_closes v ts spells = end_closes semicolon name spells.0 ts spells.2
+
+created_closes : Closes semicolon created
+unfolding created
+created_closes = one_of_closes semicolon (record { key = codes "schema"; part = create_schema }) [] create_schema_closes
+
+new_owner_closes : Closes semicolon new_owner
+unfolding new_owner
+new_owner_closes =
+    lead_closes semicolon (is_word (codes "owner")) (is_word (codes "to") ▸ (name ◂ semicolon))
+    (lead_closes semicolon (is_word (codes "to")) (name ◂ semicolon) (end_closes semicolon name))
+
+name_and_owner_closes : Closes semicolon name_and_owner
+unfolding name_and_owner
+name_and_owner_closes = then_closes semicolon name new_owner new_owner_closes
+
+path_and_owner_closes : Closes semicolon path_and_owner
+unfolding path_and_owner
+path_and_owner_closes = then_closes semicolon qualified new_owner new_owner_closes
+
+owned_name_closes : (key : List ℕ) (kind : List ℕ → Owned) → Closes semicolon (owned_name key kind).part
+owned_name_closes key kind v ts spells = name_and_owner_closes spells.0 ts spells.2
+
+owned_path_closes : (key : List ℕ) (kind : QName → Owned) → Closes semicolon (owned_path key kind).part
+owned_path_closes key kind v ts spells = path_and_owner_closes spells.0 ts spells.2
+
+altered_closes : Closes semicolon altered
+unfolding altered
+altered_closes =
+    one_of_closes semicolon (owned_name (codes "schema") owned.Schema)
+    (owned_path (codes "type") owned.Type ∷ owned_path (codes "domain") owned.Domain ∷ owned_path (codes "table") owned.Table
+    ∷ owned_path (codes "sequence") owned.Sequence ∷ owned_path (codes "view") owned.View ∷ owned_name (codes "database") owned.Database ∷ [])
+    (owned_name_closes (codes "schema") owned.Schema, (owned_path_closes (codes "type") owned.Type, (owned_path_closes (codes "domain") owned.Domain, (owned_path_closes (codes "table") owned.Table,
+    (owned_path_closes (codes "sequence") owned.Sequence, (owned_path_closes (codes "view") owned.View, owned_name_closes (codes "database") owned.Database))))))
+
+abbrev value_end : Part (List ℕ)
+value_end = literal ◂ is_sign 44 ◂ is_word (codes "false") ◂ is_sign 41 ◂ semicolon
+
+selected_closes : Closes semicolon selected
+unfolding selected
+selected_closes v ts spells =
+    lead_closes semicolon (is_word (codes "pg_catalog")) (is_sign 46 ▸ (is_word (codes "set_config") ▸ (is_sign 40 ▸ (literal then (is_sign 44 ▸ value_end)))))
+    (lead_closes semicolon (is_sign 46) (is_word (codes "set_config") ▸ (is_sign 40 ▸ (literal then (is_sign 44 ▸ value_end))))
+    (lead_closes semicolon (is_word (codes "set_config")) (is_sign 40 ▸ (literal then (is_sign 44 ▸ value_end)))
+    (lead_closes semicolon (is_sign 40) (literal then (is_sign 44 ▸ value_end))
+    (then_closes semicolon literal (is_sign 44 ▸ value_end) (lead_closes semicolon (is_sign 44) value_end (end_closes semicolon (literal ◂ is_sign 44 ◂ is_word (codes "false") ◂ is_sign 41)))))))
+    spells.0 ts spells.2
+
+command_closes : Closes semicolon command
+unfolding command
+command_closes =
+    one_of_closes semicolon (record { key = codes "create"; part = created })
+    (record { key = codes "alter"; part = altered } ∷ record { key = codes "select"; part = selected } ∷ [])
+    (created_closes, (altered_closes, selected_closes))
+
+pub statement_closes : Closes semicolon statement
+unfolding statement
+statement_closes =
+    choose_closes semicolon semicolon (seen (λ x. None) (mark semicolon)) (seen Some command)
+    (seen_closes semicolon (λ x. None) (mark semicolon) (mark_closes semicolon))
+    (seen_closes semicolon Some command command_closes)
+
+-- ---- the tokens that are collected
+
+abbrev only_last : (Lexeme → Bool) → List Lexeme → Bool
+only_last test [] = true
+only_last test (t ∷ []) = true
+only_last test (t ∷ u ∷ ts) = not (test t) && only_last test (u ∷ ts)
+
+not_both : (a b : Bool) → a ≡ true → (not a && b) ≡ true → ⊥
+not_both true b e h = absurd cc
+not_both false b e h = absurd cc
+
+pub nothing_left : (test : Lexeme → Bool) (front rest : List Lexeme) → only_last test (front ++ rest) ≡ true → ends_with test front ≡ true → rest ≡ []
+nothing_left test [] rest last ends = absurd cc
+nothing_left test (t ∷ []) [] last ends = refl
+nothing_left test (t ∷ []) (r ∷ rest) last ends = absurd (not_both (test t) (only_last test (r ∷ rest)) ends last)
+nothing_left test (t ∷ u ∷ front) rest last ends = nothing_left test (u ∷ front) rest (and_parts (not (test t)) (only_last test (u ∷ (front ++ rest))) last).1 ends
+
+abbrev piece_of : ℕ → Token → Piece
+piece_of at t = record { from = at; token = t }
+
+abbrev by_sign : (ℕ → Collected) → ℕ → Token → Bool → Collected
+by_sign behind at t b = preceded (piece_of at t) (cond b (nothing_more t.end None) (behind t.end))
+
+preceded_last : (text : List ℕ) (p : Piece) (ps : List Piece) → semicolon (lexeme_of text p) ≡ false → only_last semicolon (lexemes text ps) ≡ true → only_last semicolon (lexemes text (p ∷ ps)) ≡ true
+preceded_last text p [] none e = refl
+preceded_last text p (q ∷ ps) none e = and_from (not (semicolon (lexeme_of text p))) (only_last semicolon (lexemes text (q ∷ ps))) (ap not none) e
+
+sign_last : (behind : ℕ → Collected) (text : List ℕ) (at : ℕ) (t : Token) → only_last semicolon (lexemes text (behind t.end).pieces) ≡ true → (b : Bool) → is_sign_kind 59 t.kind ≡ b → only_last semicolon (lexemes text (by_sign behind at t b).pieces) ≡ true
+unfolding is_sign
+sign_last behind text at t e true is = refl
+sign_last behind text at t e false is = preceded_last text (piece_of at t) (behind t.end).pieces is e
+
+last_by : (behind : ℕ → Collected) (text : List ℕ) (at : ℕ) (r : Result (Option Token) LexFault) → ((end : ℕ) → only_last semicolon (lexemes text (behind end).pieces) ≡ true) → only_last semicolon (lexemes text (collected_by behind at r).pieces) ≡ true
+last_by behind text at (Err fault) e = refl
+last_by behind text at (Ok None) e = refl
+last_by behind text at (Ok (Some t)) e = sign_last behind text at t (e t.end) (is_sign_kind 59 t.kind) refl
+
+last_within : (n : ℕ) (text : List ℕ) (at : ℕ) → only_last semicolon (lexemes text (collected_within n text at).pieces) ≡ true
+unfolding collected_within
+last_within zero text at = refl
+last_within (suc n) text at = last_by (collected_within n text) text at (next_token_of text at) (λ end. last_within n text end)
+
+pub collected_last : (text : List ℕ) (at : ℕ) → only_last semicolon (lexemes text (collected text at).pieces) ≡ true
+unfolding collected
+collected_last text at = last_within (length text + 1) text at
+
+-- what a statement's tokens begin with is all of them
+pub takes_all : (text : List ℕ) (at : ℕ) (s : Option Stmt) (front rest : List Lexeme) → lexemes text (collected text at).pieces ≡ front ++ rest → statement.Spells s front → rest ≡ []
+takes_all text at s front rest parts spells =
+    nothing_left semicolon front rest (ap (only_last semicolon) (sym parts) ∙ collected_last text at) (statement_closes s front spells)

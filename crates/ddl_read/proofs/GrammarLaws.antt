@@ -1,0 +1,113 @@
+-- The grammar of statements has the laws of a part: what is read is spelled so, what is spelled so is read, and where
+-- reading stops nothing goes on.
+use Rattle.std.proofs.Common.{◌≡◌, ℕ, Bool, true, false, List, [], ◌∷◌, Option, Some, None, refl, codes}
+use Rattle.cat_model.specs.declared.object.QName.{QName}
+use Rattle.cat_model.specs.declared.grant.Owned.{Owned}
+use Rattle.cat_model.specs.declared.grant.Owned.TheVariants as owned
+use Rattle.cat_model.specs.declared.stmt.Stmt.{Stmt}
+use Rattle.cat_model.specs.declared.stmt.Stmt.TheVariants as stmt
+use Rattle.ddl_parts.specs.Lexemes.{Lexeme, is_word, is_sign, never}
+use Rattle.ddl_parts.specs.Parts.{Part, Branch, mark, seen, choose, one_of, ◌then◌, ◌▸◌, ◌◂◌}
+use Rattle.ddl_parts.specs.Laws.{Lawful, Apart, Avoids}
+use Rattle.ddl_parts.specs.Leaves.{name, literal, qualified}
+use Rattle.ddl_parts.proofs.Steps.{avoids_never}
+use Rattle.ddl_parts.proofs.Simple.{seen_laws, seen_begins, seen_avoids, mark_laws, mark_begins}
+use Rattle.ddl_parts.proofs.Sequence.{then_laws}
+use Rattle.ddl_parts.proofs.Choice.{choose_laws}
+use Rattle.ddl_parts.proofs.Leads.{a_sign, sign_is, name_laws, literal_laws, qualified_laws, word_laws, sign_laws, ended_laws, worded_laws, word_no_sign}
+use Rattle.ddl_parts.proofs.Tables.{one_of_laws, one_of_avoids_others}
+use Rattle.ddl_read.specs.Grammar.{semicolon, create_schema, created, new_owner, name_and_owner, path_and_owner, owned_name, owned_path, altered, selected, command, statement}
+
+free : (test : Lexeme → Bool) → Apart test never
+free test t e = refl
+
+create_schema_laws : Lawful create_schema
+unfolding create_schema
+create_schema_laws = seen_laws stmt.CreateSchema (name ◂ semicolon) (ended_laws 59 name name_laws (free semicolon))
+
+created_laws : Lawful created
+unfolding created
+created_laws = one_of_laws (record { key = codes "schema"; part = create_schema }) [] refl create_schema_laws
+
+new_owner_laws : Lawful new_owner
+unfolding new_owner
+new_owner_laws =
+    word_laws (codes "owner") (is_word (codes "to") ▸ (name ◂ semicolon))
+    (word_laws (codes "to") (name ◂ semicolon) (ended_laws 59 name name_laws (free semicolon)))
+
+name_and_owner_laws : Lawful name_and_owner
+unfolding name_and_owner
+name_and_owner_laws = then_laws name new_owner name_laws new_owner_laws (avoids_never new_owner)
+
+path_and_owner_laws : Lawful path_and_owner
+unfolding path_and_owner
+path_and_owner_laws = then_laws qualified new_owner qualified_laws new_owner_laws (avoids_never new_owner)
+
+owned_name_laws : (key : List ℕ) (kind : List ℕ → Owned) → Lawful (owned_name key kind).part
+owned_name_laws key kind = seen_laws (λ x. stmt.OwnerTo (kind x.0) x.1) name_and_owner name_and_owner_laws
+
+owned_path_laws : (key : List ℕ) (kind : QName → Owned) → Lawful (owned_path key kind).part
+owned_path_laws key kind = seen_laws (λ x. stmt.OwnerTo (kind x.0) x.1) path_and_owner path_and_owner_laws
+
+altered_laws : Lawful altered
+unfolding altered
+altered_laws =
+    one_of_laws (owned_name (codes "schema") owned.Schema)
+    (owned_path (codes "type") owned.Type ∷ owned_path (codes "domain") owned.Domain ∷ owned_path (codes "table") owned.Table
+    ∷ owned_path (codes "sequence") owned.Sequence ∷ owned_path (codes "view") owned.View ∷ owned_name (codes "database") owned.Database ∷ [])
+    refl (
+      owned_name_laws (codes "schema") owned.Schema,
+      (
+        owned_path_laws (codes "type") owned.Type,
+        (
+          owned_path_laws (codes "domain") owned.Domain,
+          (
+            owned_path_laws (codes "table") owned.Table,
+            (owned_path_laws (codes "sequence") owned.Sequence, (owned_path_laws (codes "view") owned.View, owned_name_laws (codes "database") owned.Database)),
+          ),
+        ),
+      ),
+    )
+
+abbrev value_end : Part (List ℕ)
+value_end = literal ◂ is_sign 44 ◂ is_word (codes "false") ◂ is_sign 41 ◂ semicolon
+
+value_end_laws : Lawful value_end
+value_end_laws =
+    ended_laws 59 (literal ◂ is_sign 44 ◂ is_word (codes "false") ◂ is_sign 41)
+    (ended_laws 41 (literal ◂ is_sign 44 ◂ is_word (codes "false"))
+    (worded_laws (codes "false") (literal ◂ is_sign 44) (ended_laws 44 literal literal_laws (free (is_sign 44))) (free (is_word (codes "false"))))
+    (free (is_sign 41))) (free semicolon)
+
+selected_laws : Lawful selected
+unfolding selected
+selected_laws =
+    seen_laws (λ x. stmt.SetConfig x.0 x.1) (is_word (codes "pg_catalog") ▸ (is_sign 46 ▸ (is_word (codes "set_config") ▸ (is_sign 40 ▸ (literal then (is_sign 44 ▸ value_end))))))
+    (word_laws (codes "pg_catalog") (is_sign 46 ▸ (is_word (codes "set_config") ▸ (is_sign 40 ▸ (literal then (is_sign 44 ▸ value_end)))))
+    (sign_laws 46 (is_word (codes "set_config") ▸ (is_sign 40 ▸ (literal then (is_sign 44 ▸ value_end))))
+    (word_laws (codes "set_config") (is_sign 40 ▸ (literal then (is_sign 44 ▸ value_end)))
+    (sign_laws 40 (literal then (is_sign 44 ▸ value_end))
+    (then_laws literal (is_sign 44 ▸ value_end) literal_laws (sign_laws 44 value_end value_end_laws) (avoids_never (is_sign 44 ▸ value_end)))))))
+
+command_laws : Lawful command
+unfolding command
+command_laws =
+    one_of_laws (record { key = codes "create"; part = created })
+    (record { key = codes "alter"; part = altered } ∷ record { key = codes "select"; part = selected } ∷ [])
+    refl (created_laws, (altered_laws, selected_laws))
+
+command_avoids : Avoids semicolon command
+unfolding command
+command_avoids =
+    one_of_avoids_others semicolon (λ key. word_no_sign key 59) (record { key = codes "create"; part = created })
+    (record { key = codes "alter"; part = altered } ∷ record { key = codes "select"; part = selected } ∷ [])
+
+-- the grammar of statements has the laws
+pub statement_laws : Lawful statement
+unfolding statement
+statement_laws =
+    choose_laws semicolon (seen (λ x. None) (mark semicolon)) (seen Some command)
+    (seen_laws (λ x. None) (mark semicolon) (mark_laws semicolon (a_sign 59) (sign_is 59)))
+    (seen_laws Some command command_laws)
+    (seen_begins semicolon (λ x. None) (mark semicolon) (mark_begins semicolon))
+    (seen_avoids semicolon Some command command_avoids)

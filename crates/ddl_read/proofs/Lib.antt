@@ -1,0 +1,4 @@
+pub mod Statements
+pub mod GrammarLaws
+pub mod Closed
+pub mod ReadingLaws

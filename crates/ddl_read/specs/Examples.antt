@@ -1,0 +1,29 @@
+-- Worked examples: texts with their statements, or their first fault.
+-- 34 is `"`, 39 is a single quote.
+use Rattle.std.specs.Prelude.{◌≡◌, ℕ, List, [], ◌∷◌, ◌++◌, Ok, Err, codes}
+use Rattle.sql_lex.specs.declared.fault.LexFault.TheVariants.{Unclosed}
+use Rattle.cat_model.specs.declared.grant.Owned.TheVariants as owned
+use Rattle.cat_model.specs.declared.stmt.Stmt.{Stmt}
+use Rattle.cat_model.specs.declared.stmt.Stmt.TheVariants as stmt
+use Rattle.ddl_read.specs.declared.located.Located.{Located}
+use Rattle.ddl_read.specs.declared.fault.DdlFault.TheVariants.{Lex, Unknown, LongName, Incomplete}
+use Rattle.ddl_read.specs.Reading.{statements_of}
+
+abbrev pub located : Stmt → ℕ → ℕ → Located
+located s start end = record { stmt = s; start = start; end = end }
+
+pub record WorkedExamples : Type 0 where
+  pub schema : statements_of (codes "CREATE SCHEMA a;") ≡ Ok (located (stmt.CreateSchema (codes "a")) 0 16 ∷ [])
+  -- create schema "a" ;
+  pub variant : statements_of (codes "create schema " ++ (34 ∷ codes "a") ++ (34 ∷ codes " ;")) ≡ Ok (located (stmt.CreateSchema (codes "a")) 0 19 ∷ [])
+  pub empty : statements_of (codes ";; --") ≡ Ok []
+  pub owner : statements_of (codes "; ALTER TABLE a.t OWNER TO eve;") ≡ Ok (located (stmt.OwnerTo (owned.Table (record { schema = codes "a"; name = codes "t" })) (codes "eve")) 2 31 ∷ [])
+  pub incomplete : statements_of (codes "CREATE SCHEMA") ≡ Err (Incomplete 13)
+  pub unknown : statements_of (codes "CREATE FUNCTION f();") ≡ Err (Unknown 7)
+  -- ALTER SCHEMA 'x
+  pub unclosed : statements_of (codes "ALTER SCHEMA " ++ (39 ∷ codes "x")) ≡ Err (Lex (Unclosed 13))
+  -- ALTER x 'y: the least place counts
+  pub least : statements_of (codes "ALTER x " ++ (39 ∷ codes "y")) ≡ Err (Unknown 6)
+  -- CREATE SCHEMA "";
+  pub no_name : statements_of (codes "CREATE SCHEMA " ++ (34 ∷ 34 ∷ codes ";")) ≡ Err (Unknown 14)
+  pub long_name : statements_of (codes "CREATE SCHEMA a123456789b123456789c123456789d123456789e123456789f123456789g123;") ≡ Err (LongName 14)

@@ -1,0 +1,68 @@
+-- The grammar of statements: what stands behind the words that tell them apart, kind by kind.
+-- Key words stand in letters of any case, names bare or quoted; white space and comments stand anywhere between tokens.
+use Rattle.std.specs.Prelude.{ℕ, Bool, false, ◌||◌, List, [], ◌∷◌, Option, Some, None, codes}
+use Rattle.cat_model.specs.declared.object.QName.{QName}
+use Rattle.cat_model.specs.declared.grant.Owned.{Owned}
+use Rattle.cat_model.specs.declared.grant.Owned.TheVariants as owned
+use Rattle.cat_model.specs.declared.stmt.Stmt.{Stmt}
+use Rattle.cat_model.specs.declared.stmt.Stmt.TheVariants as stmt
+use Rattle.ddl_parts.specs.Lexemes.{Lexeme, is_word, is_sign}
+use Rattle.ddl_parts.specs.Parts.{Part, Branch, mark, seen, choose, one_of, ◌then◌, ◌▸◌, ◌◂◌}
+use Rattle.ddl_parts.specs.Leaves.{name, literal, qualified}
+
+abbrev pub semicolon : Lexeme → Bool
+semicolon = is_sign 59
+
+-- ---- CREATE ..
+
+-- SCHEMA name;
+unfoldable pub create_schema : Part Stmt
+create_schema = seen stmt.CreateSchema (name ◂ semicolon)
+
+unfoldable pub created : Part Stmt
+created = one_of (record { key = codes "schema"; part = create_schema }) []
+
+-- ---- ALTER ..
+
+-- OWNER TO role;
+unfoldable pub new_owner : Part (List ℕ)
+new_owner = is_word (codes "owner") ▸ (is_word (codes "to") ▸ (name ◂ semicolon))
+
+-- name OWNER TO role;
+unfoldable pub name_and_owner : Part (List ℕ × List ℕ)
+name_and_owner = name then new_owner
+
+-- path OWNER TO role;
+unfoldable pub path_and_owner : Part (QName × List ℕ)
+path_and_owner = qualified then new_owner
+
+abbrev pub owned_name : List ℕ → (List ℕ → Owned) → Branch Stmt
+owned_name key kind = record { key = key; part = seen (λ x. stmt.OwnerTo (kind x.0) x.1) name_and_owner }
+
+abbrev pub owned_path : List ℕ → (QName → Owned) → Branch Stmt
+owned_path key kind = record { key = key; part = seen (λ x. stmt.OwnerTo (kind x.0) x.1) path_and_owner }
+
+unfoldable pub altered : Part Stmt
+altered =
+    one_of (owned_name (codes "schema") owned.Schema)
+    (owned_path (codes "type") owned.Type ∷ owned_path (codes "domain") owned.Domain ∷ owned_path (codes "table") owned.Table
+    ∷ owned_path (codes "sequence") owned.Sequence ∷ owned_path (codes "view") owned.View ∷ owned_name (codes "database") owned.Database ∷ [])
+
+-- ---- SELECT ..
+
+-- pg_catalog.set_config('name', 'value', false);
+unfoldable pub selected : Part Stmt
+selected =
+    seen (λ x. stmt.SetConfig x.0 x.1)
+    (is_word (codes "pg_catalog") ▸ (is_sign 46 ▸ (is_word (codes "set_config") ▸ (is_sign 40 ▸ (literal then (is_sign 44 ▸ (literal ◂ is_sign 44 ◂ is_word (codes "false") ◂ is_sign 41 ◂ semicolon)))))))
+
+-- ---- statements
+
+unfoldable pub command : Part Stmt
+command =
+    one_of (record { key = codes "create"; part = created })
+    (record { key = codes "alter"; part = altered } ∷ record { key = codes "select"; part = selected } ∷ [])
+
+-- a semicolon alone is an empty statement
+unfoldable pub statement : Part (Option Stmt)
+statement = choose semicolon (seen (λ x. None) (mark semicolon)) (seen Some command)

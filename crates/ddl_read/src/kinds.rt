@@ -1,0 +1,157 @@
+//! Readers of the kinds of statement, each behind the words that tell it apart.
+ghost use Rattle.std.specs.Prelude.{◌≡◌, drop};
+ghost use Rattle.cat_model.specs.declared.stmt.Stmt.TheVariants.{OwnerTo};
+ghost use Rattle.ddl_parts.specs.Pieces.{GivesPart, GivesValue, value_of};
+ghost use Rattle.ddl_read.specs.Grammar.{create_schema, created, new_owner, altered, selected, name_and_owner, path_and_owner, command, statement};
+
+use cat_model::{Owned, QName, Stmt};
+use copy_text::Name;
+use ddl_parts::{Pieces, ReadError, qualified_name};
+use std::alloc::Global;
+
+#[tactic(auto, unfolding(crate::specs::Grammar::create_schema))]
+fn create_schema(alloc: Global, pieces: &Pieces<'_>, at: usize) -> Result<(Stmt, usize), ReadError>
+    ensures { GivesPart pieces.now (λ s. s) result (create_schema.read (drop at pieces.now)) }
+{
+    let (name, at) = pieces.name(alloc, at)?;
+    let at = pieces.sign(at, b';')?;
+    Ok((Stmt::CreateSchema { name }, at))
+}
+
+#[tactic(auto, unfolding(crate::specs::Grammar::created))]
+fn created(alloc: Global, pieces: &Pieces<'_>, at: usize) -> Result<(Stmt, usize), ReadError>
+    ensures { GivesPart pieces.now (λ s. s) result (created.read (drop at pieces.now)) }
+{
+    let at = pieces.word(at, "schema")?;
+    create_schema(alloc, pieces, at)
+}
+
+#[tactic(auto, unfolding(crate::specs::Grammar::new_owner))]
+fn new_owner(alloc: Global, pieces: &Pieces<'_>, at: usize) -> Result<(Name, usize), ReadError>
+    ensures { GivesPart pieces.now (λ n. n) result (new_owner.read (drop at pieces.now)) }
+{
+    let at = pieces.word(at, "owner")?;
+    let at = pieces.word(at, "to")?;
+    let (role, at) = pieces.name(alloc, at)?;
+    let at = pieces.sign(at, b';')?;
+    Ok((role, at))
+}
+
+#[tactic(auto, unfolding(crate::specs::Grammar::name_and_owner))]
+fn name_and_owner(
+    alloc: Global,
+    pieces: &Pieces<'_>,
+    at: usize,
+) -> Result<((Name, Name), usize), ReadError>
+    ensures { GivesPart pieces.now (λ x. (x.0, x.1)) result (name_and_owner.read (drop at pieces.now)) }
+{
+    let (name, at) = pieces.name(alloc, at)?;
+    let (role, at) = new_owner(alloc, pieces, at)?;
+    Ok(((name, role), at))
+}
+
+#[tactic(auto, unfolding(crate::specs::Grammar::path_and_owner))]
+fn path_and_owner(
+    alloc: Global,
+    pieces: &Pieces<'_>,
+    at: usize,
+) -> Result<((QName, Name), usize), ReadError>
+    ensures { GivesPart pieces.now (λ x. (x.0, x.1)) result (path_and_owner.read (drop at pieces.now)) }
+{
+    let (q, at) = qualified_name(alloc, pieces, at)?;
+    let (role, at) = new_owner(alloc, pieces, at)?;
+    Ok(((q, role), at))
+}
+
+/// What gets the owner.
+fn owner_to(object: Owned, role: Name) -> Stmt
+    ensures { result ≡ OwnerTo object role }
+{
+    Stmt::OwnerTo { object, role }
+}
+
+#[tactic(auto, unfolding(crate::specs::Grammar::altered))]
+fn altered(alloc: Global, pieces: &Pieces<'_>, at: usize) -> Result<(Stmt, usize), ReadError>
+    ensures { GivesPart pieces.now (λ s. s) result (altered.read (drop at pieces.now)) }
+{
+    if pieces.is_word(at, "schema") {
+        let at = pieces.word(at, "schema")?;
+        let ((name, role), at) = name_and_owner(alloc, pieces, at)?;
+        return Ok((owner_to(Owned::Schema(name), role), at));
+    }
+    if pieces.is_word(at, "type") {
+        let at = pieces.word(at, "type")?;
+        let ((q, role), at) = path_and_owner(alloc, pieces, at)?;
+        return Ok((owner_to(Owned::Type(q), role), at));
+    }
+    if pieces.is_word(at, "domain") {
+        let at = pieces.word(at, "domain")?;
+        let ((q, role), at) = path_and_owner(alloc, pieces, at)?;
+        return Ok((owner_to(Owned::Domain(q), role), at));
+    }
+    if pieces.is_word(at, "table") {
+        let at = pieces.word(at, "table")?;
+        let ((q, role), at) = path_and_owner(alloc, pieces, at)?;
+        return Ok((owner_to(Owned::Table(q), role), at));
+    }
+    if pieces.is_word(at, "sequence") {
+        let at = pieces.word(at, "sequence")?;
+        let ((q, role), at) = path_and_owner(alloc, pieces, at)?;
+        return Ok((owner_to(Owned::Sequence(q), role), at));
+    }
+    if pieces.is_word(at, "view") {
+        let at = pieces.word(at, "view")?;
+        let ((q, role), at) = path_and_owner(alloc, pieces, at)?;
+        return Ok((owner_to(Owned::View(q), role), at));
+    }
+    let at = pieces.word(at, "database")?;
+    let ((name, role), at) = name_and_owner(alloc, pieces, at)?;
+    Ok((owner_to(Owned::Database(name), role), at))
+}
+
+#[tactic(auto, unfolding(crate::specs::Grammar::selected))]
+fn selected(alloc: Global, pieces: &Pieces<'_>, at: usize) -> Result<(Stmt, usize), ReadError>
+    ensures { GivesPart pieces.now (λ s. s) result (selected.read (drop at pieces.now)) }
+{
+    let at = pieces.word(at, "pg_catalog")?;
+    let at = pieces.sign(at, b'.')?;
+    let at = pieces.word(at, "set_config")?;
+    let at = pieces.sign(at, b'(')?;
+    let (name, at) = pieces.literal(alloc, at)?;
+    let at = pieces.sign(at, b',')?;
+    let (value, at) = pieces.literal(alloc, at)?;
+    let at = pieces.sign(at, b',')?;
+    let at = pieces.word(at, "false")?;
+    let at = pieces.sign(at, b')')?;
+    let at = pieces.sign(at, b';')?;
+    Ok((Stmt::SetConfig { name, value }, at))
+}
+
+#[tactic(auto, unfolding(crate::specs::Grammar::command))]
+fn command(alloc: Global, pieces: &Pieces<'_>, at: usize) -> Result<(Stmt, usize), ReadError>
+    ensures { GivesPart pieces.now (λ s. s) result (command.read (drop at pieces.now)) }
+{
+    if pieces.is_word(at, "create") {
+        let at = pieces.word(at, "create")?;
+        return created(alloc, pieces, at);
+    }
+    if pieces.is_word(at, "alter") {
+        let at = pieces.word(at, "alter")?;
+        return altered(alloc, pieces, at);
+    }
+    let at = pieces.word(at, "select")?;
+    selected(alloc, pieces, at)
+}
+
+/// The statement at the front of the tokens; an empty one is None.
+#[tactic(auto, unfolding(crate::specs::Grammar::statement))]
+pub(crate) fn statement(alloc: Global, pieces: &Pieces<'_>) -> Result<Option<Stmt>, ReadError>
+    ensures { GivesValue pieces.now (λ s. s) result (value_of (statement.read pieces.now)) }
+{
+    if pieces.is_sign(0, b';') {
+        pieces.sign(0, b';')?;
+        return Ok(None);
+    }
+    let (stmt, _) = command(alloc, pieces, 0)?;
+    Ok(Some(stmt))
+}

@@ -1,0 +1,15 @@
+//! Statements of SQL, read exactly by their grammar.
+#![tactic(auto)]
+
+mod fault;
+mod kinds;
+pub mod laws;
+mod located;
+mod reading;
+
+pub use fault::{DdlFault, ReadStmtsError};
+pub use located::Located;
+pub use reading::read_stmts;
+
+#[cfg(test)]
+mod tests;

@@ -1,0 +1,11 @@
+//! Statements of SQL, each written in one spelling.
+#![tactic(auto)]
+
+mod fault;
+mod writing;
+
+pub use fault::WriteStmtError;
+pub use writing::write_stmt;
+
+#[cfg(test)]
+mod tests;
