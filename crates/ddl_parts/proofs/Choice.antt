@@ -1,9 +1,9 @@
 -- The laws of one of two parts, and of a part that may be left out.
-use Rattle.std.proofs.Common.{◌≡◌, ℕ, Bool, true, false, ◌||◌, List, [], ◌∷◌, ◌++◌, Result, Ok, Err, refl, sym, ap, subst, ◌∙◌, ◌⊎◌, inl, inr, Option, Some, None}
-use Rattle.ddl_parts.specs.Lexemes.{Lexeme, starts, never}
-use Rattle.ddl_parts.specs.Parts.{Stop, Part, Reading, choose, choose_at, optional, nothing, seen}
-use Rattle.ddl_parts.specs.Laws.{Found, Stopped, Example, Lawful, Begins, Avoids, Apart}
-use Rattle.ddl_parts.proofs.Steps.{starts_again, starts_neither, starts-append, gives, avoids_begun}
+use Rattle.std.proofs.Common.{◌≡◌, Bool, true, false, ◌||◌, List, ◌∷◌, ◌++◌, Ok, Err, refl, ap, ◌∙◌, ◌⊎◌, inl, inr, Some, None}
+use Rattle.ddl_parts.specs.Lexemes.{Lexeme, starts}
+use Rattle.ddl_parts.specs.Parts.{Stop, Part, choose, choose_at, optional, nothing, seen}
+use Rattle.ddl_parts.specs.Laws.{Found, Stopped, Lawful, Begins, Avoids, Apart}
+use Rattle.ddl_parts.proofs.Steps.{starts_again, starts_neither, starts-append, avoids_begun}
 use Rattle.ddl_parts.proofs.Simple.{seen_laws, seen_begins, nothing_laws, nothing_avoids}
 
 choose_found : {A : Type 0} (test : Lexeme → Bool) (p q : Part A) → Lawful p → Lawful q → (ts : List Lexeme) (v : A) (rest : List Lexeme) → (choose test p q).read ts ≡ Ok (v, rest) → Found (choose test p q) ts v rest

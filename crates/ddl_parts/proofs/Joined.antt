@@ -1,8 +1,7 @@
 -- Tokens of a text by their places.
-use Rattle.std.proofs.Common.{◌≡◌, ℕ, zero, suc, ◌+◌, ◌<◌, ◌≤◌, Bool, true, false, List, [], ◌∷◌, length, drop, get_or, map, refl, sym, ap, ◌∙◌, arith, add-one, leb-true, ltb-true, eqb-true}
+use Rattle.std.proofs.Common.{◌≡◌, ℕ, zero, suc, ◌+◌, ◌<◌, ◌≤◌, true, List, [], ◌∷◌, length, drop, get_or, refl, arith, add-one, leb-true, ltb-true, eqb-true}
 use Rattle.std.proofs.lemmas.Bool.{and_parts}
 use Rattle.ddl_parts.specs.declared.pieces.Piece.{Piece}
-use Rattle.ddl_parts.specs.Lexemes.{Lexeme}
 use Rattle.ddl_parts.specs.Pieces.{lexeme_of, lexemes, are_joined, are_joined_from}
 
 read_within : (text : List ℕ) (ps : List Piece) (i : ℕ) (d : Piece) → i < length ps → drop i (lexemes text ps) ≡ lexeme_of text (get_or ps i d) ∷ drop (suc i) (lexemes text ps)

@@ -1,6 +1,5 @@
 -- The laws of words, signs, names and literals; key words that differ are told apart.
-use Rattle.std.proofs.Common.{◌≡◌, ℕ, Bool, true, false, List, [], ◌∷◌, ◌++◌, Result, Ok, Err, refl, sym, ap, ◌∙◌, ◌⊎◌, inl, inr, bytes_eq, codes, ◌||◌, eq-eqb}
-use Rattle.std.proofs.lemmas.Bool.{false_from_ne_true}
+use Rattle.std.proofs.Common.{◌≡◌, ℕ, Bool, true, false, List, [], ◌∷◌, ◌++◌, Ok, refl, ap, ◌∙◌, ◌⊎◌, inl, inr, bytes_eq, codes, eq-eqb}
 use Rattle.std.specs.Str.{str_eq_ignore_ascii_case, str_to_ascii_lowercase, is_utf8, chars}
 use Rattle.std.proofs.Math.Utf8.{encode}
 use Rattle.std.proofs.lemmas.Slice.Eq.{bytes_eq-Decides}
@@ -9,13 +8,13 @@ use Rattle.sql_lex.specs.declared.token.TokenKind.{TokenKind}
 use Rattle.sql_lex.specs.declared.token.TokenKind.TheVariants.{Word, QuotedName, Literal, Number, Sign, MetaLine}
 use Rattle.sql_lex.specs.Meaning.{name_of, literal_of, is_keyword_of, undoubled, inside}
 use Rattle.cat_model.specs.declared.object.QName.{QName}
-use Rattle.ddl_parts.specs.Lexemes.{Lexeme, is_word, is_sign, is_sign_kind, starts, never}
-use Rattle.ddl_parts.specs.Parts.{Part, choose, one, mark, passes, seen, ◌then◌, ◌▸◌, ◌◂◌}
+use Rattle.ddl_parts.specs.Lexemes.{Lexeme, is_word, is_sign, is_sign_kind, starts}
+use Rattle.ddl_parts.specs.Parts.{Part, choose, ◌then◌, ◌▸◌, ◌◂◌}
 use Rattle.ddl_parts.specs.Laws.{Lawful, Begins, Avoids, Apart}
 use Rattle.ddl_parts.specs.Leaves.{name, name_value, name_in, is_name, is_name_kind, literal, literal_value, text_in, is_literal, is_literal_kind, qualified}
-use Rattle.ddl_parts.proofs.Steps.{starts-append, starts_neither, avoids_never, avoids_begun}
-use Rattle.ddl_parts.proofs.Simple.{one_laws, one_begins, seen_laws, seen_begins, seen_avoids, mark_laws, mark_begins}
-use Rattle.ddl_parts.proofs.Sequence.{then_laws, then_begins, lead_laws, lead_begins, close_laws, close_begins}
+use Rattle.ddl_parts.proofs.Steps.{starts_neither, avoids_never, avoids_begun}
+use Rattle.ddl_parts.proofs.Simple.{one_laws, one_begins, seen_laws, seen_begins}
+use Rattle.ddl_parts.proofs.Sequence.{then_laws, then_begins, lead_laws, close_laws}
 
 -- ---- tokens that stand for something
 

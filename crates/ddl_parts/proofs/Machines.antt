@@ -1,8 +1,8 @@
 -- The laws of a run of tokens that a machine takes.
-use Rattle.std.proofs.Common.{◌≡◌, Bool, true, false, cond, List, [], ◌∷◌, ◌++◌, Option, Some, None, Result, Ok, Err, refl, sym, ap, subst, ◌∙◌, ◌⊎◌, inl, inr, option_and_then, append_assoc, append-nil}
+use Rattle.std.proofs.Common.{◌≡◌, Bool, true, false, cond, List, [], ◌∷◌, ◌++◌, Option, Some, None, Ok, Err, refl, sym, ap, subst, ◌∙◌, ◌⊎◌, inl, inr, option_and_then}
 use Rattle.ddl_parts.specs.Lexemes.{Lexeme, starts}
-use Rattle.ddl_parts.specs.Parts.{Stop, Part, Reading, ◌>>=◌, Machine, run, Runs, ends, scan, scan_step, runs_of}
-use Rattle.ddl_parts.specs.Laws.{Found, Stopped, Example, Lawful}
+use Rattle.ddl_parts.specs.Parts.{Stop, Reading, ◌>>=◌, Machine, run, Runs, ends, scan, scan_step, runs_of}
+use Rattle.ddl_parts.specs.Laws.{Lawful}
 use Rattle.ddl_parts.proofs.Steps.{bind_ok, bind_err, ok_is, err_is, gives, value_is, rest_is}
 use Rattle.ddl_parts.proofs.Simple.{head_is}
 

@@ -1,9 +1,9 @@
 -- The laws of any number of parts, one after another.
-use Rattle.std.proofs.Common.{◌≡◌, ℕ, zero, suc, ◌+◌, ◌<◌, ◌≤◌, Bool, true, false, cond, List, [], ◌∷◌, ◌++◌, length, Result, Ok, Err, refl, sym, ap, subst, ◌∙◌, append_assoc, append-nil, length-append, arith, ◌⊎◌, inl, inr}
-use Rattle.ddl_parts.specs.Lexemes.{Lexeme, starts, never}
-use Rattle.ddl_parts.specs.Parts.{Stop, Part, Reading, ◌>>=◌, Items, Many, no_more, one_more, many, many_at}
-use Rattle.ddl_parts.specs.Laws.{Found, Stopped, Example, Lawful, Begins, Avoids, Apart}
-use Rattle.ddl_parts.proofs.Steps.{bind_ok, bind_err, ok_is, gives, value_is, rest_is, carried, starts-append, starts_again, starts_apart}
+use Rattle.std.proofs.Common.{◌≡◌, ℕ, zero, suc, ◌<◌, ◌≤◌, Bool, true, false, cond, List, [], ◌∷◌, ◌++◌, length, Ok, Err, refl, sym, ap, subst, ◌∙◌, append_assoc, append-nil, length-append, arith, ◌⊎◌, inl, inr}
+use Rattle.ddl_parts.specs.Lexemes.{Lexeme, starts}
+use Rattle.ddl_parts.specs.Parts.{Stop, Reading, ◌>>=◌, Items, Many, no_more, one_more, many, many_at}
+use Rattle.ddl_parts.specs.Laws.{Found, Stopped, Lawful, Begins, Apart}
+use Rattle.ddl_parts.proofs.Steps.{bind_ok, bind_err, ok_is, carried, starts-append, starts_again, starts_apart}
 
 -- What items need so that they can be told apart: each has the laws and begins with its own tokens, an item can't go on
 -- with the beginning of the next, and what `goes_on` leaves out begins no item and goes on with none.

@@ -1,13 +1,12 @@
 -- The laws of expressions and types.
-use Rattle.std.proofs.Common.{◌≡◌, ℕ, Bool, true, false, cond, not, List, [], ◌∷◌, Option, Some, None, Result, Ok, Err, refl, sym, ap, ◌∙◌, ◌||◌, codes}
+use Rattle.std.proofs.Common.{◌≡◌, Bool, true, false, cond, not, List, [], ◌∷◌, Some, None, refl, ap, ◌∙◌, ◌||◌, codes}
 use Rattle.std.proofs.lemmas.Bool.{or_parts}
 use Rattle.std.specs.Str.{is_utf8, chars}
 use Rattle.std.proofs.Math.Utf8.{encode}
-use Rattle.sql_lex.specs.declared.token.TokenKind.{TokenKind}
-use Rattle.sql_lex.specs.declared.token.TokenKind.TheVariants.{Word, QuotedName, Literal, Number, Sign, MetaLine}
+use Rattle.sql_lex.specs.declared.token.TokenKind.TheVariants.{Number}
 use Rattle.sql_lex.specs.Meaning.{is_keyword_of, name_of}
 use Rattle.ddl_parts.specs.Lexemes.{Lexeme, is_word, is_sign, source}
-use Rattle.ddl_parts.specs.Parts.{Part, Machine, run, runs_of, seen}
+use Rattle.ddl_parts.specs.Parts.{run, runs_of}
 use Rattle.ddl_parts.specs.Laws.{Lawful}
 use Rattle.ddl_parts.specs.Leaves.{name_value, name_in}
 use Rattle.ddl_parts.specs.Expressions.{Bracket, round, square, Spot, first, first_not, later_not, inside, closed as shut, Nest, nested, nest_step, nest_done, ends_run, step_by, behind_bounded, behind_kind, moved, expression, default_text, default_and_null, without_not_null}

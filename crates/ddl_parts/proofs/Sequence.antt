@@ -1,7 +1,7 @@
 -- The laws of one part after another.
-use Rattle.std.proofs.Common.{◌≡◌, ℕ, Bool, true, false, List, [], ◌∷◌, ◌++◌, Result, Ok, Err, refl, sym, ap, subst, ◌∙◌, append_assoc, ◌⊎◌, inl, inr}
-use Rattle.ddl_parts.specs.Lexemes.{Lexeme, starts, never}
-use Rattle.ddl_parts.specs.Parts.{Stop, Part, Reading, ◌>>=◌, ◌then◌, then_at, ◌▸◌, ◌◂◌, mark, passes, seen}
+use Rattle.std.proofs.Common.{◌≡◌, Bool, true, false, List, ◌∷◌, ◌++◌, Ok, Err, refl, sym, ap, subst, ◌∙◌, append_assoc, ◌⊎◌, inl, inr}
+use Rattle.ddl_parts.specs.Lexemes.{Lexeme, starts}
+use Rattle.ddl_parts.specs.Parts.{Stop, Part, Reading, ◌>>=◌, ◌then◌, then_at, ◌▸◌, ◌◂◌, mark}
 use Rattle.ddl_parts.specs.Laws.{Found, Stopped, Example, Lawful, Begins, Avoids, Apart}
 use Rattle.ddl_parts.proofs.Steps.{bind_ok, bind_err, ok_is, carried, starts-append, avoids_never, avoids_begun}
 use Rattle.ddl_parts.proofs.Simple.{seen_laws, seen_begins, mark_laws, mark_begins}

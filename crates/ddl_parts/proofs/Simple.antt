@@ -1,9 +1,9 @@
 -- The laws of one token, of no token, and of a value seen through another.
-use Rattle.std.proofs.Common.{◌≡◌, ℕ, Bool, true, false, ◌||◌, List, [], ◌∷◌, ◌++◌, Result, Ok, Err, cond, refl, sym, ap, subst, ◌∙◌, append-nil}
-use Rattle.ddl_parts.specs.Lexemes.{Lexeme, starts, never}
-use Rattle.ddl_parts.specs.Parts.{Stop, Part, Reading, stop, one, one_at, first_by, seen, seen_at, nothing, wider, passes, mark}
-use Rattle.ddl_parts.specs.Laws.{Found, Stopped, Example, Lawful, Begins, Avoids}
-use Rattle.ddl_parts.proofs.Steps.{starts_neither, gives, value_is, rest_is, err_is, starts_never}
+use Rattle.std.proofs.Common.{◌≡◌, Bool, true, false, List, [], ◌∷◌, ◌++◌, Result, Ok, Err, cond, refl, sym, ap, subst, ◌∙◌}
+use Rattle.ddl_parts.specs.Lexemes.{Lexeme, starts}
+use Rattle.ddl_parts.specs.Parts.{Stop, Part, Reading, one, one_at, first_by, seen, seen_at, nothing, wider, passes, mark}
+use Rattle.ddl_parts.specs.Laws.{Found, Stopped, Lawful, Begins, Avoids}
+use Rattle.ddl_parts.proofs.Steps.{starts_neither, gives, value_is, rest_is, err_is}
 
 -- ---- one token
 

@@ -1,13 +1,13 @@
 -- The laws of one of several parts by their key words.
-use Rattle.std.proofs.Common.{◌≡◌, ℕ, Bool, true, false, not, ◌&&◌, List, [], ◌∷◌, refl, sym, ap, ◌∙◌}
+use Rattle.std.proofs.Common.{◌≡◌, ℕ, Bool, true, not, ◌&&◌, List, [], ◌∷◌}
 use Rattle.std.proofs.lemmas.Bool.{and_parts, not-true}
 use Rattle.std.specs.Str.{str_eq_ignore_ascii_case}
-use Rattle.ddl_parts.specs.Lexemes.{Lexeme, is_word, is_sign}
-use Rattle.ddl_parts.specs.Parts.{Part, Branch, branch, one_of, choose, ◌▸◌}
+use Rattle.ddl_parts.specs.Lexemes.{Lexeme, is_word}
+use Rattle.ddl_parts.specs.Parts.{Branch, branch, one_of}
 use Rattle.ddl_parts.specs.Laws.{Lawful, Begins, Avoids, Apart}
 use Rattle.ddl_parts.proofs.Sequence.{lead_begins}
 use Rattle.ddl_parts.proofs.Choice.{choose_laws}
-use Rattle.ddl_parts.proofs.Leads.{word_laws, word_avoids, choose_avoids, word_no_sign}
+use Rattle.ddl_parts.proofs.Leads.{word_laws, word_avoids, choose_avoids}
 use Rattle.ddl_parts.proofs.Steps.{avoids_begun}
 
 -- the key words are all different

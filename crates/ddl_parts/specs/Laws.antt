@@ -1,6 +1,6 @@
 -- What holds of a part of the grammar, so that its reader and its spelling say the same.
 -- Each part that is built by the combinators has these laws, where its own parts have them and can be told apart.
-use Rattle.std.specs.Prelude.{◌≡◌, Bool, true, false, List, [], ◌∷◌, ◌++◌, Ok, Err}
+use Rattle.std.specs.Prelude.{◌≡◌, Bool, true, false, List, ◌∷◌, ◌++◌, Ok, Err}
 use Rattle.ddl_parts.specs.Lexemes.{Lexeme, starts}
 use Rattle.ddl_parts.specs.Parts.{Stop, Part}
 

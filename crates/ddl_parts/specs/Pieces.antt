@@ -1,5 +1,5 @@
 -- Tokens of a text, one after another, and what the code's readers answer.
-use Rattle.std.specs.Prelude.{◌≡◌, ℕ, Bool, true, ◌&&◌, ◌==◌, nat_le, nat_lt, List, [], ◌∷◌, length, map, drop, slice_range, Result, Ok, Err, ⊤}
+use Rattle.std.specs.Prelude.{◌≡◌, ℕ, Bool, true, ◌&&◌, ◌==◌, nat_le, nat_lt, List, [], ◌∷◌, map, drop, slice_range, Result, Ok, Err, ⊤}
 use Rattle.sql_lex.specs.Meaning.{spelling}
 use Rattle.ddl_parts.specs.declared.pieces.Piece.{Piece}
 use Rattle.ddl_parts.specs.declared.fault.Halt.{Halt}

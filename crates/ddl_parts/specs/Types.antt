@@ -3,8 +3,7 @@
 use Rattle.std.specs.Prelude.{ℕ, Bool, true, false, ◌||◌, ◌&&◌, not, List, [], ◌∷◌, Option, Some, None, Result, Ok, Err, is_ok, if◌then◌else◌, codes}
 use Rattle.std.specs.List.{list_any}
 use Rattle.sql_lex.specs.declared.token.TokenKind.{TokenKind}
-use Rattle.sql_lex.specs.declared.token.TokenKind.TheVariants.{Word, QuotedName, Literal, Number, Sign, MetaLine}
-use Rattle.cat_model.specs.declared.object.QName.{QName}
+use Rattle.sql_lex.specs.declared.token.TokenKind.TheVariants.{Word, Number}
 use Rattle.cat_model.specs.declared.type_name.TypeName.{TypeName}
 use Rattle.cat_model.specs.declared.type_name.TypeName.TheVariants as type_name
 use Rattle.ddl_parts.specs.Lexemes.{Lexeme, is_word, is_sign, source}

@@ -2,7 +2,7 @@ use super::*;
 use std::test::*;
 
 #[test]
-fn a_qualified_name_is_read(rt: HostRuntime) -> Result<(), Fail> {
+fn tokens_are_collected_up_to_the_semicolon(rt: HostRuntime) -> Result<(), Fail> {
     let text = b" Public . \"T\" ; x";
     let run = collect(rt.alloc(), text, 0).ok().ok_or("memory")?;
     assert_eq!(rt; run.pieces.len(), 4);

@@ -10,7 +10,7 @@ use Rattle.cat_model.specs.declared.grant.Owned.TheVariants as owned
 use Rattle.cat_model.specs.declared.stmt.Stmt.{Stmt}
 use Rattle.ddl_parts.specs.declared.pieces.Piece.{Piece}
 use Rattle.ddl_parts.specs.Lexemes.{Lexeme, is_word, is_sign, is_sign_kind}
-use Rattle.ddl_parts.specs.Parts.{Part, Branch, branch, one_of, mark, passes, seen, choose, ◌then◌, ◌▸◌, ◌◂◌}
+use Rattle.ddl_parts.specs.Parts.{Part, Branch, branch, one_of, mark, seen, choose, ◌then◌, ◌▸◌, ◌◂◌}
 use Rattle.ddl_parts.specs.Pieces.{lexeme_of, lexemes}
 use Rattle.ddl_parts.specs.Collecting.{Collected, collected, collected_within, collected_by, nothing_more, preceded}
 use Rattle.ddl_parts.specs.Leaves.{name, literal, qualified}
@@ -107,9 +107,19 @@ unfolding altered
 altered_closes =
     one_of_closes semicolon (owned_name (codes "schema") owned.Schema)
     (owned_path (codes "type") owned.Type ∷ owned_path (codes "domain") owned.Domain ∷ owned_path (codes "table") owned.Table
-    ∷ owned_path (codes "sequence") owned.Sequence ∷ owned_path (codes "view") owned.View ∷ owned_name (codes "database") owned.Database ∷ [])
-    (owned_name_closes (codes "schema") owned.Schema, (owned_path_closes (codes "type") owned.Type, (owned_path_closes (codes "domain") owned.Domain, (owned_path_closes (codes "table") owned.Table,
-    (owned_path_closes (codes "sequence") owned.Sequence, (owned_path_closes (codes "view") owned.View, owned_name_closes (codes "database") owned.Database))))))
+    ∷ owned_path (codes "sequence") owned.Sequence ∷ owned_path (codes "view") owned.View ∷ owned_name (codes "database") owned.Database ∷ []) (
+      owned_name_closes (codes "schema") owned.Schema,
+      (
+        owned_path_closes (codes "type") owned.Type,
+        (
+          owned_path_closes (codes "domain") owned.Domain,
+          (
+            owned_path_closes (codes "table") owned.Table,
+            (owned_path_closes (codes "sequence") owned.Sequence, (owned_path_closes (codes "view") owned.View, owned_name_closes (codes "database") owned.Database)),
+          ),
+        ),
+      ),
+    )
 
 abbrev value_end : Part (List ℕ)
 value_end = literal ◂ is_sign 44 ◂ is_word (codes "false") ◂ is_sign 41 ◂ semicolon

@@ -1,13 +1,12 @@
 -- The grammar of statements has the laws of a part: what is read is spelled so, what is spelled so is read, and where
 -- reading stops nothing goes on.
-use Rattle.std.proofs.Common.{◌≡◌, ℕ, Bool, true, false, List, [], ◌∷◌, Option, Some, None, refl, codes}
+use Rattle.std.proofs.Common.{ℕ, Bool, List, [], ◌∷◌, Some, None, refl, codes}
 use Rattle.cat_model.specs.declared.object.QName.{QName}
 use Rattle.cat_model.specs.declared.grant.Owned.{Owned}
 use Rattle.cat_model.specs.declared.grant.Owned.TheVariants as owned
-use Rattle.cat_model.specs.declared.stmt.Stmt.{Stmt}
 use Rattle.cat_model.specs.declared.stmt.Stmt.TheVariants as stmt
 use Rattle.ddl_parts.specs.Lexemes.{Lexeme, is_word, is_sign, never}
-use Rattle.ddl_parts.specs.Parts.{Part, Branch, mark, seen, choose, one_of, ◌then◌, ◌▸◌, ◌◂◌}
+use Rattle.ddl_parts.specs.Parts.{Part, mark, seen, ◌then◌, ◌▸◌, ◌◂◌}
 use Rattle.ddl_parts.specs.Laws.{Lawful, Apart, Avoids}
 use Rattle.ddl_parts.specs.Leaves.{name, literal, qualified}
 use Rattle.ddl_parts.proofs.Steps.{avoids_never}

@@ -5,17 +5,15 @@ use Rattle.sql_lex.specs.declared.fault.LexFault.{LexFault}
 use Rattle.sql_lex.specs.Next.{next_token_of, LiesBehind}
 use Rattle.sql_lex.proofs.Passing.{lies_behind}
 use Rattle.cat_model.specs.declared.stmt.Stmt.{Stmt}
-use Rattle.ddl_parts.specs.declared.pieces.Piece.{Piece}
-use Rattle.ddl_parts.specs.Lexemes.{Lexeme, start_of, starts, is_sign_kind}
+use Rattle.ddl_parts.specs.Lexemes.{Lexeme, starts, is_sign_kind}
 use Rattle.ddl_parts.specs.Parts.{Stop, Reading}
 use Rattle.ddl_parts.specs.Pieces.{lexemes, value_of}
 use Rattle.ddl_parts.specs.Collecting.{Collected, collected, collected_within, collected_by, nothing_more, preceded}
-use Rattle.ddl_parts.specs.Laws.{Found, Stopped}
 use Rattle.ddl_read.specs.declared.located.Located.{Located}
 use Rattle.ddl_read.specs.declared.fault.DdlFault.{DdlFault}
-use Rattle.ddl_read.specs.declared.fault.DdlFault.TheVariants.{Lex, Unknown, LongName, Incomplete}
+use Rattle.ddl_read.specs.declared.fault.DdlFault.TheVariants.{Lex}
 use Rattle.ddl_read.specs.Grammar.{statement, command, created, altered, selected, create_schema, name_and_owner, path_and_owner, new_owner}
-use Rattle.ddl_read.specs.Reading.{◌>>=◌, listed, first_start, fault_by, fault_of, told, no_more, statement_of, statements_by, statements_from, statements_within, statements_of}
+use Rattle.ddl_read.specs.Reading.{◌>>=◌, listed, first_start, fault_of, told, no_more, statement_of, statements_by, statements_within, statements_of}
 use Rattle.ddl_read.specs.Readings.{IsStatement, Reads, all_read, one_read, IsStuck, FailsAt, no_token, stuck, later}
 use Rattle.ddl_read.proofs.GrammarLaws.{statement_laws}
 use Rattle.ddl_read.proofs.Closed.{takes_all}

@@ -9,7 +9,7 @@ use Rattle.ddl_read.specs.declared.located.Located.{Located}
 use Rattle.ddl_read.specs.declared.fault.DdlFault.{DdlFault}
 use Rattle.ddl_read.specs.declared.fault.ReadStmtsError.{ReadStmtsError}
 use Rattle.ddl_read.specs.declared.fault.ReadStmtsError.TheVariants as errors
-use Rattle.ddl_read.specs.Reading.{◌>>=◌, Fails, Gives, listed, first_start, no_more, statement_of, statements_by, statements_from, statements_within, statements_of}
+use Rattle.ddl_read.specs.Reading.{◌>>=◌, Fails, listed, first_start, no_more, statement_of, statements_by, statements_from, statements_within, statements_of}
 
 -- statements so far, before what is read behind them
 abbrev pub behind : List Located → Result (List Located) DdlFault → Result (List Located) DdlFault

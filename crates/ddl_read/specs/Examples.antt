@@ -1,6 +1,6 @@
 -- Worked examples: texts with their statements, or their first fault.
 -- 34 is `"`, 39 is a single quote.
-use Rattle.std.specs.Prelude.{◌≡◌, ℕ, List, [], ◌∷◌, ◌++◌, Ok, Err, codes}
+use Rattle.std.specs.Prelude.{◌≡◌, ℕ, [], ◌∷◌, ◌++◌, Ok, Err, codes}
 use Rattle.sql_lex.specs.declared.fault.LexFault.TheVariants.{Unclosed}
 use Rattle.cat_model.specs.declared.grant.Owned.TheVariants as owned
 use Rattle.cat_model.specs.declared.stmt.Stmt.{Stmt}

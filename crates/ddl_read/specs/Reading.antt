@@ -1,11 +1,11 @@
 -- The statements of a text, and the first place from which on it has none.
 -- A statement's tokens are those up to its semicolon; all of them together spell it.
-use Rattle.std.specs.Prelude.{◌≡◌, ℕ, zero, suc, ◌+◌, Bool, true, false, List, [], ◌∷◌, ◌++◌, length, drop, Option, Some, None, Result, Ok, Err, if◌then◌else◌, ⊤}
+use Rattle.std.specs.Prelude.{◌≡◌, ℕ, zero, suc, ◌+◌, Bool, true, false, List, [], ◌∷◌, ◌++◌, length, drop, Option, Some, None, Result, Ok, Err, ⊤}
 use Rattle.sql_lex.specs.declared.fault.LexFault.{LexFault}
 use Rattle.cat_model.specs.declared.stmt.Stmt.{Stmt}
 use Rattle.ddl_parts.specs.declared.pieces.Piece.{Piece}
 use Rattle.ddl_parts.specs.Lexemes.{Lexeme, start_of}
-use Rattle.ddl_parts.specs.Parts.{Stop, Reading}
+use Rattle.ddl_parts.specs.Parts.{Stop}
 use Rattle.ddl_parts.specs.Pieces.{lexemes, value_of}
 use Rattle.ddl_parts.specs.Collecting.{Collected, collected}
 use Rattle.ddl_parts.specs.declared.fault.ReadError.{ReadError}

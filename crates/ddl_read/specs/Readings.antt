@@ -5,10 +5,10 @@ use Rattle.sql_lex.specs.declared.fault.LexFault.{LexFault}
 use Rattle.cat_model.specs.declared.stmt.Stmt.{Stmt}
 use Rattle.ddl_parts.specs.Lexemes.{Lexeme, start_of}
 use Rattle.ddl_parts.specs.Pieces.{lexemes}
-use Rattle.ddl_parts.specs.Collecting.{Collected, collected}
+use Rattle.ddl_parts.specs.Collecting.{collected}
 use Rattle.ddl_read.specs.declared.located.Located.{Located}
 use Rattle.ddl_read.specs.declared.fault.DdlFault.{DdlFault}
-use Rattle.ddl_read.specs.declared.fault.DdlFault.TheVariants.{Lex, Unknown, LongName, Incomplete}
+use Rattle.ddl_read.specs.declared.fault.DdlFault.TheVariants.{Lex}
 use Rattle.ddl_read.specs.Grammar.{statement}
 use Rattle.ddl_read.specs.Reading.{listed, first_start, fault_by}
 

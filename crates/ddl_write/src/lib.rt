@@ -6,6 +6,3 @@ mod writing;
 
 pub use fault::WriteStmtError;
 pub use writing::write_stmt;
-
-#[cfg(test)]
-mod tests;

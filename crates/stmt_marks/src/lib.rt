@@ -10,6 +10,3 @@ mod whole;
 mod writes;
 
 pub use whole::footprint;
-
-#[cfg(test)]
-mod tests;

@@ -1,4 +1,4 @@
-use Rattle.std.proofs.Common.{◌≡◌, Ok, Some, sym, ap, ◌∙◌, length, List, arith}
+use Rattle.std.proofs.Common.{Ok, sym, ap, ◌∙◌, length, arith}
 use Rattle.ddl_parts.specs.Collecting.{collected}
 use Rattle.ddl_parts.proofs.Collects.{all_left, at_end, at_fault, at_semicolon, at_token, end_of_none, end_of_one_more, joined_none, joined_one_more, joined_whole}
 use Rattle.ddl_parts.proofs.collecting.collect.Goals as goal

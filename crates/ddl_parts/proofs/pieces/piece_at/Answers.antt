@@ -1,5 +1,5 @@
 use Rattle.std.proofs.Common.{length, arith}
-use Rattle.ddl_parts.proofs.Joined.{read_at, read_past, lies_at}
+use Rattle.ddl_parts.proofs.Joined.{read_at, lies_at}
 use Rattle.ddl_parts.proofs.pieces.piece_at.Goals as goal
 
 pub returns-then-at-pieces-clause-read : goal.returns-then-at-pieces-clause-read

@@ -1,7 +1,7 @@
-use Rattle.std.proofs.Common.{◌≡◌, length, List, Option, Some, None, Ok, sym, ap, ◌∙◌, arith}
+use Rattle.std.proofs.Common.{◌≡◌, Some, None, arith}
 use Rattle.std.proofs.lemmas.Result.{err_from_is_err_and}
-use Rattle.ddl_parts.specs.Collecting.{Collected, collected}
-use Rattle.ddl_read.specs.Reading.{statements_of, first_start, no_more}
+use Rattle.ddl_parts.specs.Collecting.{Collected}
+use Rattle.ddl_read.specs.Reading.{statements_of, first_start}
 use Rattle.ddl_read.proofs.Statements.{all_left, at_end, at_fault, at_statement, at_bad_statement, some_pieces}
 use Rattle.ddl_read.proofs.reading.read_stmts.Goals as goal
 
