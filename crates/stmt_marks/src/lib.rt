@@ -6,6 +6,8 @@ mod objects;
 mod parts;
 mod reads;
 mod single;
+#[cfg(test)]
+mod tests;
 mod whole;
 mod writes;
 
