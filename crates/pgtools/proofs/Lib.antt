@@ -10,3 +10,9 @@ pub mod Standing
 pub mod Counting
 pub mod Ending
 pub mod Settings
+pub mod Tokens
+pub mod Taken
+pub mod Remade
+pub mod RoundTrips
+pub mod Opened
+pub mod ToolTrips

@@ -34,23 +34,23 @@ use Rattle.pgtools.specs.declared.schemas.SchemaRow.{SchemaRow}
 use Rattle.pgtools.specs.Naming.{boot, boot_role, cluster, schema_changes, with_schemas, named, has_name}
 
 -- the schema that an object is
-abbrev schema_of : Object → Option Bytes
+abbrev pub schema_of : Object → Option Bytes
 schema_of (object.Schema name) = Some name
 schema_of _ = None
 
-abbrev with_value : Value → Option Bytes → Option (Bytes × Value)
+abbrev pub with_value : Value → Option Bytes → Option (Bytes × Value)
 with_value v None = None
 with_value v (Some name) = Some (name, v)
 
 -- the schema that a key belongs to, with the value that it has there
-abbrev part_of : Key → Option (Bytes × Value)
+abbrev pub part_of : Key → Option (Bytes × Value)
 part_of (key.Schema name) = Some (name, value.schema)
 part_of (key.Owner o) = with_value (value.owner boot) (schema_of o)
 part_of (key.Acl o) = with_value (value.grants (owner_only schema_rights)) (schema_of o)
 part_of _ = None
 
 -- what stands at a part once a test of its name has passed
-abbrev stands : (Bytes → Bool) → Option (Bytes × Value) → Option Value → Option Value
+abbrev pub stands : (Bytes → Bool) → Option (Bytes × Value) → Option Value → Option Value
 stands has None before = before
 stands has (Some part) before = cond (has part.0) (Some part.1) before
 
@@ -131,7 +131,7 @@ get-with_schemas named (row ∷ rows) q =
     ∙ ap (λ before. stands (λ m. has_name m rows) (part_of q) before) (one_schema named row.name q)
     ∙ one_more (part_of q) row rows (get named q)
 
-same_stands : (f g : Bytes → Bool) → ((m : Bytes) → f m ≡ g m) → (part : Option (Bytes × Value)) (before : Option Value) → stands f part before ≡ stands g part before
+pub same_stands : (f g : Bytes → Bool) → ((m : Bytes) → f m ≡ g m) → (part : Option (Bytes × Value)) (before : Option Value) → stands f part before ≡ stands g part before
 same_stands f g h None before = refl
 same_stands f g h (Some part) before = ap (λ b. cond b (Some part.1) before) (h part.0)
 
@@ -149,7 +149,7 @@ pub with_schemas-append : (named : Named) (xs ys : List SchemaRow) → with_sche
 with_schemas-append named [] ys = refl
 with_schemas-append named (x ∷ xs) ys = with_schemas-append (changed (schema_changes x.name) named) xs ys
 
-no_schema : (name : Bytes) → get cluster (key.Schema name) ≡ None
+pub no_schema : (name : Bytes) → get cluster (key.Schema name) ≡ None
 no_schema name =
     get-from_entries key_cmp_total ((key.Role boot, value.role boot_role) ∷ (key.Database boot, value.database encoding.Utf8) ∷ (key.Owner (object.Database boot), value.owner boot) ∷ []) (key.Schema name)
 

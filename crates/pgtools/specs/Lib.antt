@@ -10,3 +10,4 @@ pub mod Messages
 pub mod Lines
 pub mod Run
 pub mod Due
+pub mod RoundTrip

@@ -4,6 +4,7 @@
 mod arguments;
 mod dumping;
 mod folder;
+mod laws;
 mod namespaces;
 mod opening;
 mod outcome;

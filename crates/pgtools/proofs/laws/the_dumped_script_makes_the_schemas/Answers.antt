@@ -1,0 +1,11 @@
+use Rattle.std.specs.Prelude.{map}
+use Rattle.dump_schemas.specs.Scripts.{script_of as dumped_script}
+use Rattle.pgtools.specs.Due.{dump_row}
+use Rattle.pgtools.specs.Naming.{boot}
+use Rattle.pgtools.proofs.RoundTrips.{remakes, dump_names, boot_is_name}
+use Rattle.pgtools.proofs.laws.the_dumped_script_makes_the_schemas.Goals as goal
+
+pub returns : goal.returns
+returns c = λ database moment rows can.
+    remakes c.names_are_read_back.ensures (dumped_script database boot moment (map dump_row rows)) rows can
+    (c.the_script_holds_the_statements.ensures database boot moment (map dump_row rows) (boot_is_name (λ name is. (c.tests_are_exact.ensures.name name).0 is)) (dump_names rows can.names))
