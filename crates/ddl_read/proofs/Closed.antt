@@ -14,11 +14,12 @@ use Rattle.ddl_parts.specs.Parts.{Part, Branch, branch, one_of, mark, seen, choo
 use Rattle.ddl_parts.specs.Pieces.{lexeme_of, lexemes}
 use Rattle.ddl_parts.specs.Collecting.{Collected, collected, collected_within, collected_by, nothing_more, preceded}
 use Rattle.ddl_parts.specs.Leaves.{name, literal, qualified}
-use Rattle.ddl_read.specs.Grammar.{semicolon, create_schema, created, new_owner, name_and_owner, path_and_owner, owned_name, owned_path, altered, selected, command, statement}
+use Rattle.ddl_parts.specs.Expressions.{expression}
+use Rattle.ddl_read.specs.Grammar.{semicolon, create_schema, created, new_owner, name_and_owner, path_and_owner, owned_name, owned_path, altered, selected, equals_or_to, setting, command, statement}
 
 -- ---- the last token
 
-abbrev ends_with : (Lexeme → Bool) → List Lexeme → Bool
+abbrev pub ends_with : (Lexeme → Bool) → List Lexeme → Bool
 ends_with test [] = false
 ends_with test (t ∷ []) = test t
 ends_with test (t ∷ u ∷ ts) = ends_with test (u ∷ ts)
@@ -134,12 +135,17 @@ selected_closes v ts spells =
     (then_closes semicolon literal (is_sign 44 ▸ value_end) (lead_closes semicolon (is_sign 44) value_end (end_closes semicolon (literal ◂ is_sign 44 ◂ is_word (codes "false") ◂ is_sign 41)))))))
     spells.0 ts spells.2
 
+setting_closes : Closes semicolon setting
+unfolding setting
+setting_closes v ts spells =
+    then_closes semicolon name (equals_or_to then (expression ◂ semicolon)) (then_closes semicolon equals_or_to (expression ◂ semicolon) (end_closes semicolon expression)) spells.0 ts spells.2
+
 command_closes : Closes semicolon command
 unfolding command
 command_closes =
     one_of_closes semicolon (record { key = codes "create"; part = created })
-    (record { key = codes "alter"; part = altered } ∷ record { key = codes "select"; part = selected } ∷ [])
-    (created_closes, (altered_closes, selected_closes))
+    (record { key = codes "alter"; part = altered } ∷ record { key = codes "select"; part = selected } ∷ record { key = codes "set"; part = setting } ∷ [])
+    (created_closes, (altered_closes, (selected_closes, setting_closes)))
 
 pub statement_closes : Closes semicolon statement
 unfolding statement
@@ -150,7 +156,7 @@ statement_closes =
 
 -- ---- the tokens that are collected
 
-abbrev only_last : (Lexeme → Bool) → List Lexeme → Bool
+abbrev pub only_last : (Lexeme → Bool) → List Lexeme → Bool
 only_last test [] = true
 only_last test (t ∷ []) = true
 only_last test (t ∷ u ∷ ts) = not (test t) && only_last test (u ∷ ts)

@@ -9,6 +9,7 @@ use Rattle.cat_model.specs.declared.stmt.Stmt.TheVariants as stmt
 use Rattle.ddl_parts.specs.Lexemes.{Lexeme, is_word, is_sign}
 use Rattle.ddl_parts.specs.Parts.{Part, Branch, mark, seen, choose, one_of, ◌then◌, ◌▸◌, ◌◂◌}
 use Rattle.ddl_parts.specs.Leaves.{name, literal, qualified}
+use Rattle.ddl_parts.specs.Expressions.{expression}
 
 abbrev pub semicolon : Lexeme → Bool
 semicolon = is_sign 59
@@ -56,12 +57,22 @@ selected =
     seen (λ x. stmt.SetConfig x.0 x.1)
     (is_word (codes "pg_catalog") ▸ (is_sign 46 ▸ (is_word (codes "set_config") ▸ (is_sign 40 ▸ (literal then (is_sign 44 ▸ (literal ◂ is_sign 44 ◂ is_word (codes "false") ◂ is_sign 41 ◂ semicolon)))))))
 
+-- ---- SET ..
+
+-- an equals sign, or TO
+unfoldable pub equals_or_to : Part (Unit {0})
+equals_or_to = choose (is_sign 61) (mark (is_sign 61)) (mark (is_word (codes "to")))
+
+-- name = value; or name TO value;
+unfoldable pub setting : Part Stmt
+setting = seen (λ x. stmt.Set x.0 x.1.1) (name then (equals_or_to then (expression ◂ semicolon)))
+
 -- ---- statements
 
 unfoldable pub command : Part Stmt
 command =
     one_of (record { key = codes "create"; part = created })
-    (record { key = codes "alter"; part = altered } ∷ record { key = codes "select"; part = selected } ∷ [])
+    (record { key = codes "alter"; part = altered } ∷ record { key = codes "select"; part = selected } ∷ record { key = codes "set"; part = setting } ∷ [])
 
 -- a semicolon alone is an empty statement
 unfoldable pub statement : Part (Option Stmt)

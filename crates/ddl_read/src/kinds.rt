@@ -1,8 +1,8 @@
 //! Readers of the kinds of statement, each behind the words that tell it apart.
 ghost use Rattle.std.specs.Prelude.{◌≡◌, drop};
 ghost use Rattle.cat_model.specs.declared.stmt.Stmt.TheVariants.{OwnerTo};
-ghost use Rattle.ddl_parts.specs.Pieces.{GivesPart, GivesValue, value_of};
-ghost use Rattle.ddl_read.specs.Grammar.{create_schema, created, new_owner, altered, selected, name_and_owner, path_and_owner, command, statement};
+ghost use Rattle.ddl_parts.specs.Pieces.{GivesPart, GivesPlace, GivesValue, value_of};
+ghost use Rattle.ddl_read.specs.Grammar.{create_schema, created, new_owner, altered, selected, equals_or_to, setting, name_and_owner, path_and_owner, command, statement};
 
 use cat_model::{Owned, QName, Stmt};
 use copy_text::Name;
@@ -127,6 +127,27 @@ fn selected(alloc: Global, pieces: &Pieces<'_>, at: usize) -> Result<(Stmt, usiz
     Ok((Stmt::SetConfig { name, value }, at))
 }
 
+#[tactic(auto, unfolding(crate::specs::Grammar::equals_or_to))]
+fn equals_or_to(pieces: &Pieces<'_>, at: usize) -> Result<usize, ReadError>
+    ensures { GivesPlace pieces.now result (equals_or_to.read (drop at pieces.now)) }
+{
+    if pieces.is_sign(at, b'=') {
+        return pieces.sign(at, b'=');
+    }
+    pieces.word(at, "to")
+}
+
+#[tactic(auto, unfolding(crate::specs::Grammar::setting))]
+fn setting(alloc: Global, pieces: &Pieces<'_>, at: usize) -> Result<(Stmt, usize), ReadError>
+    ensures { GivesPart pieces.now (λ s. s) result (setting.read (drop at pieces.now)) }
+{
+    let (name, at) = pieces.name(alloc, at)?;
+    let at = equals_or_to(pieces, at)?;
+    let (value, at) = pieces.expression(alloc, at)?;
+    let at = pieces.sign(at, b';')?;
+    Ok((Stmt::Set { name, value }, at))
+}
+
 #[tactic(auto, unfolding(crate::specs::Grammar::command))]
 fn command(alloc: Global, pieces: &Pieces<'_>, at: usize) -> Result<(Stmt, usize), ReadError>
     ensures { GivesPart pieces.now (λ s. s) result (command.read (drop at pieces.now)) }
@@ -139,8 +160,12 @@ fn command(alloc: Global, pieces: &Pieces<'_>, at: usize) -> Result<(Stmt, usize
         let at = pieces.word(at, "alter")?;
         return altered(alloc, pieces, at);
     }
-    let at = pieces.word(at, "select")?;
-    selected(alloc, pieces, at)
+    if pieces.is_word(at, "select") {
+        let at = pieces.word(at, "select")?;
+        return selected(alloc, pieces, at);
+    }
+    let at = pieces.word(at, "set")?;
+    setting(alloc, pieces, at)
 }
 
 /// The statement at the front of the tokens; an empty one is None.
