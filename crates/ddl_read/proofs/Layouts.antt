@@ -19,10 +19,13 @@ use Rattle.cat_model.specs.declared.stmt.Stmt.TheVariants as stmt
 use Rattle.ddl_parts.specs.Lexemes.{Lexeme, is_word, is_sign, is_sign_kind, spelled}
 use Rattle.ddl_parts.specs.Parts.{Part, Branch, branch, one, one_of, mark, seen, choose, passes, ◌then◌, ◌▸◌, ◌◂◌}
 use Rattle.ddl_parts.specs.Leaves.{name, name_value, literal, literal_value, qualified}
-use Rattle.ddl_write.specs.Spelling.{path, owned_object, schema_text, setting_text, owner_text, spelling}
-use Rattle.ddl_read.specs.Grammar.{semicolon, create_schema, created, new_owner, name_and_owner, path_and_owner, owned_name, owned_path, altered, selected, command, statement}
-use Rattle.ddl_read.specs.Respelling.{IsOwnedName}
+use Rattle.ddl_write.specs.Spelling.{path, owned_object, schema_text, set_text, setting_text, owner_text, spelling}
+use Rattle.ddl_read.specs.Grammar.{semicolon, create_schema, created, new_owner, name_and_owner, path_and_owner, owned_name, owned_path, altered, selected, equals_or_to, setting, command, statement}
+use Rattle.ddl_read.specs.Respelling.{IsOwnedName, IsExpressionText}
 use Rattle.ddl_read.proofs.Closed.{only_last}
+use Rattle.ddl_parts.specs.Expressions.{expression}
+use Rattle.ddl_read.proofs.Kept.{spelled-append}
+use Rattle.ddl_read.proofs.Expressions.{IsKept, kept, placed-append, last_more}
 use Rattle.ddl_read.proofs.Standing.{Stood, placed}
 use Rattle.ddl_read.proofs.Tokens.{word_token, sign_token, name_token, literal_token, Gap, none, space, newline, a_word, a_sign, a_name, a_literal, name_means, literal_means, name_no_sign}
 
@@ -268,3 +271,58 @@ owner_laid_out g (owned.View q) r gap is role =
 owner_laid_out g (owned.Database n) r gap is role =
     named_laid_out g (codes "DATABASE") n r (owned.Database n) gap (refl, refl) refl is role refl
     (λ at. inr (inr (inr (inr (inr (inr (leads (is_word (codes "database")) (owned_name (codes "database") owned.Database).part _ _ _ refl ((n, r), refl, name_owner_says n r is role _))))))))
+
+-- ---- SET
+
+abbrev set_tokens : List ℕ → List ℕ → List Lexeme → List Lexeme
+set_tokens g n value = word_token g (codes "SET") ∷ name_token (32 ∷ []) n ∷ sign_token (32 ∷ []) 61 ∷ (value ++ sign_token [] 59 ∷ [])
+
+-- what is spelled behind a space begins with it
+abbrev value_bytes : List ℕ → List ℕ
+value_bytes v = (32 ∷ v) ++ 59 ∷ []
+
+value_spelled : (v : List ℕ) (k : IsKept v) → spelled (k.tokens ++ sign_token [] 59 ∷ []) ≡ value_bytes v
+value_spelled v k = spelled-append k.tokens (sign_token [] 59 ∷ []) ∙ ap (λ (x : List ℕ). x ++ 59 ∷ []) k.bytes
+
+set_stood : (g n v : List ℕ) → (k : IsKept v) → Gap g → IsName n → Stood (set_tokens g n k.tokens)
+unfolding is_blank in_word begins_word is_digit is_sign_byte is_utf8 chars encode
+set_stood g n v k gap is =
+    (a_word g (codes "SET") 32 _ gap (refl, refl) refl refl refl,
+    (a_name (32 ∷ []) n 32 _ space is.utf8 refl refl refl,
+    (a_sign (32 ∷ []) 61 _ space refl refl refl refl refl,
+    k.stood)))
+
+set_says : (g n v : List ℕ) → (k : IsKept v) → IsName n → (at : ℕ) → statement.Spells (Some (stmt.Set n v)) (placed at (set_tokens g n k.tokens))
+unfolding statement command setting equals_or_to is_word is_sign is_keyword_of
+set_says g n v k is at =
+    let place = at + length g + 3 + 1 + length (written_name n) + 1 + 1 in
+    let closed : (expression ◂ semicolon).Spells v (placed place k.tokens ++ placed (place + length (spelled k.tokens)) (sign_token [] 59 ∷ [])) =
+    ends semicolon expression _ v (placed place k.tokens) refl (k.spells place) in
+    let value : (expression ◂ semicolon).Spells v (placed place (k.tokens ++ sign_token [] 59 ∷ [])) = subst (λ (ts : List Lexeme). (expression ◂ semicolon).Spells v ts) (sym (placed-append place k.tokens (sign_token [] 59 ∷ []))) closed in
+    inr (stmt.Set n v, refl,
+    (inr (inr (inr (leads (is_word (codes "set")) setting _ (stmt.Set n v) _ refl ((n, (tt, v)), refl,
+    follows name (equals_or_to then (expression ◂ semicolon)) n (tt, v) (_ ∷ []) _ (_, refl, name_means n is _ refl refl)
+    (follows equals_or_to (expression ◂ semicolon) tt v (_ ∷ []) _ (inl (marks (is_sign 61) _ refl)) value)))))))
+
+set_bytes : (g n v : List ℕ) → (k : IsKept v) → spelled (set_tokens g n k.tokens) ++ 10 ∷ [] ≡ g ++ set_text n v
+unfolding set_text
+set_bytes g n v k = rw (value_spelled v k) (simp append_assoc)
+
+set_last : (g n v : List ℕ) → (k : IsKept v) → only_last semicolon (set_tokens g n k.tokens) ≡ true
+unfolding is_sign
+set_last g n v k =
+    let rest = k.tokens ++ sign_token [] 59 ∷ [] in
+    last_more semicolon (word_token g (codes "SET")) (name_token (32 ∷ []) n ∷ sign_token (32 ∷ []) 61 ∷ rest) refl
+    (last_more semicolon (name_token (32 ∷ []) n) (sign_token (32 ∷ []) 61 ∷ rest) (name_no_sign 59 n)
+    (last_more semicolon (sign_token (32 ∷ []) 61) rest refl k.last))
+
+pub set_laid_out : (g n v : List ℕ) → Gap g → IsName n → IsExpressionText v → IsLaidOut g (stmt.Set n v) (set_text n v)
+set_laid_out g n v gap is value =
+    let k = kept v value in
+    record {
+      tokens = set_tokens g n k.tokens;
+      bytes = set_bytes g n v k;
+      stood = set_stood g n v k gap is;
+      says = set_says g n v k is;
+      last = set_last g n v k;
+    }

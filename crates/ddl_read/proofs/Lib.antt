@@ -4,5 +4,7 @@ pub mod Closed
 pub mod ReadingLaws
 pub mod Standing
 pub mod Tokens
+pub mod Kept
+pub mod Expressions
 pub mod Layouts
 pub mod Respelled

@@ -23,7 +23,7 @@ use Rattle.ddl_read.proofs.Closed.{ends_with, only_last, statement_closes}
 use Rattle.ddl_read.proofs.ReadingLaws.{only}
 use Rattle.ddl_read.proofs.Standing.{Stood, placed, IsCollected, collects}
 use Rattle.ddl_read.proofs.Tokens.{Gap, none, space, newline}
-use Rattle.ddl_read.proofs.Layouts.{IsLaidOut, schema_laid_out, config_laid_out, owner_laid_out}
+use Rattle.ddl_read.proofs.Layouts.{IsLaidOut, schema_laid_out, set_laid_out, config_laid_out, owner_laid_out}
 
 -- ---- one statement
 
@@ -35,6 +35,7 @@ pub record CanBeWritten (g : List ℕ) (s : Stmt) : Type 0 where
 pub can_be_written : (g : List ℕ) (s : Stmt) → Gap g → IsWritable s → CanBeWritten g s
 unfolding spelling
 can_be_written g (stmt.CreateSchema n) gap is = record { text = _; spells = refl; laid_out = schema_laid_out g n gap is }
+can_be_written g (stmt.Set n v) gap is = record { text = _; spells = refl; laid_out = set_laid_out g n v gap is.0 is.1 }
 can_be_written g (stmt.SetConfig n v) gap is = record { text = _; spells = refl; laid_out = config_laid_out g n v gap is.0 is.1 }
 can_be_written g (stmt.OwnerTo object role) gap is = record { text = _; spells = refl; laid_out = owner_laid_out g object role gap is.0 is.1 }
 can_be_written g _ gap is = absurd is

@@ -91,11 +91,11 @@ unfolding begins_bare is_blank
 bare_no_blank b e = grind (arith, nat_tests)
 
 -- a byte that is no white space, before the rest
-record Begun (word : List ℕ) : Type 0 where
-  first : ℕ
-  rest : List ℕ
-  bytes : word ≡ first ∷ rest
-  solid : is_blank first ≡ false
+pub record Begun (word : List ℕ) : Type 0 where
+  pub first : ℕ
+  pub rest : List ℕ
+  pub bytes : word ≡ first ∷ rest
+  pub solid : is_blank first ≡ false
 
 bare_begun : (n : List ℕ) → is_bare n ≡ true → Begun n
 unfolding is_bare
@@ -129,7 +129,7 @@ literal_begun t = quoted_begun 39 t no_blank_39
 gap_begun : (b : ℕ) (word rest : List ℕ) → is_blank b ≡ true → is_utf8 (b ∷ []) ≡ true → Begun word → GapStands (b ∷ []) (word ++ rest)
 gap_begun b word rest blank utf8 h = subst (λ (w : List ℕ). GapStands (b ∷ []) (w ++ rest)) (sym h.bytes) (gap_blank b h.first (h.rest ++ rest) blank utf8 h.solid)
 
-begun_some : (word : List ℕ) → Begun word → 0 < length word
+pub begun_some : (word : List ℕ) → Begun word → 0 < length word
 begun_some word h = subst (λ (w : List ℕ). 0 < length w) (sym h.bytes) (omega arith)
 
 -- ---- each token behind no gap, a space or a line feed
@@ -140,7 +140,7 @@ pub data Gap : List ℕ → Type 0 where
   space : Gap (32 ∷ [])
   newline : Gap (10 ∷ [])
 
-gap_stands : (g word rest : List ℕ) → Gap g → Begun word → GapStands g (word ++ rest)
+pub gap_stands : (g word rest : List ℕ) → Gap g → Begun word → GapStands g (word ++ rest)
 unfolding is_blank is_utf8 chars encode
 gap_stands _ word rest none h = gap_none (word ++ rest)
 gap_stands _ word rest space h = gap_begun 32 word rest refl refl h
