@@ -15,16 +15,16 @@ use Rattle.sql_lex.specs.Written.{quoted}
 use Rattle.sql_lex.proofs.PieceLaws.{quoted_is, word_free, digit_free}
 use Rattle.ddl_parts.specs.declared.pieces.Piece.{Piece}
 use Rattle.ddl_parts.specs.declared.runs.Bracket.{Bracket}
-use Rattle.ddl_parts.specs.Lexemes.{Lexeme, spelled, source, is_sign, is_sign_kind, is_word}
+use Rattle.ddl_parts.specs.Lexemes.{Lexeme, spelled, source, is_sign, is_sign_kind, is_word, start_of}
 use Rattle.ddl_parts.specs.Parts.{run, Runs, runs_of, ◌◂◌}
 use Rattle.ddl_parts.specs.Pieces.{lexeme_of, lexemes}
 use Rattle.ddl_parts.specs.Collecting.{Collected, collected}
-use Rattle.ddl_parts.specs.Expressions.{Nest, nested, nest_step, ends_run, is_end_kind, behind_kind, moved, expression}
+use Rattle.ddl_parts.specs.Expressions.{Nest, nested, nest_step, nest_done, ends_run, is_end_kind, behind_kind, moved, expression}
 use Rattle.ddl_read.specs.Grammar.{semicolon}
 use Rattle.ddl_read.specs.Reading.{first_start}
 use Rattle.ddl_read.specs.Respelling.{IsExpressionText}
 use Rattle.ddl_read.proofs.Closed.{only_last}
-use Rattle.ddl_read.proofs.Standing.{is_safe, GapStands, TokenStands, Stands, Stood, placed}
+use Rattle.ddl_read.proofs.Standing.{is_safe, GapStands, TokenStands, Stands, Stood, placed, IsCollected, NoSemicolon, collects_all}
 use Rattle.ddl_read.proofs.Kept.{AllCame, Came, NoLine, have_come, whole_text, stands_again, all_stand_again, spelled-append}
 use Rattle.ddl_read.proofs.Tokens.{Gap, space, none as none_before, Begun, gap_stands, begun_some, sign_token, a_sign}
 
@@ -210,3 +210,41 @@ kept v h =
     let low : 0 ≤ length v = omega arith in
     let whole : v ≡ spelled (lexemes v c.pieces) = whole_text v 0 low ∙ ap (λ (x : List ℕ). spelled (lexemes v c.pieces) ++ x) none ∙ append-nil (spelled (lexemes v c.pieces)) in
     first_gap v c.pieces h.first h.runs (subst (AllCame (lexemes v c.pieces)) none (have_come v 0 low)) whole (a_sign [] 59 [] none_before refl refl refl refl refl, tt)
+
+-- ---- an expression that was read
+
+no_semicolons : (ts : List Lexeme) → AllPlain ts → NoSemicolon ts
+no_semicolons [] h = tt
+no_semicolons (t ∷ ts) h = (h.0.ends, no_semicolons ts h.1)
+
+abbrev bare : Lexeme → Lexeme
+bare t = record { gap = []; kind = t.kind; word = t.word; start = 0 }
+
+nothing_follows : (after : List ℕ) → is_safe after ≡ true → is_safe ([] ++ after) ≡ true
+nothing_follows after e = e
+
+kept_alone : (ts : List Lexeme) (r : List ℕ) → NoLine ts → AllCame ts r → Stood ts
+kept_alone ts r line came = subst Stood (append-nil ts) (all_stand_again ts [] r line came tt nothing_follows)
+
+first_is : (text : List ℕ) (ps : List Piece) → start_of (lexemes text ps) ≡ first_start ps
+first_is text [] = refl
+first_is text (p ∷ ps) = refl
+
+-- what tokens of a text spell is an expression's text
+pub expression_text : (ts : List Lexeme) (r : List ℕ) → AllCame ts r → Runs (nested false false) ts → IsExpressionText (source ts)
+unfolding nest_step ends_run is_word is_sign nest_done
+expression_text [] r came runs = let same : (nested false false).start ≡ runs.last = cc in absurd (let d = runs.done in let e = ap nest_done same ∙ d in cc)
+expression_text (t ∷ ts) r came runs =
+    let all = are_plain (nested false false).start runs.last (t ∷ ts) runs.runs in
+    let first = token_begun t.kind t.word all.0.line came.0.spells in
+    let others = kept_alone ts r (no_lines ts all.1) came.1 in
+    let here : Stands t (spelled ts) = subst (Stands t) (append-nil (spelled ts)) (stands_again t (spelled ts) r [] all.0.line (begun_some t.word first) came.0 nothing_follows) in
+    let us = bare t ∷ ts in
+    let stood : Stood us = (record { gap = gap_stands [] t.word (spelled ts) none_before first; token = here.token; some = here.some }, others) in
+    let v = source (t ∷ ts) in
+    let c = collects_all v us refl stood (all.0.ends, no_semicolons ts all.1) in
+    record {
+      first = sym (first_is v (collected v 0).pieces) ∙ ap start_of c.tokens;
+      last = c.end ∙ (let e : 0 + length v ≡ length v = omega arith in e);
+      runs = subst (Runs (nested false false)) (sym c.tokens) (record { last = runs.last; runs = run_placed (Some (nested false false).start) 0 us ∙ runs.runs; done = runs.done });
+    }

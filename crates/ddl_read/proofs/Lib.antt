@@ -8,3 +8,4 @@ pub mod Kept
 pub mod Expressions
 pub mod Layouts
 pub mod Respelled
+pub mod Made

@@ -20,7 +20,7 @@ use Rattle.ddl_read.proofs.Closed.{takes_all}
 
 -- ---- where collected tokens end
 
-abbrev Bounds : List ℕ → ℕ → Collected → Type 0
+abbrev pub Bounds : List ℕ → ℕ → Collected → Type 0
 Bounds text at c = (at ≤ c.end) × (c.end ≤ length text) × ((start : ℕ) → first_start c.pieces ≡ Some start → at < c.end)
 
 abbrev by_sign : (ℕ → Collected) → ℕ → Token → Bool → Collected
@@ -40,7 +40,7 @@ unfolding collected_within
 bounds_within zero text at le = (omega arith, le, λ start e. absurd cc)
 bounds_within (suc n) text at le = bounds_by (collected_within n text) text at (next_token_of text at) le (lies_behind text at (next_token_of text at) le refl) (λ end high. bounds_within n text end high)
 
-bounds : (text : List ℕ) (at : ℕ) → at ≤ length text → Bounds text at (collected text at)
+pub bounds : (text : List ℕ) (at : ℕ) → at ≤ length text → Bounds text at (collected text at)
 unfolding collected
 bounds text at le = bounds_within (length text + 1) text at le
 

@@ -7,6 +7,7 @@ use Rattle.sql_lex.specs.declared.token.TokenKind.{TokenKind}
 use Rattle.sql_lex.specs.declared.token.Token.{Token}
 use Rattle.sql_lex.specs.declared.fault.LexFault.{LexFault}
 use Rattle.sql_lex.specs.Next.{next_token_of}
+use Rattle.sql_lex.proofs.Passing.{next_at_end}
 use Rattle.sql_lex.specs.Meaning.{spelling}
 use Rattle.sql_lex.specs.ReadBack.{token_at, IsTokenAt}
 use Rattle.ddl_parts.specs.declared.pieces.Piece.{Piece}
@@ -87,6 +88,10 @@ next_stands text front t behind after e s safe =
 
 -- ---- all of them
 
+abbrev pub NoSemicolon : List Lexeme → Type 0
+NoSemicolon [] = Unit {0}
+NoSemicolon (t ∷ ts) = (semicolon t ≡ false) × NoSemicolon ts
+
 -- tokens that are collected from a place on
 pub record IsCollected (text : List ℕ) (at : ℕ) (ts : List Lexeme) (c : Collected) : Type 0 where
   pub tokens : lexemes text c.pieces ≡ placed at ts
@@ -150,3 +155,29 @@ unfolding collected
 collects text front ts after e s safe last ends =
     are_collected (length text + 1) text front ts after e s safe last ends
     (omega (arith, few ts s, ap (λ (x : List ℕ). length x) e, length-append front (spelled ts ++ after), length-append (spelled ts) after))
+
+-- tokens without a semicolon, up to the end of the text
+pub are_all_collected : (n : ℕ) (text front : List ℕ) (ts : List Lexeme) → text ≡ front ++ spelled ts → Stood ts → NoSemicolon ts → length ts ≤ n → IsCollected text (length front) ts (collected_within (suc n) text (length front))
+unfolding collected_within is_sign
+are_all_collected n text front [] e s plain le =
+    let at_end : next_token_of text (length front) ≡ Ok None = next_at_end text (length front) (ap length (sym (e ∙ append-nil front))) in
+    subst (λ c. IsCollected text (length front) [] c) (sym (ap (collected_by (collected_within n text) (length front)) at_end)) (record { tokens = refl; end = let z : length front ≡ length front + 0 = omega arith in z })
+are_all_collected zero text front (t ∷ ts) e s plain le = absurd (omega arith)
+are_all_collected (suc n) text front (t ∷ ts) e s plain le =
+    let whole : text ≡ front ++ (t.gap ++ (t.word ++ (spelled ts ++ []))) = e ∙ ap (λ (x : List ℕ). front ++ (t.gap ++ (t.word ++ x))) (sym (append-nil (spelled ts))) in
+    let next = next_stands text front t (spelled ts) [] whole s.0 refl in
+    let is = begun (suc n) text (length front) t next false plain.0 in
+    let front' = front ++ (t.gap ++ t.word) in
+    let e' : text ≡ front' ++ spelled ts = e ∙ ap (λ (x : List ℕ). front ++ x) (sym (append_assoc t.gap t.word (spelled ts))) ∙ sym (append_assoc front (t.gap ++ t.word) (spelled ts)) in
+    let place : length front' ≡ length front + length t.gap + length t.word = omega (arith, length-append front (t.gap ++ t.word), length-append t.gap t.word) in
+    let behind = subst (λ k. IsCollected text k ts (collected_within (suc n) text k)) place (are_all_collected n text front' ts e' s.1 plain.1 (omega arith)) in
+    subst (λ c. IsCollected text (length front) (t ∷ ts) c) (sym is) (record {
+      tokens = ap (λ (l : Lexeme). l ∷ lexemes text (collected_within (suc n) text (length front + length t.gap + length t.word)).pieces) next.same ∙ ap (λ (ls : List Lexeme). lexeme t.gap t.kind t.word (length front + length t.gap) ∷ ls) behind.tokens;
+      end = let z = sizes t ts in behind.end ∙ (let k : length front + length t.gap + length t.word + length (spelled ts) ≡ length front + length (spelled (t ∷ ts)) = omega arith in k);
+    })
+
+pub collects_all : (text : List ℕ) (ts : List Lexeme) → text ≡ spelled ts → Stood ts → NoSemicolon ts → IsCollected text 0 ts (collected text 0)
+unfolding collected
+collects_all text ts e s plain =
+    let fuel : suc (length text) ≡ length text + 1 = omega arith in
+    subst (λ n. IsCollected text 0 ts (collected_within n text 0)) fuel (are_all_collected (length text) text [] ts e s plain (omega (arith, few ts s, ap (λ (x : List ℕ). length x) e)))

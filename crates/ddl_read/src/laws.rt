@@ -29,3 +29,10 @@ pub fn written_statements_are_read_back()
     ensures { (statements : List Stmt) (text : List ℕ) → AllWritable statements → spellings statements ≡ Some text
         → (found : List Located) × (statements_of text ≡ Ok found) × (said found ≡ statements) }
 {}
+
+/// Where a text reads as statements, their spellings, joined, are a text that reads as the same statements.
+pub fn statements_that_were_read_are_read_again()
+    ensures { (text : List ℕ) (statements : List Located) → statements_of text ≡ Ok statements
+        → (again : List ℕ) × (spellings (said statements) ≡ Some again)
+        × ((same : List Located) × (statements_of again ≡ Ok same) × (said same ≡ said statements)) }
+{}
