@@ -1,16 +1,14 @@
 -- Slices of lists side by side, and the text of a run of tokens as a slice of the whole text.
-use Rattle.std.proofs.Common.{◌≡◌, ℕ, zero, suc, ◌+◌, ◌-◌, ◌<◌, ◌≤◌, Bool, true, false, ◌&&◌, List, [], ◌∷◌, ◌++◌, length, take, drop, get_or, Option, Some, None, Result, Ok, Err, refl, sym, ap, subst, ◌∙◌, arith, append-nil, leb-true, ltb-true, eqb-true}
-use Rattle.std.specs.Prelude.{slice_range, map}
+use Rattle.std.proofs.Common.{◌≡◌, ℕ, zero, suc, ◌+◌, ◌-◌, ◌<◌, ◌≤◌, true, List, [], ◌∷◌, ◌++◌, length, take, drop, get_or, Some, None, Ok, refl, sym, ap, subst, ◌∙◌, arith, append-nil, leb-true, ltb-true, eqb-true}
+use Rattle.std.specs.Prelude.{slice_range}
 use Rattle.std.specs.List.{list_all}
 use Rattle.std.specs.Str.{IsUtf8, is_utf8}
 use Rattle.std.proofs.lemmas.Str.{IsUtf8-append, IsUtf8-nil, IsUtf8-from_is_utf8, is_utf8-from_IsUtf8}
 use Rattle.std.proofs.lemmas.Bool.{and_parts, and_from}
-use Rattle.sql_lex.specs.declared.token.TokenKind.{TokenKind}
 use Rattle.sql_lex.specs.declared.token.Token.{Token}
-use Rattle.sql_lex.specs.declared.fault.LexFault.{LexFault}
 use Rattle.sql_lex.specs.Next.{next_token_of}
 use Rattle.sql_lex.specs.Meaning.{spelling}
-use Rattle.sql_lex.specs.Answers.{SoundIn, Between, nothing, gap, IsNext}
+use Rattle.sql_lex.specs.Answers.{Between, nothing, gap, IsNext}
 use Rattle.sql_lex.proofs.TextLaws.{next_found, piece_word}
 use Rattle.ddl_parts.specs.declared.pieces.Piece.{Piece}
 use Rattle.ddl_parts.specs.Lexemes.{Lexeme, spelled, source}

@@ -78,11 +78,11 @@ run_none [] = refl
 run_none (t ∷ ts) = run_none ts
 
 -- none of the tokens is a semicolon, or a line that begins with a backslash
-record Plain (t : Lexeme) : Type 0 where
-  ends : semicolon t ≡ false
-  line : t.kind ≡ MetaLine → ⊥
+pub record Plain (t : Lexeme) : Type 0 where
+  pub ends : semicolon t ≡ false
+  pub line : t.kind ≡ MetaLine → ⊥
 
-abbrev AllPlain : List Lexeme → Type 0
+abbrev pub AllPlain : List Lexeme → Type 0
 AllPlain [] = Unit {0}
 AllPlain (t ∷ ts) = Plain t × AllPlain ts
 
@@ -102,14 +102,14 @@ pub last_more : (test : Lexeme → Bool) (t : Lexeme) (us : List Lexeme) → tes
 last_more test t [] e last = refl
 last_more test t (u ∷ us) e last = and_from (not (test t)) (only_last test (u ∷ us)) (ap not e) last
 
-plain_last : (ts : List Lexeme) (u : Lexeme) → AllPlain ts → only_last semicolon (ts ++ u ∷ []) ≡ true
-plain_last [] u h = refl
-plain_last (t ∷ ts) u h = last_more semicolon t (ts ++ u ∷ []) h.0.ends (plain_last ts u h.1)
+pub plain_last : (ts us : List Lexeme) → AllPlain ts → only_last semicolon us ≡ true → only_last semicolon (ts ++ us) ≡ true
+plain_last [] us h last = last
+plain_last (t ∷ ts) us h last = last_more semicolon t (ts ++ us) h.0.ends (plain_last ts us h.1 last)
 
 -- ---- the same tokens elsewhere
 
-abbrev spaced : Lexeme → Lexeme
-spaced t = record { gap = 32 ∷ []; kind = t.kind; word = t.word; start = 0 }
+abbrev gapped : List ℕ → Lexeme → Lexeme
+gapped g t = record { gap = g; kind = t.kind; word = t.word; start = 0 }
 
 pub placed-append : (at : ℕ) (a b : List Lexeme) → placed at (a ++ b) ≡ placed at a ++ placed (at + length (spelled a)) b
 placed-append at [] b = ap (λ n. placed n b) (let e : at ≡ at + 0 = omega arith in e)
@@ -167,58 +167,55 @@ token_begun MetaLine word line h = absurd (line refl)
 
 -- ---- an expression's text
 
--- tokens for an expression behind a space, before a semicolon
-pub record IsKept (v : List ℕ) : Type 0 where
+-- tokens for an expression behind a gap, before others
+pub record IsKept (g v : List ℕ) (others : List Lexeme) : Type 0 where
   pub tokens : List Lexeme
-  pub bytes : spelled tokens ≡ 32 ∷ v
-  pub stood : Stood (tokens ++ sign_token [] 59 ∷ [])
+  pub bytes : spelled tokens ≡ g ++ v
+  pub stood : Stood (tokens ++ others)
   pub spells : (at : ℕ) → expression.Spells v (placed at tokens)
-  pub last : only_last semicolon (tokens ++ sign_token [] 59 ∷ []) ≡ true
+  pub plain : AllPlain tokens
 
-safe_semicolon : (after : List ℕ) → is_safe after ≡ true → is_safe (59 ∷ after) ≡ true
-safe_semicolon after e = refl
+-- whatever is safe behind them, they begin with what is safe
+abbrev pub IsSafe : List Lexeme → Type 0
+IsSafe others = (after : List ℕ) → is_safe after ≡ true → is_safe (spelled others ++ after) ≡ true
 
-kept_by : (v : List ℕ) (t : Lexeme) (ts : List Lexeme) (r : List ℕ) → v ≡ t.word ++ spelled ts → Runs (nested false false) (t ∷ ts) → AllCame (t ∷ ts) r → Stood (sign_token [] 59 ∷ []) → IsKept v
+kept_by : (g v : List ℕ) (t : Lexeme) (ts others : List Lexeme) (r : List ℕ) → Gap g → v ≡ t.word ++ spelled ts → Runs (nested false false) (t ∷ ts) → AllCame (t ∷ ts) r → Stood others → IsSafe others → IsKept g v others
 unfolding expression nest_step ends_run is_word is_sign
-kept_by v t ts r is runs came ended =
+kept_by g v t ts others r gap is runs came stood safe =
     let all = are_plain (nested false false).start runs.last (t ∷ ts) runs.runs in
     let first = token_begun t.kind t.word all.0.line came.0.spells in
-    let others = all_stand_again ts (sign_token [] 59 ∷ []) r (no_lines ts all.1) came.1 ended safe_semicolon in
-    let here = subst (Stands t) (sym (spelled-append ts (sign_token [] 59 ∷ []))) (stands_again t (spelled ts) r (59 ∷ []) all.0.line (begun_some t.word first) came.0 safe_semicolon) in
+    let behind = all_stand_again ts others r (no_lines ts all.1) came.1 stood safe in
+    let here = subst (Stands t) (sym (spelled-append ts others)) (stands_again t (spelled ts) r (spelled others) all.0.line (begun_some t.word first) came.0 safe) in
     record {
-      tokens = spaced t ∷ ts;
-      bytes = ap (λ (x : List ℕ). 32 ∷ x) (sym is);
-      stood = (record { gap = gap_stands (32 ∷ []) t.word (spelled (ts ++ sign_token [] 59 ∷ [])) space first; token = here.token; some = here.some }, others);
+      tokens = gapped g t ∷ ts;
+      bytes = ap (λ (x : List ℕ). g ++ x) (sym is);
+      stood = (record { gap = gap_stands g t.word (spelled (ts ++ others)) gap first; token = here.token; some = here.some }, behind);
       spells = λ at.
-          let us = placed at (spaced t ∷ ts) in
-          (us, is ∙ ap (λ (x : List ℕ). t.word ++ x) (sym (spelled_placed (at + 1 + length t.word) ts)), (refl, record { last = runs.last; runs = run_placed (Some (nested false false).start) at (spaced t ∷ ts) ∙ runs.runs; done = runs.done }));
-      last = last_more semicolon (spaced t) (ts ++ sign_token [] 59 ∷ []) all.0.ends (plain_last ts (sign_token [] 59) all.1);
+          let us = placed at (gapped g t ∷ ts) in
+          (us, is ∙ ap (λ (x : List ℕ). t.word ++ x) (sym (spelled_placed (at + length g + length t.word) ts)), (refl, record { last = runs.last; runs = run_placed (Some (nested false false).start) at (gapped g t ∷ ts) ∙ runs.runs; done = runs.done }));
+      plain = (record { ends = all.0.ends; line = all.0.line }, all.1);
     }
 
-first_gap : (v : List ℕ) (ps : List Piece) → first_start ps ≡ Some 0 → Runs (nested false false) (lexemes v ps) → AllCame (lexemes v ps) [] → v ≡ spelled (lexemes v ps) → Stood (sign_token [] 59 ∷ []) → IsKept v
-first_gap v [] first runs came whole ended = absurd cc
-first_gap v (p ∷ ps) first runs came whole ended =
+first_gap : (g v : List ℕ) (ps : List Piece) (others : List Lexeme) → Gap g → first_start ps ≡ Some 0 → Runs (nested false false) (lexemes v ps) → AllCame (lexemes v ps) [] → v ≡ spelled (lexemes v ps) → Stood others → IsSafe others → IsKept g v others
+first_gap g v [] others gap first runs came whole stood safe = absurd cc
+first_gap g v (p ∷ ps) others gap first runs came whole stood safe =
     let start : p.token.start ≡ 0 = cc in
     let none : (lexeme_of v p).gap ≡ [] = ap (λ n. take n (drop p.from v)) (let e : p.token.start - p.from ≡ 0 = omega arith in e) in
-    kept_by v (lexeme_of v p) (lexemes v ps) [] (whole ∙ ap (λ (x : List ℕ). x ++ ((lexeme_of v p).word ++ spelled (lexemes v ps))) none) runs came ended
+    kept_by g v (lexeme_of v p) (lexemes v ps) others [] gap (whole ∙ ap (λ (x : List ℕ). x ++ ((lexeme_of v p).word ++ spelled (lexemes v ps))) none) runs came stood safe
 
-pub kept : (v : List ℕ) → IsExpressionText v → IsKept v
-unfolding is_blank is_sign_byte is_utf8 chars encode
-kept v h =
+pub kept : (g v : List ℕ) (others : List Lexeme) → Gap g → IsExpressionText v → Stood others → IsSafe others → IsKept g v others
+kept g v others gap h stood safe =
     let c = collected v 0 in
     let none : drop c.end v ≡ [] = ap (λ n. drop n v) h.last ∙ drop-length v in
     let low : 0 ≤ length v = omega arith in
     let whole : v ≡ spelled (lexemes v c.pieces) = whole_text v 0 low ∙ ap (λ (x : List ℕ). spelled (lexemes v c.pieces) ++ x) none ∙ append-nil (spelled (lexemes v c.pieces)) in
-    first_gap v c.pieces h.first h.runs (subst (AllCame (lexemes v c.pieces)) none (have_come v 0 low)) whole (a_sign [] 59 [] none_before refl refl refl refl refl, tt)
+    first_gap g v c.pieces others gap h.first h.runs (subst (AllCame (lexemes v c.pieces)) none (have_come v 0 low)) whole stood safe
 
 -- ---- an expression that was read
 
 no_semicolons : (ts : List Lexeme) → AllPlain ts → NoSemicolon ts
 no_semicolons [] h = tt
 no_semicolons (t ∷ ts) h = (h.0.ends, no_semicolons ts h.1)
-
-abbrev bare : Lexeme → Lexeme
-bare t = record { gap = []; kind = t.kind; word = t.word; start = 0 }
 
 nothing_follows : (after : List ℕ) → is_safe after ≡ true → is_safe ([] ++ after) ≡ true
 nothing_follows after e = e
@@ -239,7 +236,7 @@ expression_text (t ∷ ts) r came runs =
     let first = token_begun t.kind t.word all.0.line came.0.spells in
     let others = kept_alone ts r (no_lines ts all.1) came.1 in
     let here : Stands t (spelled ts) = subst (Stands t) (append-nil (spelled ts)) (stands_again t (spelled ts) r [] all.0.line (begun_some t.word first) came.0 nothing_follows) in
-    let us = bare t ∷ ts in
+    let us = gapped [] t ∷ ts in
     let stood : Stood us = (record { gap = gap_stands [] t.word (spelled ts) none_before first; token = here.token; some = here.some }, others) in
     let v = source (t ∷ ts) in
     let c = collects_all v us refl stood (all.0.ends, no_semicolons ts all.1) in

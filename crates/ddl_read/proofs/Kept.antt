@@ -272,6 +272,7 @@ some_bytes MetaLine word h = subst (λ (x : List ℕ). 0 < length x) (sym h.2) (
 -- tokens that are kept stand before others that begin with what is safe
 pub all_stand_again : (ts others : List Lexeme) (r : List ℕ) → NoLine ts → AllCame ts r → Stood others → ((after : List ℕ) → is_safe after ≡ true → is_safe (spelled others ++ after) ≡ true) → Stood (ts ++ others)
 all_stand_again [] others r line came stood safe = stood
-all_stand_again (t ∷ ts) others r line came stood safe =
-    (subst (Stands t) (sym (spelled-append ts others)) (stands_again t (spelled ts) r (spelled others) line.0 (some_bytes t.kind t.word came.0.spells) came.0 safe),
-    all_stand_again ts others r line.1 came.1 stood safe)
+all_stand_again (t ∷ ts) others r line came stood safe = (
+  subst (Stands t) (sym (spelled-append ts others)) (stands_again t (spelled ts) r (spelled others) line.0 (some_bytes t.kind t.word came.0.spells) came.0 safe),
+  all_stand_again ts others r line.1 came.1 stood safe,
+)

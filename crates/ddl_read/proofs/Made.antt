@@ -22,7 +22,7 @@ use Rattle.ddl_parts.specs.Leaves.{name, name_in, name_value, literal, literal_v
 use Rattle.ddl_parts.specs.Expressions.{nested, expression}
 use Rattle.ddl_write.specs.Spelling.{spelling}
 use Rattle.ddl_read.specs.declared.located.Located.{Located}
-use Rattle.ddl_read.specs.Grammar.{semicolon, create_schema, created, new_owner, name_and_owner, path_and_owner, owned_name, owned_path, altered, selected, equals_or_to, setting, command, statement}
+use Rattle.ddl_read.specs.Grammar.{semicolon, create_schema, created, new_owner, new_check, DomainChange, its_owner, one_more_check, domain_changed, domain_change, altered_domain, name_and_owner, path_and_owner, owned_name, owned_path, altered, selected, equals_or_to, setting, command, statement}
 use Rattle.ddl_read.specs.Reading.{listed, statements_of}
 use Rattle.ddl_read.specs.Readings.{IsStatement, Reads, all_read, one_read}
 use Rattle.ddl_read.specs.Respelling.{IsPath, IsOwnedName, IsExpressionText, IsWritable, AllWritable, joined, spellings, said}
@@ -148,6 +148,42 @@ new_owner_yields =
     lead_yields IsName (is_word (codes "owner")) (is_word (codes "to") ▸ (name ◂ semicolon))
     (lead_yields IsName (is_word (codes "to")) (name ◂ semicolon) (end_yields IsName semicolon name name_yields))
 
+abbrev check_part : Part (List ℕ)
+check_part = is_word (codes "check") ▸ (is_sign 40 ▸ (expression ◂ is_sign 41 ◂ semicolon))
+
+abbrev IsCheck : List ℕ × List ℕ → Type 0
+IsCheck x = IsName x.0 × IsExpressionText x.1
+
+new_check_yields : Yields IsCheck new_check
+unfolding new_check
+new_check_yields =
+    lead_yields IsCheck (is_word (codes "add")) (is_word (codes "constraint") ▸ (name then check_part))
+    (lead_yields IsCheck (is_word (codes "constraint")) (name then check_part)
+    (then_yields IsName IsExpressionText name check_part name_yields
+    (lead_yields IsExpressionText (is_word (codes "check")) (is_sign 40 ▸ (expression ◂ is_sign 41 ◂ semicolon))
+    (lead_yields IsExpressionText (is_sign 40) (expression ◂ is_sign 41 ◂ semicolon)
+    (end_yields IsExpressionText semicolon (expression ◂ is_sign 41) (end_yields IsExpressionText (is_sign 41) expression expression_yields))))))
+
+abbrev IsChange : DomainChange → Type 0
+IsChange (its_owner role) = IsName role
+IsChange (one_more_check n v) = IsName n × IsExpressionText v
+
+domain_change_yields : Yields IsChange domain_change
+unfolding domain_change
+domain_change_yields =
+    choose_yields IsChange (is_word (codes "owner")) (seen its_owner new_owner) (seen (λ x. one_more_check x.0 x.1) new_check)
+    (seen_yields IsChange its_owner new_owner new_owner_yields) (seen_yields IsChange (λ x. one_more_check x.0 x.1) new_check new_check_yields)
+
+changed : (q : QName) (change : DomainChange) → IsPath q → IsChange change → IsWritable (domain_changed q change)
+changed q (its_owner role) path is = (path, is)
+changed q (one_more_check n v) path is = (path, is.0, is.1)
+
+altered_domain_yields : Yields IsWritable altered_domain
+unfolding altered_domain
+altered_domain_yields v ts r came spells =
+    let both = then_yields IsPath IsChange qualified domain_change qualified_yields domain_change_yields spells.0 ts r came spells.2 in
+    subst IsWritable (sym spells.1) (changed spells.0.0 spells.0.1 both.0 both.1)
+
 owned_name_yields : (key : List ℕ) (kind : List ℕ → Owned) → ((n : List ℕ) → IsName n → IsOwnedName (kind n)) → Yields IsWritable (owned_name key kind).part
 unfolding name_and_owner
 owned_name_yields key kind names v ts r came spells =
@@ -164,14 +200,23 @@ altered_yields : Yields IsWritable altered
 unfolding altered
 altered_yields =
     one_of_yields IsWritable (owned_name (codes "schema") owned.Schema)
-    (owned_path (codes "type") owned.Type ∷ owned_path (codes "domain") owned.Domain ∷ owned_path (codes "table") owned.Table
-    ∷ owned_path (codes "sequence") owned.Sequence ∷ owned_path (codes "view") owned.View ∷ owned_name (codes "database") owned.Database ∷ [])
-    (owned_name_yields (codes "schema") owned.Schema (λ n is. is),
-    (owned_path_yields (codes "type") owned.Type (λ q is. is),
-    (owned_path_yields (codes "domain") owned.Domain (λ q is. is),
-    (owned_path_yields (codes "table") owned.Table (λ q is. is),
-    (owned_path_yields (codes "sequence") owned.Sequence (λ q is. is),
-    (owned_path_yields (codes "view") owned.View (λ q is. is), owned_name_yields (codes "database") owned.Database (λ n is. is)))))))
+    (owned_path (codes "type") owned.Type ∷ record { key = codes "domain"; part = altered_domain } ∷ owned_path (codes "table") owned.Table
+    ∷ owned_path (codes "sequence") owned.Sequence ∷ owned_path (codes "view") owned.View ∷ owned_name (codes "database") owned.Database ∷ []) (
+      owned_name_yields (codes "schema") owned.Schema (λ n is. is),
+      (
+        owned_path_yields (codes "type") owned.Type (λ q is. is),
+        (
+          altered_domain_yields,
+          (
+            owned_path_yields (codes "table") owned.Table (λ q is. is),
+            (
+              owned_path_yields (codes "sequence") owned.Sequence (λ q is. is),
+              (owned_path_yields (codes "view") owned.View (λ q is. is), owned_name_yields (codes "database") owned.Database (λ n is. is)),
+            ),
+          ),
+        ),
+      ),
+    )
 
 abbrev value_end : Part (List ℕ)
 value_end = literal ◂ is_sign 44 ◂ is_word (codes "false") ◂ is_sign 41 ◂ semicolon

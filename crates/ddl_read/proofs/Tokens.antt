@@ -45,10 +45,9 @@ literal_token gap t = record { gap = gap; kind = Literal; word = written_literal
 pub gap_none : (behind : List ℕ) → GapStands [] behind
 gap_none behind front after safe = ap (next_token_of (front ++ (behind ++ after))) (let e : length front ≡ length front + 0 = omega arith in e)
 
-pub gap_blank : (b c : ℕ) (rest : List ℕ) → is_blank b ≡ true → is_utf8 (b ∷ []) ≡ true → is_blank c ≡ false → GapStands (b ∷ []) (c ∷ rest)
+pub gap_blank : (g : List ℕ) (c : ℕ) (rest : List ℕ) → 0 < length g → list_all is_blank g ≡ true → is_utf8 g ≡ true → is_blank c ≡ false → GapStands g (c ∷ rest)
 unfolding next_is
-gap_blank b c rest blank utf8 none front after safe =
-    gap_is_passed front (b ∷ []) (c ∷ (rest ++ after)) (inl ((let e : 0 < length (b ∷ []) = omega arith in e, and_from (is_blank b) true blank refl), none)) utf8
+gap_blank g c rest some blank utf8 none front after safe = gap_is_passed front g (c ∷ (rest ++ after)) (inl ((some, blank), none)) utf8
 
 -- ---- tokens
 
@@ -126,25 +125,31 @@ literal_begun : (t : List ℕ) → Begun (written_literal t)
 unfolding written_literal
 literal_begun t = quoted_begun 39 t no_blank_39
 
-gap_begun : (b : ℕ) (word rest : List ℕ) → is_blank b ≡ true → is_utf8 (b ∷ []) ≡ true → Begun word → GapStands (b ∷ []) (word ++ rest)
-gap_begun b word rest blank utf8 h = subst (λ (w : List ℕ). GapStands (b ∷ []) (w ++ rest)) (sym h.bytes) (gap_blank b h.first (h.rest ++ rest) blank utf8 h.solid)
+gap_begun : (g word rest : List ℕ) → 0 < length g → list_all is_blank g ≡ true → is_utf8 g ≡ true → Begun word → GapStands g (word ++ rest)
+gap_begun g word rest some blank utf8 h = subst (λ (w : List ℕ). GapStands g (w ++ rest)) (sym h.bytes) (gap_blank g h.first (h.rest ++ rest) some blank utf8 h.solid)
 
 pub begun_some : (word : List ℕ) → Begun word → 0 < length word
 begun_some word h = subst (λ (w : List ℕ). 0 < length w) (sym h.bytes) (omega arith)
 
--- ---- each token behind no gap, a space or a line feed
+-- ---- each token behind no gap or white space
+
+-- a line feed and four spaces
+abbrev pub indent : List ℕ
+indent = 10 ∷ 32 ∷ 32 ∷ 32 ∷ 32 ∷ []
 
 -- what a gap before a token may be
 pub data Gap : List ℕ → Type 0 where
   none : Gap []
   space : Gap (32 ∷ [])
   newline : Gap (10 ∷ [])
+  indented : Gap indent
 
 pub gap_stands : (g word rest : List ℕ) → Gap g → Begun word → GapStands g (word ++ rest)
 unfolding is_blank is_utf8 chars encode
 gap_stands _ word rest none h = gap_none (word ++ rest)
-gap_stands _ word rest space h = gap_begun 32 word rest refl refl h
-gap_stands _ word rest newline h = gap_begun 10 word rest refl refl h
+gap_stands _ word rest space h = gap_begun (32 ∷ []) word rest (omega arith) refl refl h
+gap_stands _ word rest newline h = gap_begun (10 ∷ []) word rest (omega arith) refl refl h
+gap_stands _ word rest indented h = gap_begun indent word rest (omega arith) refl refl h
 
 word_begun : (w : List ℕ) → IsWord w → Begun w
 word_begun [] h = absurd h

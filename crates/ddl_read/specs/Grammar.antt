@@ -37,6 +37,27 @@ name_and_owner = name then new_owner
 unfoldable pub path_and_owner : Part (QName × List ℕ)
 path_and_owner = qualified then new_owner
 
+-- ADD CONSTRAINT name CHECK (expression);
+unfoldable pub new_check : Part (List ℕ × List ℕ)
+new_check =
+    is_word (codes "add") ▸ (is_word (codes "constraint") ▸ (name then (is_word (codes "check") ▸ (is_sign 40 ▸ (expression ◂ is_sign 41 ◂ semicolon)))))
+
+-- what changes of a domain
+pub data DomainChange : Type 0 where
+  its_owner : List ℕ → DomainChange
+  one_more_check : List ℕ → List ℕ → DomainChange
+
+abbrev pub domain_changed : QName → DomainChange → Stmt
+domain_changed q (its_owner role) = stmt.OwnerTo (owned.Domain q) role
+domain_changed q (one_more_check name text) = stmt.AddDomainCheck q name text
+
+unfoldable pub domain_change : Part DomainChange
+domain_change = choose (is_word (codes "owner")) (seen its_owner new_owner) (seen (λ x. one_more_check x.0 x.1) new_check)
+
+-- path OWNER TO role; or path ADD CONSTRAINT name CHECK (expression);
+unfoldable pub altered_domain : Part Stmt
+altered_domain = seen (λ x. domain_changed x.0 x.1) (qualified then domain_change)
+
 abbrev pub owned_name : List ℕ → (List ℕ → Owned) → Branch Stmt
 owned_name key kind = record { key = key; part = seen (λ x. stmt.OwnerTo (kind x.0) x.1) name_and_owner }
 
@@ -46,7 +67,7 @@ owned_path key kind = record { key = key; part = seen (λ x. stmt.OwnerTo (kind 
 unfoldable pub altered : Part Stmt
 altered =
     one_of (owned_name (codes "schema") owned.Schema)
-    (owned_path (codes "type") owned.Type ∷ owned_path (codes "domain") owned.Domain ∷ owned_path (codes "table") owned.Table
+    (owned_path (codes "type") owned.Type ∷ record { key = codes "domain"; part = altered_domain } ∷ owned_path (codes "table") owned.Table
     ∷ owned_path (codes "sequence") owned.Sequence ∷ owned_path (codes "view") owned.View ∷ owned_name (codes "database") owned.Database ∷ [])
 
 -- ---- SELECT ..

@@ -39,6 +39,7 @@ abbrev pub IsWritable : Stmt → Type 0
 IsWritable (stmt.CreateSchema n) = IsName n
 IsWritable (stmt.Set n v) = IsName n × IsExpressionText v
 IsWritable (stmt.SetConfig n v) = IsText n × IsText v
+IsWritable (stmt.AddDomainCheck q n v) = IsPath q × IsName n × IsExpressionText v
 IsWritable (stmt.OwnerTo object role) = IsOwnedName object × IsName role
 IsWritable _ = ⊥
 

@@ -2,10 +2,10 @@
 ghost use Rattle.std.specs.Prelude.{◌≡◌, drop};
 ghost use Rattle.cat_model.specs.declared.stmt.Stmt.TheVariants.{OwnerTo};
 ghost use Rattle.ddl_parts.specs.Pieces.{GivesPart, GivesPlace, GivesValue, value_of};
-ghost use Rattle.ddl_read.specs.Grammar.{create_schema, created, new_owner, altered, selected, equals_or_to, setting, name_and_owner, path_and_owner, command, statement};
+ghost use Rattle.ddl_read.specs.Grammar.{create_schema, created, new_owner, new_check, domain_change, altered_domain, altered, selected, equals_or_to, setting, name_and_owner, path_and_owner, command, statement};
 
 use cat_model::{Owned, QName, Stmt};
-use copy_text::Name;
+use copy_text::{Name, Text};
 use ddl_parts::{Pieces, ReadError, qualified_name};
 use std::alloc::Global;
 
@@ -70,6 +70,38 @@ fn owner_to(object: Owned, role: Name) -> Stmt
     Stmt::OwnerTo { object, role }
 }
 
+#[tactic(auto, unfolding(crate::specs::Grammar::new_check))]
+fn new_check(
+    alloc: Global,
+    pieces: &Pieces<'_>,
+    at: usize,
+) -> Result<((Name, Text), usize), ReadError>
+    ensures { GivesPart pieces.now (λ x. (x.0, x.1)) result (new_check.read (drop at pieces.now)) }
+{
+    let at = pieces.word(at, "add")?;
+    let at = pieces.word(at, "constraint")?;
+    let (name, at) = pieces.name(alloc, at)?;
+    let at = pieces.word(at, "check")?;
+    let at = pieces.sign(at, b'(')?;
+    let (text, at) = pieces.expression(alloc, at)?;
+    let at = pieces.sign(at, b')')?;
+    let at = pieces.sign(at, b';')?;
+    Ok(((name, text), at))
+}
+
+#[tactic(auto, unfolding(crate::specs::Grammar::altered_domain, crate::specs::Grammar::domain_change))]
+fn altered_domain(alloc: Global, pieces: &Pieces<'_>, at: usize) -> Result<(Stmt, usize), ReadError>
+    ensures { GivesPart pieces.now (λ s. s) result (altered_domain.read (drop at pieces.now)) }
+{
+    let (q, at) = qualified_name(alloc, pieces, at)?;
+    if pieces.is_word(at, "owner") {
+        let (role, at) = new_owner(alloc, pieces, at)?;
+        return Ok((owner_to(Owned::Domain(q), role), at));
+    }
+    let ((name, text), at) = new_check(alloc, pieces, at)?;
+    Ok((Stmt::AddDomainCheck { q, name, text }, at))
+}
+
 #[tactic(auto, unfolding(crate::specs::Grammar::altered))]
 fn altered(alloc: Global, pieces: &Pieces<'_>, at: usize) -> Result<(Stmt, usize), ReadError>
     ensures { GivesPart pieces.now (λ s. s) result (altered.read (drop at pieces.now)) }
@@ -86,8 +118,7 @@ fn altered(alloc: Global, pieces: &Pieces<'_>, at: usize) -> Result<(Stmt, usize
     }
     if pieces.is_word(at, "domain") {
         let at = pieces.word(at, "domain")?;
-        let ((q, role), at) = path_and_owner(alloc, pieces, at)?;
-        return Ok((owner_to(Owned::Domain(q), role), at));
+        return altered_domain(alloc, pieces, at);
     }
     if pieces.is_word(at, "table") {
         let at = pieces.word(at, "table")?;

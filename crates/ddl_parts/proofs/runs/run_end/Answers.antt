@@ -1,11 +1,10 @@
-use Rattle.std.proofs.Common.{◌≡◌, ◌∙◌, ◌+◌, ◌<◌, [], ap, sym, refl, Bool, false, Option, Some, None, List, length, reverse, drop, map, arith}
+use Rattle.std.proofs.Common.{◌≡◌, [], sym, refl, false, Some, None, reverse, drop, arith}
 use Rattle.std.proofs.lemmas.List.{length-map}
 use Rattle.ddl_parts.specs.declared.runs.Spot.TheVariants.{First}
-use Rattle.ddl_parts.specs.Lexemes.{Lexeme}
-use Rattle.ddl_parts.specs.Parts.{Reading, scan}
+use Rattle.ddl_parts.specs.Parts.{scan}
 use Rattle.ddl_parts.specs.Pieces.{lexeme_of, lexemes}
 use Rattle.ddl_parts.specs.Expressions.{Nest, nested, nest_step, nest_done}
-use Rattle.ddl_parts.proofs.Scanning.{all_left, at_token, at_end, at_stop, none_left}
+use Rattle.ddl_parts.proofs.Scanning.{at_token, at_end, at_stop, none_left}
 use Rattle.ddl_parts.proofs.runs.run_end.Goals as goal
 
 start_undone : nest_done (record { brackets = []; spot = First }) ≡ false
