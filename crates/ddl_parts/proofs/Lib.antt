@@ -9,3 +9,5 @@ pub mod Collects
 pub mod Leads
 pub mod RunLaws
 pub mod Tables
+pub mod Slices
+pub mod Scanning

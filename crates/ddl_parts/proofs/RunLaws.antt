@@ -1,15 +1,21 @@
 -- The laws of expressions and types.
-use Rattle.std.proofs.Common.{◌≡◌, Bool, true, false, cond, not, List, [], ◌∷◌, Some, None, refl, ap, ◌∙◌, ◌||◌, codes}
+use Rattle.std.proofs.Common.{◌≡◌, ℕ, Bool, true, false, cond, not, List, [], ◌∷◌, Some, None, refl, ap, subst, ◌∙◌, ◌||◌, codes, eqb-true}
+use Rattle.std.specs.Prelude.{◌==◌}
 use Rattle.std.proofs.lemmas.Bool.{or_parts}
 use Rattle.std.specs.Str.{is_utf8, chars}
 use Rattle.std.proofs.Math.Utf8.{encode}
-use Rattle.sql_lex.specs.declared.token.TokenKind.TheVariants.{Number}
+use Rattle.sql_lex.specs.declared.token.TokenKind.{TokenKind}
+use Rattle.sql_lex.specs.declared.token.TokenKind.TheVariants.{Word, QuotedName, Literal, Number, Sign, MetaLine}
 use Rattle.sql_lex.specs.Meaning.{is_keyword_of, name_of}
-use Rattle.ddl_parts.specs.Lexemes.{Lexeme, is_word, is_sign, source}
+use Rattle.ddl_parts.specs.Lexemes.{Lexeme, is_word, is_sign, is_sign_kind, source}
 use Rattle.ddl_parts.specs.Parts.{run, runs_of}
-use Rattle.ddl_parts.specs.Laws.{Lawful}
+use Rattle.ddl_parts.specs.Laws.{Lawful, Apart}
 use Rattle.ddl_parts.specs.Leaves.{name_value, name_in}
-use Rattle.ddl_parts.specs.Expressions.{Bracket, round, square, Spot, first, first_not, later_not, inside, closed as shut, Nest, nested, nest_step, nest_done, ends_run, step_by, behind_bounded, behind_kind, moved, expression, default_text, default_and_null, without_not_null}
+use Rattle.ddl_parts.specs.declared.runs.Bracket.{Bracket}
+use Rattle.ddl_parts.specs.declared.runs.Bracket.TheVariants.{Round, Square}
+use Rattle.ddl_parts.specs.declared.runs.Spot.{Spot}
+use Rattle.ddl_parts.specs.declared.runs.Spot.TheVariants.{First, FirstNot, LaterNot, Inside, Closed as Shut}
+use Rattle.ddl_parts.specs.Expressions.{Nest, nested, nest_step, nest_done, ends_run, is_end_kind, step_by, behind_bounded, behind_kind, moved, expression, default_text, default_and_null, without_not_null}
 use Rattle.ddl_parts.specs.Types.{TypeSpot, begin, first_word, schema, dotted, path, words, bracket, number, comma, behind, array, closed, typing, type_step, type_done, type_goes_on, is_type_word, is_number, type_part, type_of}
 use Rattle.ddl_parts.proofs.Simple.{seen_laws}
 use Rattle.ddl_parts.proofs.Machines.{CanEnd, machine_laws}
@@ -24,72 +30,72 @@ abbrev nest : List Bracket → Spot → Nest
 nest brackets spot = record { brackets = brackets; spot = spot }
 
 abbrev closing : Bracket → Lexeme
-closing round = a_sign 41
-closing square = a_sign 93
+closing Round = a_sign 41
+closing Square = a_sign 93
 
 abbrev closers : List Bracket → List Lexeme
 closers [] = []
 closers (b ∷ bs) = closing b ∷ closers bs
 
 abbrev finish_by : Spot → List Bracket → List Lexeme
-finish_by first [] = a_number ∷ []
+finish_by First [] = a_number ∷ []
 finish_by _ bs = closers bs
 
 abbrev last_by : Spot → List Bracket → Nest
-last_by first [] = nest [] inside
+last_by First [] = nest [] Inside
 last_by spot [] = nest [] spot
-last_by _ (b ∷ bs) = nest [] inside
+last_by _ (b ∷ bs) = nest [] Inside
 
-closes : (bounded takes : Bool) (bs : List Bracket) → run (nested bounded takes) (Some (nest bs inside)) (closers bs) ≡ Some (nest [] inside)
+closes : (bounded takes : Bool) (bs : List Bracket) → run (nested bounded takes) (Some (nest bs Inside)) (closers bs) ≡ Some (nest [] Inside)
 unfolding nest_step
 closes bounded takes [] = refl
-closes bounded takes (round ∷ bs) = closes bounded takes bs
-closes bounded takes (square ∷ bs) = closes bounded takes bs
+closes bounded takes (Round ∷ bs) = closes bounded takes bs
+closes bounded takes (Square ∷ bs) = closes bounded takes bs
 
 finishes : (bounded takes : Bool) (spot : Spot) (bs : List Bracket) → run (nested bounded takes) (Some (nest bs spot)) (finish_by spot bs) ≡ Some (last_by spot bs)
 unfolding nest_step ends_run is_word is_sign is_keyword_of
-finishes true takes first [] = refl
-finishes false takes first [] = refl
-finishes bounded takes first_not [] = refl
-finishes bounded takes later_not [] = refl
-finishes bounded takes inside [] = refl
-finishes bounded takes shut [] = refl
-finishes bounded takes first (round ∷ bs) = closes bounded takes bs
-finishes bounded takes first (square ∷ bs) = closes bounded takes bs
-finishes bounded takes first_not (round ∷ bs) = closes bounded takes bs
-finishes bounded takes first_not (square ∷ bs) = closes bounded takes bs
-finishes bounded takes later_not (round ∷ bs) = closes bounded takes bs
-finishes bounded takes later_not (square ∷ bs) = closes bounded takes bs
-finishes bounded takes inside (round ∷ bs) = closes bounded takes bs
-finishes bounded takes inside (square ∷ bs) = closes bounded takes bs
-finishes bounded takes shut (round ∷ bs) = closes bounded takes bs
-finishes bounded takes shut (square ∷ bs) = closes bounded takes bs
+finishes true takes First [] = refl
+finishes false takes First [] = refl
+finishes bounded takes FirstNot [] = refl
+finishes bounded takes LaterNot [] = refl
+finishes bounded takes Inside [] = refl
+finishes bounded takes Shut [] = refl
+finishes bounded takes First (Round ∷ bs) = closes bounded takes bs
+finishes bounded takes First (Square ∷ bs) = closes bounded takes bs
+finishes bounded takes FirstNot (Round ∷ bs) = closes bounded takes bs
+finishes bounded takes FirstNot (Square ∷ bs) = closes bounded takes bs
+finishes bounded takes LaterNot (Round ∷ bs) = closes bounded takes bs
+finishes bounded takes LaterNot (Square ∷ bs) = closes bounded takes bs
+finishes bounded takes Inside (Round ∷ bs) = closes bounded takes bs
+finishes bounded takes Inside (Square ∷ bs) = closes bounded takes bs
+finishes bounded takes Shut (Round ∷ bs) = closes bounded takes bs
+finishes bounded takes Shut (Square ∷ bs) = closes bounded takes bs
 
 inside_flat : (spot : Spot) (bs : List Bracket) → nest_done (nest bs spot) ≡ true → bs ≡ []
 unfolding nest_done
-inside_flat first [] e = refl
-inside_flat first_not [] e = refl
-inside_flat later_not [] e = refl
-inside_flat inside [] e = refl
-inside_flat shut [] e = refl
-inside_flat first (b ∷ bs) e = absurd cc
-inside_flat first_not (b ∷ bs) e = absurd cc
-inside_flat later_not (b ∷ bs) e = absurd cc
-inside_flat inside (b ∷ bs) e = absurd cc
-inside_flat shut (b ∷ bs) e = absurd cc
+inside_flat First [] e = refl
+inside_flat FirstNot [] e = refl
+inside_flat LaterNot [] e = refl
+inside_flat Inside [] e = refl
+inside_flat Shut [] e = refl
+inside_flat First (b ∷ bs) e = absurd cc
+inside_flat FirstNot (b ∷ bs) e = absurd cc
+inside_flat LaterNot (b ∷ bs) e = absurd cc
+inside_flat Inside (b ∷ bs) e = absurd cc
+inside_flat Shut (b ∷ bs) e = absurd cc
 
 last_done : (spot : Spot) (bs : List Bracket) → nest_done (last_by spot bs) ≡ true
 unfolding nest_done
-last_done first [] = refl
-last_done first (b ∷ bs) = refl
-last_done first_not [] = refl
-last_done first_not (b ∷ bs) = refl
-last_done later_not [] = refl
-last_done later_not (b ∷ bs) = refl
-last_done inside [] = refl
-last_done inside (b ∷ bs) = refl
-last_done shut [] = refl
-last_done shut (b ∷ bs) = refl
+last_done First [] = refl
+last_done First (b ∷ bs) = refl
+last_done FirstNot [] = refl
+last_done FirstNot (b ∷ bs) = refl
+last_done LaterNot [] = refl
+last_done LaterNot (b ∷ bs) = refl
+last_done Inside [] = refl
+last_done Inside (b ∷ bs) = refl
+last_done Shut [] = refl
+last_done Shut (b ∷ bs) = refl
 
 not_false : (b : Bool) → not b ≡ false → b ≡ true
 not_false true e = refl
@@ -203,3 +209,26 @@ typing_ends = record { finish = type_finish; last = type_last; finished = type_f
 pub type_laws : Lawful type_part
 unfolding type_part
 type_laws = seen_laws type_of (runs_of typing) (machine_laws typing typing_ends)
+
+-- ---- before which tokens runs end
+
+end_sign : (k : TokenKind) (b : ℕ) → (b == 41 || b == 93 || b == 59) ≡ true → is_sign_kind b k ≡ true → is_end_kind k ≡ true
+end_sign (Sign c) b ends e = let same : b ≡ c = eqb-true b c e in subst (λ (x : ℕ). (x == 41 || x == 93 || x == 59) ≡ true) same ends
+end_sign Word b ends e = absurd cc
+end_sign QuotedName b ends e = absurd cc
+end_sign Literal b ends e = absurd cc
+end_sign Number b ends e = absurd cc
+end_sign MetaLine b ends e = absurd cc
+
+-- a closing bracket and a semicolon end each run
+pub run_ends : (bounded : Bool) (b : ℕ) → (b == 41 || b == 93 || b == 59) ≡ true → (t : Lexeme) → is_sign b t ≡ true → not (ends_run bounded t) ≡ false
+unfolding ends_run is_sign
+run_ends bounded b ends t e = rw (end_sign t.kind b ends e) refl
+
+pub expression_ends : Apart (is_sign 59) expression.goes_on
+unfolding expression
+expression_ends = run_ends false 59 refl
+
+pub expression_ends_bracket : Apart (is_sign 41) expression.goes_on
+unfolding expression
+expression_ends_bracket = run_ends false 41 refl

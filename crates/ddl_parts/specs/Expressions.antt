@@ -5,16 +5,12 @@ use Rattle.std.specs.Prelude.{ℕ, Bool, true, false, ◌||◌, ◌&&◌, not, �
 use Rattle.std.specs.Option.{option_map}
 use Rattle.sql_lex.specs.declared.token.TokenKind.{TokenKind}
 use Rattle.sql_lex.specs.declared.token.TokenKind.TheVariants.{Sign, MetaLine}
+use Rattle.ddl_parts.specs.declared.runs.Bracket.{Bracket}
+use Rattle.ddl_parts.specs.declared.runs.Bracket.TheVariants.{Round, Square}
+use Rattle.ddl_parts.specs.declared.runs.Spot.{Spot}
+use Rattle.ddl_parts.specs.declared.runs.Spot.TheVariants.{First, FirstNot, LaterNot, Inside, Closed}
 use Rattle.ddl_parts.specs.Lexemes.{Lexeme, is_word, is_sign, source}
 use Rattle.ddl_parts.specs.Parts.{Part, Machine, runs_of, seen}
-
-pub data Bracket : Type 0 where
-  round square : Bracket
-
--- Where a run stands outside brackets: before its first token, behind a first NOT, behind a later NOT, behind anything
--- else, or behind NOT NULL, which ends it.
-pub data Spot : Type 0 where
-  first first_not later_not inside closed : Spot
 
 -- the open brackets, the innermost first, and the spot
 pub record Nest : Type 0 where
@@ -22,18 +18,18 @@ pub record Nest : Type 0 where
   pub spot : Spot
 
 abbrev pub without_round : List Bracket → Option (List Bracket)
-without_round (round ∷ rest) = Some rest
+without_round (Round ∷ rest) = Some rest
 without_round _ = None
 
 abbrev pub without_square : List Bracket → Option (List Bracket)
-without_square (square ∷ rest) = Some rest
+without_square (Square ∷ rest) = Some rest
 without_square _ = None
 
 -- the open brackets behind a sign
 abbrev pub behind_sign : ℕ → List Bracket → Option (List Bracket)
 behind_sign b brackets =
-    if b == 40 then Some (round ∷ brackets)
-    else (if b == 91 then Some (square ∷ brackets)
+    if b == 40 then Some (Round ∷ brackets)
+    else (if b == 91 then Some (Square ∷ brackets)
     else (if b == 41 then without_round brackets
     else (if b == 93 then without_square brackets
     else (if b == 59 then None else Some brackets))))
@@ -44,7 +40,7 @@ behind_kind MetaLine brackets = None
 behind_kind _ brackets = Some brackets
 
 abbrev pub moved : Option (List Bracket) → Option Nest
-moved brackets = option_map (λ b. record { brackets = b; spot = inside }) brackets
+moved brackets = option_map (λ b. record { brackets = b; spot = Inside }) brackets
 
 -- tokens that no run takes outside brackets
 abbrev pub is_end_kind : TokenKind → Bool
@@ -59,18 +55,18 @@ ends_run bounded t =
 
 -- NOT NULL is taken where it may be and something stands before it
 abbrev pub behind_null : Bool → Spot → Option Nest
-behind_null takes first_not = None
-behind_null takes later_not = if takes then Some (record { brackets = []; spot = closed }) else None
-behind_null takes closed = None
-behind_null takes _ = Some (record { brackets = []; spot = inside })
+behind_null takes FirstNot = None
+behind_null takes LaterNot = if takes then Some (record { brackets = []; spot = Closed }) else None
+behind_null takes Closed = None
+behind_null takes _ = Some (record { brackets = []; spot = Inside })
 
 abbrev pub behind_not : Spot → Option Nest
-behind_not first = Some (record { brackets = []; spot = first_not })
-behind_not closed = None
-behind_not _ = Some (record { brackets = []; spot = later_not })
+behind_not First = Some (record { brackets = []; spot = FirstNot })
+behind_not Closed = None
+behind_not _ = Some (record { brackets = []; spot = LaterNot })
 
 abbrev pub behind_other : TokenKind → Spot → Option Nest
-behind_other kind closed = None
+behind_other kind Closed = None
 behind_other kind _ = moved (behind_kind kind [])
 
 abbrev pub behind_bounded : Bool → Spot → Lexeme → Option Nest
@@ -78,16 +74,20 @@ behind_bounded takes spot t =
     if is_word (codes "not") t then behind_not spot
     else (if is_word (codes "null") t then behind_null takes spot else behind_other t.kind spot)
 
-abbrev pub step_by : Bool → Bool → Spot → Lexeme → List Bracket → Option Nest
-step_by bounded takes spot t [] =
+-- outside brackets
+abbrev pub step_outside : Bool → Bool → Spot → Lexeme → Option Nest
+step_outside bounded takes spot t =
     if ends_run bounded t then None else (if bounded then behind_bounded takes spot t else moved (behind_kind t.kind []))
+
+abbrev pub step_by : Bool → Bool → Spot → Lexeme → List Bracket → Option Nest
+step_by bounded takes spot t [] = step_outside bounded takes spot t
 step_by bounded takes spot t (b ∷ rest) = moved (behind_kind t.kind (b ∷ rest))
 
 unfoldable pub nest_step : Bool → Bool → Nest → Lexeme → Option Nest
 nest_step bounded takes s t = step_by bounded takes s.spot t s.brackets
 
 abbrev pub is_inside : Spot → List Bracket → Bool
-is_inside first _ = false
+is_inside First _ = false
 is_inside _ [] = true
 is_inside _ (b ∷ rest) = false
 
@@ -99,7 +99,7 @@ nest_done s = is_inside s.spot s.brackets
 abbrev pub nested : Bool → Bool → Machine
 nested bounded takes = record {
   State = Nest;
-  start = record { brackets = []; spot = first };
+  start = record { brackets = []; spot = First };
   step = nest_step bounded takes;
   done = nest_done;
   long = λ s t. false;

@@ -1,5 +1,7 @@
 -- Tokens of a text, one after another, and what the code's readers answer.
-use Rattle.std.specs.Prelude.{◌≡◌, ℕ, Bool, true, ◌&&◌, ◌==◌, nat_le, nat_lt, List, [], ◌∷◌, map, drop, slice_range, Result, Ok, Err, ⊤}
+use Rattle.std.specs.Prelude.{◌≡◌, ℕ, ◌-◌, ◌≤◌, Bool, true, ◌&&◌, ◌==◌, nat_le, nat_lt, List, [], ◌∷◌, length, map, take, drop, slice_range, Result, Ok, Err, ⊤, if◌then◌else◌}
+use Rattle.std.specs.List.{list_all}
+use Rattle.std.specs.Str.{is_utf8}
 use Rattle.sql_lex.specs.Meaning.{spelling}
 use Rattle.ddl_parts.specs.declared.pieces.Piece.{Piece}
 use Rattle.ddl_parts.specs.declared.fault.Halt.{Halt}
@@ -24,6 +26,18 @@ unfoldable pub are_joined : ℕ → List Piece → Bool
 are_joined limit [] = true
 are_joined limit (p ∷ ps) = are_joined_from limit p.from (p ∷ ps)
 
+-- a token, and what stands before it, is UTF-8
+unfoldable pub is_sound : Lexeme → Bool
+is_sound t = is_utf8 t.gap && is_utf8 t.word
+
+unfoldable pub are_sound : List ℕ → List Piece → Bool
+are_sound text ps = list_all is_sound (lexemes text ps)
+
+-- tokens of a text, one after another
+pub record AreTokens (text : List ℕ) (ps : List Piece) : Type 0 where
+  pub joined : are_joined (length text) ps ≡ true
+  pub sound : are_sound text ps ≡ true
+
 -- a place among tokens stands for those from it on
 abbrev pub halted : List Lexeme → Halt → Stop
 halted ts h = record { long = h.long; rest = drop h.at ts }
@@ -42,6 +56,15 @@ GivesPart ts view (Err error) reading = Fails ts error reading
 abbrev pub GivesPlace : List Lexeme → Result ℕ ReadError → Reading (Unit {0}) → Type 0
 GivesPlace ts (Ok at) reading = reading ≡ Ok (tt, drop at ts)
 GivesPlace ts (Err error) reading = Fails ts error reading
+
+-- A run of tokens from a place on: it goes up to the place that was answered.
+abbrev pub GivesRun : List Lexeme → ℕ → Result ℕ ReadError → Reading (List Lexeme) → Type 0
+GivesRun ts from (Ok end) reading = (from ≤ end) × (end ≤ length ts) × (reading ≡ Ok (take (end - from) (drop from ts), drop end ts))
+GivesRun ts from (Err error) reading = Fails ts error reading
+
+-- the answer at the end of a run, where it may end
+abbrev pub ended : Bool → Bool → ℕ → Result ℕ ReadError
+ended done long at = if done then Ok at else Err (errors.Halted (record { long = long; at = at }))
 
 -- a value, whatever stands behind it
 abbrev pub value_of : {B : Type 0} → Reading B → Result B Stop

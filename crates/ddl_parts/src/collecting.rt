@@ -1,6 +1,6 @@
 //! The tokens of one statement, out of a text.
 ghost use Rattle.std.specs.Prelude.{◌≡◌, ◌≤◌, ◌<◌, length, true, IfOk};
-ghost use Rattle.ddl_parts.specs.Pieces.{lexemes, are_joined};
+ghost use Rattle.ddl_parts.specs.Pieces.{lexemes, are_joined, are_sound};
 ghost use Rattle.ddl_parts.specs.Collecting.{collected};
 
 use crate::pieces::{Piece, is_sign_kind};
@@ -24,6 +24,7 @@ pub fn collect(alloc: Global, text: &[u8], from: usize) -> Result<Run, AllocErro
     requires { from ≤ length text.now }
     ensures exact { IfOk result (λ r. collected text.now from ≡ record { pieces = r.pieces.items; end = r.end; fault = r.fault }) }
     ensures joined { IfOk result (λ r. are_joined (length text.now) r.pieces.items ≡ true) }
+    ensures sound { IfOk result (λ r. are_sound text.now r.pieces.items ≡ true) }
     ensures within { IfOk result (λ r. (from ≤ r.end) × (r.end ≤ length text.now)) }
     ensures forward { IfOk result (λ r. 0 < length r.pieces.items → from < r.end) }
 {

@@ -6,6 +6,7 @@ mod fault;
 pub mod laws;
 mod pieces;
 mod qualified;
+mod runs;
 
 pub use collecting::{Run, collect};
 pub use fault::{Halt, ReadError};

@@ -4,10 +4,12 @@ ghost use Rattle.std.specs.List.{list_any};
 ghost use Rattle.ddl_parts.specs.Lexemes.{Lexeme, is_word, is_sign, is_sign_kind, starts, start_of};
 ghost use Rattle.ddl_parts.specs.Leaves.{name, literal, name_in, text_in};
 ghost use Rattle.ddl_parts.specs.Parts.{Part, mark, stop};
-ghost use Rattle.ddl_parts.specs.Pieces.{lexeme_of, lexemes, are_joined, GivesPlace, GivesPart};
+ghost use Rattle.ddl_parts.specs.Expressions.{expression};
+ghost use Rattle.ddl_parts.specs.Pieces.{lexeme_of, lexemes, are_joined, are_sound, GivesPlace, GivesPart};
 ghost use Rattle.ddl_parts.specs.declared.fault.ReadError.TheVariants.{Halted};
 
 use crate::fault::{Halt, ReadError};
+use crate::runs::run_at;
 use copy_text::{Name, Text};
 use sql_lex::{Token, TokenKind, is_keyword, literal_text, token_name};
 use std::alloc::Global;
@@ -35,19 +37,20 @@ pub struct Pieces<'a> {
 impl<'a> Model for Pieces<'a> {
     ghost use Rattle.std.specs.Prelude.{◌≡◌, List, length, true};
     ghost use Rattle.ddl_parts.specs.Lexemes.{Lexeme};
-    ghost use Rattle.ddl_parts.specs.Pieces.{lexemes, are_joined};
+    ghost use Rattle.ddl_parts.specs.Pieces.{lexemes, AreTokens};
 
     ghost Value = { List Lexeme };
 
     ghost view = { λ p. lexemes p.text.now p.pieces.items };
 
-    ghost invariant = { λ p. are_joined (length p.text.now) p.pieces.items ≡ true };
+    ghost invariant = { λ p. AreTokens p.text.now p.pieces.items };
 }
 
 impl<'a> Pieces<'a> {
     /// The tokens of a text that were collected.
     pub fn new(text: &'a [u8], pieces: Vec<Piece>) -> Pieces<'a>
-        requires { are_joined (length text.now) pieces.items ≡ true }
+        requires joined { are_joined (length text.now) pieces.items ≡ true }
+        requires sound { are_sound text.now pieces.items ≡ true }
         ensures { result ≡ lexemes text.now pieces.items }
     {
         Pieces { text, pieces }
@@ -108,10 +111,18 @@ impl<'a> Pieces<'a> {
     {
         literal_at(alloc, self.text, &self.pieces, at)
     }
+
+    /// The text of the expression at a place, and the place behind it.
+    #[tactic(auto, unfolding(crate::specs::Expressions::expression))]
+    pub fn expression(&self, alloc: Global, at: usize) -> Result<(Text, usize), ReadError>
+        ensures { GivesPart self.now (λ t. t) result (expression.read (drop at self.now)) }
+    {
+        run_at(alloc, self.text, &self.pieces, at, false, false)
+    }
 }
 
 /// The token at a place.
-fn piece_at(text: &[u8], pieces: &[Piece], at: usize) -> Option<Piece>
+pub(crate) fn piece_at(text: &[u8], pieces: &[Piece], at: usize) -> Option<Piece>
     requires { are_joined (length text.now) pieces.now ≡ true }
     ensures read { MatchOption result (drop at (lexemes text.now pieces.now) ≡ [])
         (λ p. (drop at (lexemes text.now pieces.now) ≡ lexeme_of text.now p ∷ drop (at + 1) (lexemes text.now pieces.now)) × (at < length pieces.now)) }
@@ -135,7 +146,7 @@ fn start_at(text: &[u8], pieces: &[Piece], at: usize) -> Option<usize>
 }
 
 /// Reading stops at a place.
-fn halt<T>(at: usize) -> Result<T, ReadError>
+pub(crate) fn halt<T>(at: usize) -> Result<T, ReadError>
     ensures { result ≡ Err (Halted (record { long = false; at = at })) }
 {
     Err(ReadError::Halted(Halt { long: false, at }))

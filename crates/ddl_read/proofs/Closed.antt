@@ -14,11 +14,12 @@ use Rattle.ddl_parts.specs.Parts.{Part, Branch, branch, one_of, mark, seen, choo
 use Rattle.ddl_parts.specs.Pieces.{lexeme_of, lexemes}
 use Rattle.ddl_parts.specs.Collecting.{Collected, collected, collected_within, collected_by, nothing_more, preceded}
 use Rattle.ddl_parts.specs.Leaves.{name, literal, qualified}
-use Rattle.ddl_read.specs.Grammar.{semicolon, create_schema, created, new_owner, name_and_owner, path_and_owner, owned_name, owned_path, altered, selected, command, statement}
+use Rattle.ddl_parts.specs.Expressions.{expression}
+use Rattle.ddl_read.specs.Grammar.{semicolon, create_schema, created, new_owner, new_check, DomainChange, its_owner, one_more_check, domain_changed, domain_change, altered_domain, name_and_owner, path_and_owner, owned_name, owned_path, altered, selected, equals_or_to, setting, command, statement}
 
 -- ---- the last token
 
-abbrev ends_with : (Lexeme → Bool) → List Lexeme → Bool
+abbrev pub ends_with : (Lexeme → Bool) → List Lexeme → Bool
 ends_with test [] = false
 ends_with test (t ∷ []) = test t
 ends_with test (t ∷ u ∷ ts) = ends_with test (u ∷ ts)
@@ -96,6 +97,29 @@ path_and_owner_closes : Closes semicolon path_and_owner
 unfolding path_and_owner
 path_and_owner_closes = then_closes semicolon qualified new_owner new_owner_closes
 
+abbrev check_part : Part (List ℕ)
+check_part = is_word (codes "check") ▸ (is_sign 40 ▸ (expression ◂ is_sign 41 ◂ semicolon))
+
+new_check_closes : Closes semicolon new_check
+unfolding new_check
+new_check_closes =
+    lead_closes semicolon (is_word (codes "add")) (is_word (codes "constraint") ▸ (name then check_part))
+    (lead_closes semicolon (is_word (codes "constraint")) (name then check_part)
+    (then_closes semicolon name check_part
+    (lead_closes semicolon (is_word (codes "check")) (is_sign 40 ▸ (expression ◂ is_sign 41 ◂ semicolon))
+    (lead_closes semicolon (is_sign 40) (expression ◂ is_sign 41 ◂ semicolon) (end_closes semicolon (expression ◂ is_sign 41))))))
+
+domain_change_closes : Closes semicolon domain_change
+unfolding domain_change
+domain_change_closes =
+    choose_closes semicolon (is_word (codes "owner")) (seen its_owner new_owner) (seen (λ x. one_more_check x.0 x.1) new_check)
+    (seen_closes semicolon its_owner new_owner new_owner_closes) (seen_closes semicolon (λ x. one_more_check x.0 x.1) new_check new_check_closes)
+
+altered_domain_closes : Closes semicolon altered_domain
+unfolding altered_domain
+altered_domain_closes =
+    seen_closes semicolon (λ x. domain_changed x.0 x.1) (qualified then domain_change) (then_closes semicolon qualified domain_change domain_change_closes)
+
 owned_name_closes : (key : List ℕ) (kind : List ℕ → Owned) → Closes semicolon (owned_name key kind).part
 owned_name_closes key kind v ts spells = name_and_owner_closes spells.0 ts spells.2
 
@@ -106,13 +130,13 @@ altered_closes : Closes semicolon altered
 unfolding altered
 altered_closes =
     one_of_closes semicolon (owned_name (codes "schema") owned.Schema)
-    (owned_path (codes "type") owned.Type ∷ owned_path (codes "domain") owned.Domain ∷ owned_path (codes "table") owned.Table
+    (owned_path (codes "type") owned.Type ∷ record { key = codes "domain"; part = altered_domain } ∷ owned_path (codes "table") owned.Table
     ∷ owned_path (codes "sequence") owned.Sequence ∷ owned_path (codes "view") owned.View ∷ owned_name (codes "database") owned.Database ∷ []) (
       owned_name_closes (codes "schema") owned.Schema,
       (
         owned_path_closes (codes "type") owned.Type,
         (
-          owned_path_closes (codes "domain") owned.Domain,
+          altered_domain_closes,
           (
             owned_path_closes (codes "table") owned.Table,
             (owned_path_closes (codes "sequence") owned.Sequence, (owned_path_closes (codes "view") owned.View, owned_name_closes (codes "database") owned.Database)),
@@ -134,12 +158,17 @@ selected_closes v ts spells =
     (then_closes semicolon literal (is_sign 44 ▸ value_end) (lead_closes semicolon (is_sign 44) value_end (end_closes semicolon (literal ◂ is_sign 44 ◂ is_word (codes "false") ◂ is_sign 41)))))))
     spells.0 ts spells.2
 
+setting_closes : Closes semicolon setting
+unfolding setting
+setting_closes v ts spells =
+    then_closes semicolon name (equals_or_to then (expression ◂ semicolon)) (then_closes semicolon equals_or_to (expression ◂ semicolon) (end_closes semicolon expression)) spells.0 ts spells.2
+
 command_closes : Closes semicolon command
 unfolding command
 command_closes =
     one_of_closes semicolon (record { key = codes "create"; part = created })
-    (record { key = codes "alter"; part = altered } ∷ record { key = codes "select"; part = selected } ∷ [])
-    (created_closes, (altered_closes, selected_closes))
+    (record { key = codes "alter"; part = altered } ∷ record { key = codes "select"; part = selected } ∷ record { key = codes "set"; part = setting } ∷ [])
+    (created_closes, (altered_closes, (selected_closes, setting_closes)))
 
 pub statement_closes : Closes semicolon statement
 unfolding statement
@@ -150,7 +179,7 @@ statement_closes =
 
 -- ---- the tokens that are collected
 
-abbrev only_last : (Lexeme → Bool) → List Lexeme → Bool
+abbrev pub only_last : (Lexeme → Bool) → List Lexeme → Bool
 only_last test [] = true
 only_last test (t ∷ []) = true
 only_last test (t ∷ u ∷ ts) = not (test t) && only_last test (u ∷ ts)

@@ -1,24 +1,34 @@
 -- The grammar of statements has the laws of a part: what is read is spelled so, what is spelled so is read, and where
 -- reading stops nothing goes on.
-use Rattle.std.proofs.Common.{ℕ, Bool, List, [], ◌∷◌, Some, None, refl, codes}
+use Rattle.std.proofs.Common.{◌≡◌, ℕ, Bool, false, List, [], ◌∷◌, ◌++◌, Some, None, refl, codes}
 use Rattle.cat_model.specs.declared.object.QName.{QName}
 use Rattle.cat_model.specs.declared.grant.Owned.{Owned}
 use Rattle.cat_model.specs.declared.grant.Owned.TheVariants as owned
 use Rattle.cat_model.specs.declared.stmt.Stmt.TheVariants as stmt
-use Rattle.ddl_parts.specs.Lexemes.{Lexeme, is_word, is_sign, never}
+use Rattle.ddl_parts.specs.Lexemes.{Lexeme, is_word, is_sign, never, starts}
 use Rattle.ddl_parts.specs.Parts.{Part, mark, seen, ◌then◌, ◌▸◌, ◌◂◌}
 use Rattle.ddl_parts.specs.Laws.{Lawful, Apart, Avoids}
 use Rattle.ddl_parts.specs.Leaves.{name, literal, qualified}
 use Rattle.ddl_parts.proofs.Steps.{avoids_never}
 use Rattle.ddl_parts.proofs.Simple.{seen_laws, seen_begins, seen_avoids, mark_laws, mark_begins}
-use Rattle.ddl_parts.proofs.Sequence.{then_laws}
-use Rattle.ddl_parts.proofs.Choice.{choose_laws}
-use Rattle.ddl_parts.proofs.Leads.{a_sign, sign_is, name_laws, literal_laws, qualified_laws, word_laws, sign_laws, ended_laws, worded_laws, word_no_sign}
+use Rattle.ddl_parts.proofs.Sequence.{then_laws, lead_begins}
+use Rattle.ddl_parts.proofs.Choice.{choose_laws, choose_apart}
+use Rattle.ddl_parts.proofs.Leads.{a_sign, a_word, sign_is, word_is, name_laws, literal_laws, qualified_laws, word_laws, sign_laws, ended_laws, worded_laws, word_no_sign, words_apart}
+use Rattle.ddl_parts.specs.Expressions.{expression}
+use Rattle.ddl_parts.proofs.RunLaws.{expression_laws, expression_ends, expression_ends_bracket}
 use Rattle.ddl_parts.proofs.Tables.{one_of_laws, one_of_avoids_others}
-use Rattle.ddl_read.specs.Grammar.{semicolon, create_schema, created, new_owner, name_and_owner, path_and_owner, owned_name, owned_path, altered, selected, command, statement}
+use Rattle.ddl_read.specs.Grammar.{semicolon, create_schema, created, new_owner, new_check, DomainChange, its_owner, one_more_check, domain_changed, domain_change, altered_domain, name_and_owner, path_and_owner, owned_name, owned_path, altered, selected, equals_or_to, setting, command, statement}
 
 free : (test : Lexeme → Bool) → Apart test never
 free test t e = refl
+
+-- what goes on with no token is followed by anything
+avoids_where : {A : Type 0} (test : Lexeme → Bool) (p : Part A) → ((t : Lexeme) → test t ≡ false) → Avoids test p
+avoids_where test p none v ts rest spells free = by (ts ++ rest)
+  where
+    by : (us : List Lexeme) → starts test us ≡ false
+    by [] = refl
+    by (u ∷ us) = none u
 
 create_schema_laws : Lawful create_schema
 unfolding create_schema
@@ -42,6 +52,33 @@ path_and_owner_laws : Lawful path_and_owner
 unfolding path_and_owner
 path_and_owner_laws = then_laws qualified new_owner qualified_laws new_owner_laws (avoids_never new_owner)
 
+abbrev check_part : Part (List ℕ)
+check_part = is_word (codes "check") ▸ (is_sign 40 ▸ (expression ◂ is_sign 41 ◂ semicolon))
+
+check_end_laws : Lawful (expression ◂ is_sign 41 ◂ semicolon)
+check_end_laws = ended_laws 59 (expression ◂ is_sign 41) (ended_laws 41 expression expression_laws expression_ends_bracket) (free semicolon)
+
+new_check_laws : Lawful new_check
+unfolding new_check
+new_check_laws =
+    word_laws (codes "add") (is_word (codes "constraint") ▸ (name then check_part))
+    (word_laws (codes "constraint") (name then check_part)
+    (then_laws name check_part name_laws (word_laws (codes "check") (is_sign 40 ▸ (expression ◂ is_sign 41 ◂ semicolon)) (sign_laws 40 (expression ◂ is_sign 41 ◂ semicolon) check_end_laws)) (avoids_never check_part)))
+
+domain_change_laws : Lawful domain_change
+unfolding domain_change new_owner new_check
+domain_change_laws =
+    choose_apart (is_word (codes "owner")) (is_word (codes "add")) (seen its_owner new_owner) (seen (λ x. one_more_check x.0 x.1) new_check)
+    (seen_laws its_owner new_owner new_owner_laws) (seen_laws (λ x. one_more_check x.0 x.1) new_check new_check_laws)
+    (seen_begins (is_word (codes "owner")) its_owner new_owner (lead_begins (is_word (codes "owner")) (is_word (codes "to") ▸ (name ◂ semicolon))))
+    (seen_begins (is_word (codes "add")) (λ x. one_more_check x.0 x.1) new_check (lead_begins (is_word (codes "add")) (is_word (codes "constraint") ▸ (name then check_part))))
+    (words_apart (codes "add") (codes "owner") refl)
+
+altered_domain_laws : Lawful altered_domain
+unfolding altered_domain
+altered_domain_laws =
+    seen_laws (λ x. domain_changed x.0 x.1) (qualified then domain_change) (then_laws qualified domain_change qualified_laws domain_change_laws (avoids_never domain_change))
+
 owned_name_laws : (key : List ℕ) (kind : List ℕ → Owned) → Lawful (owned_name key kind).part
 owned_name_laws key kind = seen_laws (λ x. stmt.OwnerTo (kind x.0) x.1) name_and_owner name_and_owner_laws
 
@@ -52,14 +89,14 @@ altered_laws : Lawful altered
 unfolding altered
 altered_laws =
     one_of_laws (owned_name (codes "schema") owned.Schema)
-    (owned_path (codes "type") owned.Type ∷ owned_path (codes "domain") owned.Domain ∷ owned_path (codes "table") owned.Table
+    (owned_path (codes "type") owned.Type ∷ record { key = codes "domain"; part = altered_domain } ∷ owned_path (codes "table") owned.Table
     ∷ owned_path (codes "sequence") owned.Sequence ∷ owned_path (codes "view") owned.View ∷ owned_name (codes "database") owned.Database ∷ [])
     refl (
       owned_name_laws (codes "schema") owned.Schema,
       (
         owned_path_laws (codes "type") owned.Type,
         (
-          owned_path_laws (codes "domain") owned.Domain,
+          altered_domain_laws,
           (
             owned_path_laws (codes "table") owned.Table,
             (owned_path_laws (codes "sequence") owned.Sequence, (owned_path_laws (codes "view") owned.View, owned_name_laws (codes "database") owned.Database)),
@@ -88,18 +125,40 @@ selected_laws =
     (sign_laws 40 (literal then (is_sign 44 ▸ value_end))
     (then_laws literal (is_sign 44 ▸ value_end) literal_laws (sign_laws 44 value_end value_end_laws) (avoids_never (is_sign 44 ▸ value_end)))))))
 
+equals_or_to_laws : Lawful equals_or_to
+unfolding equals_or_to
+equals_or_to_laws =
+    choose_apart (is_sign 61) (is_word (codes "to")) (mark (is_sign 61)) (mark (is_word (codes "to")))
+    (mark_laws (is_sign 61) (a_sign 61) (sign_is 61)) (mark_laws (is_word (codes "to")) (a_word (codes "to")) (word_is (codes "to")))
+    (mark_begins (is_sign 61)) (mark_begins (is_word (codes "to"))) (word_no_sign (codes "to") 61)
+
+equals_or_to_ends : (t : Lexeme) → equals_or_to.goes_on t ≡ false
+unfolding equals_or_to
+equals_or_to_ends t = refl
+
+value_laws : Lawful (expression ◂ semicolon)
+value_laws = ended_laws 59 expression expression_laws expression_ends
+
+setting_laws : Lawful setting
+unfolding setting
+setting_laws =
+    seen_laws (λ x. stmt.Set x.0 x.1.1) (name then (equals_or_to then (expression ◂ semicolon)))
+    (then_laws name (equals_or_to then (expression ◂ semicolon)) name_laws
+    (then_laws equals_or_to (expression ◂ semicolon) equals_or_to_laws value_laws (avoids_where equals_or_to.goes_on (expression ◂ semicolon) equals_or_to_ends))
+    (avoids_never (equals_or_to then (expression ◂ semicolon))))
+
 command_laws : Lawful command
 unfolding command
 command_laws =
     one_of_laws (record { key = codes "create"; part = created })
-    (record { key = codes "alter"; part = altered } ∷ record { key = codes "select"; part = selected } ∷ [])
-    refl (created_laws, (altered_laws, selected_laws))
+    (record { key = codes "alter"; part = altered } ∷ record { key = codes "select"; part = selected } ∷ record { key = codes "set"; part = setting } ∷ [])
+    refl (created_laws, (altered_laws, (selected_laws, setting_laws)))
 
 command_avoids : Avoids semicolon command
 unfolding command
 command_avoids =
     one_of_avoids_others semicolon (λ key. word_no_sign key 59) (record { key = codes "create"; part = created })
-    (record { key = codes "alter"; part = altered } ∷ record { key = codes "select"; part = selected } ∷ [])
+    (record { key = codes "alter"; part = altered } ∷ record { key = codes "select"; part = selected } ∷ record { key = codes "set"; part = setting } ∷ [])
 
 -- the grammar of statements has the laws
 pub statement_laws : Lawful statement

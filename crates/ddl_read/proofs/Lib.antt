@@ -2,3 +2,10 @@ pub mod Statements
 pub mod GrammarLaws
 pub mod Closed
 pub mod ReadingLaws
+pub mod Standing
+pub mod Tokens
+pub mod Kept
+pub mod Expressions
+pub mod Layouts
+pub mod Respelled
+pub mod Made

@@ -12,7 +12,7 @@ use Rattle.ddl_parts.specs.Collecting.{Collected, collected, collected_within, c
 use Rattle.ddl_read.specs.declared.located.Located.{Located}
 use Rattle.ddl_read.specs.declared.fault.DdlFault.{DdlFault}
 use Rattle.ddl_read.specs.declared.fault.DdlFault.TheVariants.{Lex}
-use Rattle.ddl_read.specs.Grammar.{statement, command, created, altered, selected, create_schema, name_and_owner, path_and_owner, new_owner}
+use Rattle.ddl_read.specs.Grammar.{statement, command, created, altered, selected, setting, create_schema, altered_domain, domain_change, new_check, name_and_owner, path_and_owner, new_owner}
 use Rattle.ddl_read.specs.Reading.{◌>>=◌, listed, first_start, fault_of, told, no_more, statement_of, statements_by, statements_within, statements_of}
 use Rattle.ddl_read.specs.Readings.{IsStatement, Reads, all_read, one_read, IsStuck, FailsAt, no_token, stuck, later}
 use Rattle.ddl_read.proofs.GrammarLaws.{statement_laws}
@@ -20,7 +20,7 @@ use Rattle.ddl_read.proofs.Closed.{takes_all}
 
 -- ---- where collected tokens end
 
-abbrev Bounds : List ℕ → ℕ → Collected → Type 0
+abbrev pub Bounds : List ℕ → ℕ → Collected → Type 0
 Bounds text at c = (at ≤ c.end) × (c.end ≤ length text) × ((start : ℕ) → first_start c.pieces ≡ Some start → at < c.end)
 
 abbrev by_sign : (ℕ → Collected) → ℕ → Token → Bool → Collected
@@ -40,7 +40,7 @@ unfolding collected_within
 bounds_within zero text at le = (omega arith, le, λ start e. absurd cc)
 bounds_within (suc n) text at le = bounds_by (collected_within n text) text at (next_token_of text at) le (lies_behind text at (next_token_of text at) le refl) (λ end high. bounds_within n text end high)
 
-bounds : (text : List ℕ) (at : ℕ) → at ≤ length text → Bounds text at (collected text at)
+pub bounds : (text : List ℕ) (at : ℕ) → at ≤ length text → Bounds text at (collected text at)
 unfolding collected
 bounds text at le = bounds_within (length text + 1) text at le
 
@@ -67,7 +67,7 @@ told_err limit fault (Err s) f e = (s, refl, sym (let is : fault_of limit fault 
 
 -- nothing goes on with a statement
 left_free : (ts : List Lexeme) → starts statement.goes_on ts ≡ false
-unfolding statement command created altered selected create_schema name_and_owner path_and_owner new_owner
+unfolding statement command created altered selected setting create_schema altered_domain domain_change new_check name_and_owner path_and_owner new_owner
 left_free [] = refl
 left_free (t ∷ ts) = refl
 

@@ -27,3 +27,9 @@ pub record WorkedExamples : Type 0 where
   -- CREATE SCHEMA "";
   pub no_name : statements_of (codes "CREATE SCHEMA " ++ (34 ∷ 34 ∷ codes ";")) ≡ Err (Unknown 14)
   pub long_name : statements_of (codes "CREATE SCHEMA a123456789b123456789c123456789d123456789e123456789f123456789g123;") ≡ Err (LongName 14)
+  pub setting : statements_of (codes "set a To (b,  c);") ≡ Ok (located (stmt.Set (codes "a") (codes "(b,  c)")) 0 17 ∷ [])
+  -- a value has a token at least
+  pub no_value : statements_of (codes "SET a = ;") ≡ Err (Unknown 8)
+  -- a bracket is closed by its own
+  pub other_bracket : statements_of (codes "SET a = (1];") ≡ Err (Unknown 10)
+  pub check : statements_of (codes "ALTER DOMAIN a.d ADD CONSTRAINT c CHECK (VALUE > 0);") ≡ Ok (located (stmt.AddDomainCheck (record { schema = codes "a"; name = codes "d" }) (codes "c") (codes "VALUE > 0")) 0 52 ∷ [])

@@ -9,6 +9,7 @@ use Rattle.cat_model.specs.declared.stmt.Stmt.TheVariants as stmt
 use Rattle.ddl_parts.specs.Lexemes.{Lexeme, is_word, is_sign}
 use Rattle.ddl_parts.specs.Parts.{Part, Branch, mark, seen, choose, one_of, ◌then◌, ◌▸◌, ◌◂◌}
 use Rattle.ddl_parts.specs.Leaves.{name, literal, qualified}
+use Rattle.ddl_parts.specs.Expressions.{expression}
 
 abbrev pub semicolon : Lexeme → Bool
 semicolon = is_sign 59
@@ -36,6 +37,27 @@ name_and_owner = name then new_owner
 unfoldable pub path_and_owner : Part (QName × List ℕ)
 path_and_owner = qualified then new_owner
 
+-- ADD CONSTRAINT name CHECK (expression);
+unfoldable pub new_check : Part (List ℕ × List ℕ)
+new_check =
+    is_word (codes "add") ▸ (is_word (codes "constraint") ▸ (name then (is_word (codes "check") ▸ (is_sign 40 ▸ (expression ◂ is_sign 41 ◂ semicolon)))))
+
+-- what changes of a domain
+pub data DomainChange : Type 0 where
+  its_owner : List ℕ → DomainChange
+  one_more_check : List ℕ → List ℕ → DomainChange
+
+abbrev pub domain_changed : QName → DomainChange → Stmt
+domain_changed q (its_owner role) = stmt.OwnerTo (owned.Domain q) role
+domain_changed q (one_more_check name text) = stmt.AddDomainCheck q name text
+
+unfoldable pub domain_change : Part DomainChange
+domain_change = choose (is_word (codes "owner")) (seen its_owner new_owner) (seen (λ x. one_more_check x.0 x.1) new_check)
+
+-- path OWNER TO role; or path ADD CONSTRAINT name CHECK (expression);
+unfoldable pub altered_domain : Part Stmt
+altered_domain = seen (λ x. domain_changed x.0 x.1) (qualified then domain_change)
+
 abbrev pub owned_name : List ℕ → (List ℕ → Owned) → Branch Stmt
 owned_name key kind = record { key = key; part = seen (λ x. stmt.OwnerTo (kind x.0) x.1) name_and_owner }
 
@@ -45,7 +67,7 @@ owned_path key kind = record { key = key; part = seen (λ x. stmt.OwnerTo (kind 
 unfoldable pub altered : Part Stmt
 altered =
     one_of (owned_name (codes "schema") owned.Schema)
-    (owned_path (codes "type") owned.Type ∷ owned_path (codes "domain") owned.Domain ∷ owned_path (codes "table") owned.Table
+    (owned_path (codes "type") owned.Type ∷ record { key = codes "domain"; part = altered_domain } ∷ owned_path (codes "table") owned.Table
     ∷ owned_path (codes "sequence") owned.Sequence ∷ owned_path (codes "view") owned.View ∷ owned_name (codes "database") owned.Database ∷ [])
 
 -- ---- SELECT ..
@@ -56,12 +78,22 @@ selected =
     seen (λ x. stmt.SetConfig x.0 x.1)
     (is_word (codes "pg_catalog") ▸ (is_sign 46 ▸ (is_word (codes "set_config") ▸ (is_sign 40 ▸ (literal then (is_sign 44 ▸ (literal ◂ is_sign 44 ◂ is_word (codes "false") ◂ is_sign 41 ◂ semicolon)))))))
 
+-- ---- SET ..
+
+-- an equals sign, or TO
+unfoldable pub equals_or_to : Part (Unit {0})
+equals_or_to = choose (is_sign 61) (mark (is_sign 61)) (mark (is_word (codes "to")))
+
+-- name = value; or name TO value;
+unfoldable pub setting : Part Stmt
+setting = seen (λ x. stmt.Set x.0 x.1.1) (name then (equals_or_to then (expression ◂ semicolon)))
+
 -- ---- statements
 
 unfoldable pub command : Part Stmt
 command =
     one_of (record { key = codes "create"; part = created })
-    (record { key = codes "alter"; part = altered } ∷ record { key = codes "select"; part = selected } ∷ [])
+    (record { key = codes "alter"; part = altered } ∷ record { key = codes "select"; part = selected } ∷ record { key = codes "set"; part = setting } ∷ [])
 
 -- a semicolon alone is an empty statement
 unfoldable pub statement : Part (Option Stmt)

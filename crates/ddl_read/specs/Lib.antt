@@ -2,3 +2,4 @@ pub mod Grammar
 pub mod Reading
 pub mod Readings
 pub mod Examples
+pub mod Respelling

@@ -1,11 +1,11 @@
 //! Readers of the kinds of statement, each behind the words that tell it apart.
 ghost use Rattle.std.specs.Prelude.{◌≡◌, drop};
 ghost use Rattle.cat_model.specs.declared.stmt.Stmt.TheVariants.{OwnerTo};
-ghost use Rattle.ddl_parts.specs.Pieces.{GivesPart, GivesValue, value_of};
-ghost use Rattle.ddl_read.specs.Grammar.{create_schema, created, new_owner, altered, selected, name_and_owner, path_and_owner, command, statement};
+ghost use Rattle.ddl_parts.specs.Pieces.{GivesPart, GivesPlace, GivesValue, value_of};
+ghost use Rattle.ddl_read.specs.Grammar.{create_schema, created, new_owner, new_check, domain_change, altered_domain, altered, selected, equals_or_to, setting, name_and_owner, path_and_owner, command, statement};
 
 use cat_model::{Owned, QName, Stmt};
-use copy_text::Name;
+use copy_text::{Name, Text};
 use ddl_parts::{Pieces, ReadError, qualified_name};
 use std::alloc::Global;
 
@@ -70,6 +70,38 @@ fn owner_to(object: Owned, role: Name) -> Stmt
     Stmt::OwnerTo { object, role }
 }
 
+#[tactic(auto, unfolding(crate::specs::Grammar::new_check))]
+fn new_check(
+    alloc: Global,
+    pieces: &Pieces<'_>,
+    at: usize,
+) -> Result<((Name, Text), usize), ReadError>
+    ensures { GivesPart pieces.now (λ x. (x.0, x.1)) result (new_check.read (drop at pieces.now)) }
+{
+    let at = pieces.word(at, "add")?;
+    let at = pieces.word(at, "constraint")?;
+    let (name, at) = pieces.name(alloc, at)?;
+    let at = pieces.word(at, "check")?;
+    let at = pieces.sign(at, b'(')?;
+    let (text, at) = pieces.expression(alloc, at)?;
+    let at = pieces.sign(at, b')')?;
+    let at = pieces.sign(at, b';')?;
+    Ok(((name, text), at))
+}
+
+#[tactic(auto, unfolding(crate::specs::Grammar::altered_domain, crate::specs::Grammar::domain_change))]
+fn altered_domain(alloc: Global, pieces: &Pieces<'_>, at: usize) -> Result<(Stmt, usize), ReadError>
+    ensures { GivesPart pieces.now (λ s. s) result (altered_domain.read (drop at pieces.now)) }
+{
+    let (q, at) = qualified_name(alloc, pieces, at)?;
+    if pieces.is_word(at, "owner") {
+        let (role, at) = new_owner(alloc, pieces, at)?;
+        return Ok((owner_to(Owned::Domain(q), role), at));
+    }
+    let ((name, text), at) = new_check(alloc, pieces, at)?;
+    Ok((Stmt::AddDomainCheck { q, name, text }, at))
+}
+
 #[tactic(auto, unfolding(crate::specs::Grammar::altered))]
 fn altered(alloc: Global, pieces: &Pieces<'_>, at: usize) -> Result<(Stmt, usize), ReadError>
     ensures { GivesPart pieces.now (λ s. s) result (altered.read (drop at pieces.now)) }
@@ -86,8 +118,7 @@ fn altered(alloc: Global, pieces: &Pieces<'_>, at: usize) -> Result<(Stmt, usize
     }
     if pieces.is_word(at, "domain") {
         let at = pieces.word(at, "domain")?;
-        let ((q, role), at) = path_and_owner(alloc, pieces, at)?;
-        return Ok((owner_to(Owned::Domain(q), role), at));
+        return altered_domain(alloc, pieces, at);
     }
     if pieces.is_word(at, "table") {
         let at = pieces.word(at, "table")?;
@@ -127,6 +158,27 @@ fn selected(alloc: Global, pieces: &Pieces<'_>, at: usize) -> Result<(Stmt, usiz
     Ok((Stmt::SetConfig { name, value }, at))
 }
 
+#[tactic(auto, unfolding(crate::specs::Grammar::equals_or_to))]
+fn equals_or_to(pieces: &Pieces<'_>, at: usize) -> Result<usize, ReadError>
+    ensures { GivesPlace pieces.now result (equals_or_to.read (drop at pieces.now)) }
+{
+    if pieces.is_sign(at, b'=') {
+        return pieces.sign(at, b'=');
+    }
+    pieces.word(at, "to")
+}
+
+#[tactic(auto, unfolding(crate::specs::Grammar::setting))]
+fn setting(alloc: Global, pieces: &Pieces<'_>, at: usize) -> Result<(Stmt, usize), ReadError>
+    ensures { GivesPart pieces.now (λ s. s) result (setting.read (drop at pieces.now)) }
+{
+    let (name, at) = pieces.name(alloc, at)?;
+    let at = equals_or_to(pieces, at)?;
+    let (value, at) = pieces.expression(alloc, at)?;
+    let at = pieces.sign(at, b';')?;
+    Ok((Stmt::Set { name, value }, at))
+}
+
 #[tactic(auto, unfolding(crate::specs::Grammar::command))]
 fn command(alloc: Global, pieces: &Pieces<'_>, at: usize) -> Result<(Stmt, usize), ReadError>
     ensures { GivesPart pieces.now (λ s. s) result (command.read (drop at pieces.now)) }
@@ -139,8 +191,12 @@ fn command(alloc: Global, pieces: &Pieces<'_>, at: usize) -> Result<(Stmt, usize
         let at = pieces.word(at, "alter")?;
         return altered(alloc, pieces, at);
     }
-    let at = pieces.word(at, "select")?;
-    selected(alloc, pieces, at)
+    if pieces.is_word(at, "select") {
+        let at = pieces.word(at, "select")?;
+        return selected(alloc, pieces, at);
+    }
+    let at = pieces.word(at, "set")?;
+    setting(alloc, pieces, at)
 }
 
 /// The statement at the front of the tokens; an empty one is None.

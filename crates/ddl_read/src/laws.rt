@@ -1,9 +1,11 @@
 //! Laws of the definitions, each the contract of a function that does nothing.
-ghost use Rattle.std.specs.Prelude.{◌≡◌, ◌↔◌, ℕ, List, Ok, Err};
+ghost use Rattle.std.specs.Prelude.{◌≡◌, ◌↔◌, ℕ, List, Some, Ok, Err};
 ghost use Rattle.ddl_read.specs.declared.located.Located.{Located};
 ghost use Rattle.ddl_read.specs.declared.fault.DdlFault.{DdlFault};
 ghost use Rattle.ddl_read.specs.Reading.{statements_of};
 ghost use Rattle.ddl_read.specs.Readings.{Reads, FailsAt};
+ghost use Rattle.cat_model.specs.declared.stmt.Stmt.{Stmt};
+ghost use Rattle.ddl_read.specs.Respelling.{AllWritable, spellings, said};
 ghost use Rattle.ddl_read.specs.Examples.{WorkedExamples};
 
 /// A text is read as statements exactly where it reads as them, so that it reads as one list at most.
@@ -20,4 +22,17 @@ pub fn the_first_fault_is_told()
 /// The definitions give what is known of some texts.
 pub fn the_definitions_meet_the_examples()
     ensures { WorkedExamples }
+{}
+
+/// Statements that are written one after another read as these statements: so the spelling of a statement reads as it.
+pub fn written_statements_are_read_back()
+    ensures { (statements : List Stmt) (text : List ℕ) → AllWritable statements → spellings statements ≡ Some text
+        → (found : List Located) × (statements_of text ≡ Ok found) × (said found ≡ statements) }
+{}
+
+/// Where a text reads as statements, their spellings, joined, are a text that reads as the same statements.
+pub fn statements_that_were_read_are_read_again()
+    ensures { (text : List ℕ) (statements : List Located) → statements_of text ≡ Ok statements
+        → (again : List ℕ) × (spellings (said statements) ≡ Some again)
+        × ((same : List Located) × (statements_of again ≡ Ok same) × (said same ≡ said statements)) }
 {}

@@ -45,6 +45,45 @@ const CASES: &[(&str, &str)] = &[
         "SELECT pg_catalog.set_config(E'a', '', false);",
         "Unknown(29)",
     ),
+    (
+        "SET client_encoding = 'UTF8';",
+        "0..29 SET client_encoding = 'UTF8';\n",
+    ),
+    (
+        "SET standard_conforming_strings = on;",
+        "0..37 SET standard_conforming_strings = on;\n",
+    ),
+    ("set to TO (x,  [y]);", "0..20 SET \"to\" = (x,  [y]);\n"),
+    ("SET x = ;", "Unknown(8)"),
+    ("SET x = (1];", "Unknown(10)"),
+    ("SET x = (1;", "Unknown(10)"),
+    ("SET x = 1", "Incomplete(9)"),
+    (
+        "ALTER DOMAIN public.t ADD CONSTRAINT m CHECK ((VALUE > 0));",
+        "0..59 ALTER DOMAIN public.t\n    ADD CONSTRAINT m CHECK ((VALUE > 0));\n",
+    ),
+    (
+        "ALTER DOMAIN public.t ADD CONSTRAIN,T m CHECK ((VALUE > 0));",
+        "Unknown(26)",
+    ),
+    (
+        "ALTER DOMAIN a.u ADD CONSTRAINT t CHECK ('m'::a.k);",
+        "0..51 ALTER DOMAIN a.u\n    ADD CONSTRAINT t CHECK ('m'::a.k);\n",
+    ),
+    (
+        "ALTER DOMAIN a.u ADD CONSTRAINT t CHECK ('m'::a.",
+        "Incomplete(48)",
+    ),
+    (
+        "ALTER DOMAIN public.t ADD CONSTRAINT u CHECK (E'a\\'b');",
+        "0..55 ALTER DOMAIN public.t\n    ADD CONSTRAINT u CHECK (E'a\\'b');\n",
+    ),
+    (
+        "ALTER DOMAIN public.t ADD CONSTRAINT u CHECK (E'a\\ 7'b');",
+        "Lex(Unclosed(54))",
+    ),
+    ("ALTER DOMAIN public.t ", "Incomplete(22)"),
+    ("ALTER DOMAIN public.n OW,NER TO bob;", "Unknown(22)"),
     ("ALTER SCHEMA 'x", "Lex(Unclosed(13))"),
     ("ALTER x 'y", "Unknown(6)"),
 ];

@@ -33,11 +33,24 @@ unfoldable pub setting_text : List ℕ → List ℕ → List ℕ
 setting_text name value =
     (codes "SELECT pg_catalog.set_config(" ++ written_literal name) ++ (codes ", " ++ written_literal value) ++ (codes ", false)" ++ ending)
 
+unfoldable pub set_text : List ℕ → List ℕ → List ℕ
+set_text name value = codes "SET " ++ written_name name ++ codes " = " ++ value ++ ending
+
 unfoldable pub owner_text : Owned → List ℕ → List ℕ
 owner_text object role = codes "ALTER " ++ owned_object object ++ codes " OWNER TO " ++ written_name role ++ ending
 
+-- a name for a check, and its expression in brackets
+unfoldable pub check_text : List ℕ → List ℕ → List ℕ
+check_text name text = codes "CONSTRAINT " ++ written_name name ++ codes " CHECK (" ++ text ++ codes ")"
+
+-- a line feed and four spaces stand before ADD
+unfoldable pub domain_check_text : QName → List ℕ → List ℕ → List ℕ
+domain_check_text q name text = codes "ALTER DOMAIN " ++ path q ++ (10 ∷ codes "    ADD ") ++ check_text name text ++ ending
+
 unfoldable pub spelling : Stmt → Option (List ℕ)
 spelling (stmt.CreateSchema name) = Some (schema_text name)
+spelling (stmt.Set name value) = Some (set_text name value)
 spelling (stmt.SetConfig name value) = Some (setting_text name value)
 spelling (stmt.OwnerTo object role) = Some (owner_text object role)
+spelling (stmt.AddDomainCheck q name text) = Some (domain_check_text q name text)
 spelling _ = None

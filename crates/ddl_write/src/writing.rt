@@ -1,6 +1,6 @@
 //! Statements as texts.
 ghost use Rattle.std.specs.Prelude.{◌≡◌, ◌++◌, take, vec_len, OnOk, OnErr, Some};
-ghost use Rattle.ddl_write.specs.Spelling.{path, owned_object, schema_text, setting_text, owner_text, spelling};
+ghost use Rattle.ddl_write.specs.Spelling.{path, owned_object, schema_text, set_text, setting_text, owner_text, check_text, domain_check_text, spelling};
 ghost use Rattle.sql_lex.specs.Written.{written_name, written_literal};
 ghost use Rattle.ddl_write.specs.Outcome.{Writes, Extends};
 
@@ -38,8 +38,16 @@ fn put_stmt(stmt: &Stmt, out: &mut Vec<u8>) -> Result<(), WriteStmtError>
             put_schema(name, out)?;
             Ok(())
         }
+        Stmt::Set { name, value } => {
+            put_set(name, value, out)?;
+            Ok(())
+        }
         Stmt::SetConfig { name, value } => {
             put_setting(name, value, out)?;
+            Ok(())
+        }
+        Stmt::AddDomainCheck { q, name, text } => {
+            put_domain_check(q, name, text, out)?;
             Ok(())
         }
         Stmt::OwnerTo { object, role } => {
@@ -57,6 +65,18 @@ fn put_schema(name: &Name, out: &mut Vec<u8>) -> Result<(), AllocError>
 {
     out.extend_from_slice(b"CREATE SCHEMA ")?;
     write_name(name.as_bytes(), out)?;
+    out.extend_from_slice(b";\n")
+}
+
+#[tactic(auto, unfolding(crate::specs::Spelling::set_text))]
+fn put_set(name: &Name, value: &Text, out: &mut Vec<u8>) -> Result<(), AllocError>
+    ensures ok { OnOk result (out.new.items ≡ out.old.items ++ set_text name.now value.now) }
+    ensures kept { Extends out.old.items out.new.items }
+{
+    out.extend_from_slice(b"SET ")?;
+    write_name(name.as_bytes(), out)?;
+    out.extend_from_slice(b" = ")?;
+    out.extend_from_slice(value.as_bytes())?;
     out.extend_from_slice(b";\n")
 }
 
@@ -127,4 +147,35 @@ fn put_path(words: &[u8], q: &QName, out: &mut Vec<u8>) -> Result<(), AllocError
     write_name(q.schema.as_bytes(), out)?;
     out.push(b'.')?;
     write_name(q.name.as_bytes(), out)
+}
+
+/// A name for a check, and its expression in brackets.
+#[tactic(auto, unfolding(crate::specs::Spelling::check_text))]
+fn put_check(name: &Name, text: &Text, out: &mut Vec<u8>) -> Result<(), AllocError>
+    ensures ok { OnOk result (out.new.items ≡ out.old.items ++ check_text name.now text.now) }
+    ensures kept { Extends out.old.items out.new.items }
+{
+    out.extend_from_slice(b"CONSTRAINT ")?;
+    write_name(name.as_bytes(), out)?;
+    out.extend_from_slice(b" CHECK (")?;
+    out.extend_from_slice(text.as_bytes())?;
+    out.extend_from_slice(b")")?;
+    Ok(())
+}
+
+#[tactic(auto, unfolding(crate::specs::Spelling::domain_check_text))]
+fn put_domain_check(
+    q: &QName,
+    name: &Name,
+    text: &Text,
+    out: &mut Vec<u8>,
+) -> Result<(), AllocError>
+    ensures ok { OnOk result (out.new.items ≡ out.old.items ++ domain_check_text q.now name.now text.now) }
+    ensures kept { Extends out.old.items out.new.items }
+{
+    put_path(b"ALTER DOMAIN ", q, out)?;
+    out.extend_from_slice(b"\n    ADD ")?;
+    put_check(name, text, out)?;
+    out.extend_from_slice(b";\n")?;
+    Ok(())
 }

@@ -1,6 +1,7 @@
 use Rattle.std.proofs.Common.{Ok, sym, ap, ◌∙◌, length, arith}
 use Rattle.ddl_parts.specs.Collecting.{collected}
 use Rattle.ddl_parts.proofs.Collects.{all_left, at_end, at_fault, at_semicolon, at_token, end_of_none, end_of_one_more, joined_none, joined_one_more, joined_whole}
+use Rattle.ddl_parts.proofs.Slices.{sound_none, sound_one_more, token_sound}
 use Rattle.ddl_parts.proofs.collecting.collect.Goals as goal
 
 pub tokens-init : goal.tokens-init
@@ -9,6 +10,7 @@ tokens-init c =
     record {
       left = rw e (all_left c.args.text.now c.args.from);
       joined = rw e (joined_none (length c.args.text.now) c.args.from);
+      sound = rw e (sound_none c.args.text.now);
       ends = rw e (end_of_none c.args.from);
       low = omega arith;
       forward = λ some. absurd (omega (arith, ap length e));
@@ -42,6 +44,12 @@ returns-then-is_sign_kind-clause-joined c =
     (joined_whole (length c.args.text.now) c.args.from _
     (joined_one_more (length c.args.text.now) c.args.from c.tokens.pieces.items (record { from = c.tokens.at; token = c.in-Ok-Some.token }) c.tokens.invariant.joined c.tokens.invariant.ends lies.0 lies.1 lies.2))
 
+pub returns-then-is_sign_kind-clause-sound : goal.returns-then-is_sign_kind-clause-sound
+returns-then-is_sign_kind-clause-sound c =
+    rw c.in_ok-push.ensures.items
+    (sound_one_more c.args.text.now c.tokens.pieces.items (record { from = c.tokens.at; token = c.in-Ok-Some.token }) c.tokens.invariant.sound
+    (token_sound c.args.text.now c.tokens.at c.in-Ok-Some.token c.tokens.invariant.high (sym c.in-Ok-Some.ensures.exact ∙ ap Ok c.in-Ok-Some.field-0-is)))
+
 pub tokens-preserved : goal.tokens-preserved
 tokens-preserved c =
     let lies = rw c.in-Ok-Some.field-0-is at c.in-Ok-Some.ensures.within in
@@ -52,6 +60,10 @@ tokens-preserved c =
           (at_token (collected c.args.text.now c.args.from) c.args.text.now c.tokens.pieces.items c.tokens.at c.in-Ok-Some.token c.tokens.invariant.left
           (sym c.in-Ok-Some.ensures.exact ∙ ap Ok c.in-Ok-Some.field-0-is) (sym c.is_sign_kind.ensures ∙ c.if-is_sign_kind.false) lies.0 lies.1 lies.2);
       joined = rw e (joined_one_more (length c.args.text.now) c.args.from c.tokens.pieces.items (record { from = c.tokens.at; token = c.in-Ok-Some.token }) c.tokens.invariant.joined c.tokens.invariant.ends lies.0 lies.1 lies.2);
+      sound =
+          rw e
+          (sound_one_more c.args.text.now c.tokens.pieces.items (record { from = c.tokens.at; token = c.in-Ok-Some.token }) c.tokens.invariant.sound
+          (token_sound c.args.text.now c.tokens.at c.in-Ok-Some.token c.tokens.invariant.high (sym c.in-Ok-Some.ensures.exact ∙ ap Ok c.in-Ok-Some.field-0-is)));
       ends = rw e (end_of_one_more c.args.from c.tokens.pieces.items (record { from = c.tokens.at; token = c.in-Ok-Some.token }));
       low = omega (arith, lies.0, lies.1);
       forward = λ some. omega (arith, lies.0, lies.1);

@@ -1,5 +1,5 @@
 use Rattle.std.proofs.Common.{◌≡◌, ◌-◌, ◌≤◌, ◌<◌, length, true}
-use Rattle.ddl_parts.specs.Pieces.{are_joined_from}
+use Rattle.ddl_parts.specs.Pieces.{are_joined_from, are_sound}
 use Rattle.ddl_parts.specs.Collecting.{collected}
 use Rattle.ddl_parts.proofs.Collects.{IsLeft, end_of}
 use Rattle.ddl_parts.proofs.collecting.collect.Given as goal
@@ -9,6 +9,7 @@ abbrev pub invariant-tokens : goal.invariant-tokens
 invariant-tokens l = record {
   left : IsLeft (collected l.text l.from) l.text l.pieces.items l.at;
   joined : are_joined_from (length l.text) l.from l.pieces.items ≡ true;
+  sound : are_sound l.text l.pieces.items ≡ true;
   ends : end_of l.from l.pieces.items ≡ l.at;
   low : l.from ≤ l.at;
   forward : 0 < length l.pieces.items → l.from < l.at;

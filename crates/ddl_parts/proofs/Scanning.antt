@@ -1,0 +1,91 @@
+-- A machine that goes token by token: the tokens so far and those behind are the machine's run.
+use Rattle.std.proofs.Common.{◌≡◌, ℕ, zero, suc, ◌+◌, ◌-◌, ◌<◌, ◌≤◌, Bool, true, false, cond, List, [], ◌∷◌, ◌++◌, length, take, drop, Some, None, Ok, Err, refl, sym, ap, ◌∙◌, arith, append_assoc, append-nil}
+use Rattle.ddl_parts.specs.Lexemes.{Lexeme}
+use Rattle.ddl_parts.specs.Parts.{Reading, ◌>>=◌, Machine, ends, scan, scan_step}
+use Rattle.ddl_parts.specs.Pieces.{GivesRun, ended}
+use Rattle.ddl_parts.proofs.Steps.{gives}
+use Rattle.ddl_parts.proofs.Slices.{drop_twice, take_one_more}
+
+-- tokens that were taken, before those that are taken behind them
+abbrev pub before : List Lexeme → Reading (List Lexeme) → Reading (List Lexeme)
+before front read = read >>= λ r. Ok (front ++ r.0, r.1)
+
+pub record IsLeft (m : Machine) (whole : Reading (List Lexeme)) (ts : List Lexeme) (from at : ℕ) (s : m.State) : Type 0 where
+  pub low : from ≤ at
+  pub high : at ≤ length ts
+  pub same : whole ≡ before (take (at - from) (drop from ts)) (scan m s (drop at ts))
+
+nothing_before : (read : Reading (List Lexeme)) → before [] read ≡ read
+nothing_before (Ok r) = refl
+nothing_before (Err s) = refl
+
+pub all_left : (m : Machine) (ts : List Lexeme) (from : ℕ) → from ≤ length ts → IsLeft m (scan m m.start (drop from ts)) ts from from m.start
+all_left m ts from le = record {
+  low = omega arith;
+  high = le;
+  same = sym (nothing_before (scan m m.start (drop from ts))) ∙ ap (λ n. before (take n (drop from ts)) (scan m m.start (drop from ts))) (let e : 0 ≡ from - from = omega arith in e);
+}
+
+one_before : (front : List Lexeme) (t : Lexeme) (read : Reading (List Lexeme)) → before front (read >>= λ r. gives (t ∷ r.0) r.1) ≡ before (front ++ t ∷ []) read
+one_before front t (Ok r) = ap (λ (x : List Lexeme). gives x r.1) (sym (append_assoc front (t ∷ []) r.0))
+one_before front t (Err s) = refl
+
+stepped : (m : Machine) (s x : m.State) (t : Lexeme) (rest : List Lexeme) → m.step s t ≡ Some x → scan m s (t ∷ rest) ≡ (scan m x rest >>= λ r. gives (t ∷ r.0) r.1)
+unfolding scan
+stepped m s x t rest e = ap (scan_step (ends m s (m.long s t) (t ∷ rest)) (λ x. scan m x rest >>= λ r. gives (t ∷ r.0) r.1)) e
+
+more_left : (n : ℕ) (ts : List Lexeme) (t : Lexeme) (rest : List Lexeme) → drop n ts ≡ t ∷ rest → n < length ts
+more_left zero [] t rest e = absurd cc
+more_left zero (x ∷ ts) t rest e = omega arith
+more_left (suc n) [] t rest e = absurd cc
+more_left (suc n) (x ∷ ts) t rest e = omega (arith, more_left n ts t rest e)
+
+pub at_token : (m : Machine) (whole : Reading (List Lexeme)) (ts : List Lexeme) (from at : ℕ) (s x : m.State) (t : Lexeme) → IsLeft m whole ts from at s → drop at ts ≡ t ∷ drop (at + 1) ts → m.step s t ≡ Some x → IsLeft m whole ts from (at + 1) x
+at_token m whole ts from at s x t left e some =
+    let low = left.low in
+    let here : drop (at - from) (drop from ts) ≡ t ∷ drop (at + 1) ts = drop_twice (at - from) from ts ∙ ap (λ n. drop n ts) (let p : from + (at - from) ≡ at = omega arith in p) ∙ e in
+    let taken : take (at - from) (drop from ts) ++ t ∷ [] ≡ take (at + 1 - from) (drop from ts) =
+    sym (take_one_more (at - from) (drop from ts) t (drop (at + 1) ts) here) ∙ ap (λ n. take n (drop from ts)) (let p : suc (at - from) ≡ at + 1 - from = omega arith in p) in
+    record {
+      low = omega arith;
+      high = omega (arith, more_left at ts t (drop (at + 1) ts) e);
+      same = left.same
+          ∙ ap (λ (r : List Lexeme). before (take (at - from) (drop from ts)) (scan m s r)) e
+          ∙ ap (before (take (at - from) (drop from ts))) (stepped m s x t (drop (at + 1) ts) some)
+          ∙ one_before (take (at - from) (drop from ts)) t (scan m x (drop (at + 1) ts))
+          ∙ ap (λ (f : List Lexeme). before f (scan m x (drop (at + 1) ts))) taken;
+    }
+
+by_done : (m : Machine) (whole : Reading (List Lexeme)) (ts : List Lexeme) (from at : ℕ) (s : m.State) (long : Bool) → IsLeft m whole ts from at s → scan m s (drop at ts) ≡ ends m s long (drop at ts) → (d : Bool) → m.done s ≡ d → GivesRun ts from (ended d long at) whole
+by_done m whole ts from at s long left e true d =
+    (left.low, left.high, left.same ∙ ap (before (take (at - from) (drop from ts))) (e ∙ ap (λ (b : Bool). cond b (gives [] (drop at ts)) (Err (record { long = long; rest = drop at ts }))) d) ∙ ap (λ (x : List Lexeme). gives x (drop at ts)) (append-nil (take (at - from) (drop from ts))))
+by_done m whole ts from at s long left e false d =
+    left.same ∙ ap (before (take (at - from) (drop from ts))) (e ∙ ap (λ (b : Bool). cond b (gives [] (drop at ts)) (Err (record { long = long; rest = drop at ts }))) d)
+
+pub at_end : (m : Machine) (whole : Reading (List Lexeme)) (ts : List Lexeme) (from at : ℕ) (s : m.State) (d : Bool) → IsLeft m whole ts from at s → drop at ts ≡ [] → m.done s ≡ d → GivesRun ts from (ended d false at) whole
+unfolding scan
+at_end m whole ts from at s d left none done =
+    let e : scan m s (drop at ts) ≡ ends m s false (drop at ts) = ap (scan m s) none ∙ ap (ends m s false) (sym none) in
+    by_done m whole ts from at s false left e d done
+
+pub at_stop : (m : Machine) (whole : Reading (List Lexeme)) (ts : List Lexeme) (from at : ℕ) (s : m.State) (t : Lexeme) (d : Bool) → IsLeft m whole ts from at s → drop at ts ≡ t ∷ drop (at + 1) ts → m.step s t ≡ None → m.done s ≡ d → GivesRun ts from (ended d (m.long s t) at) whole
+unfolding scan
+at_stop m whole ts from at s t d left here none done =
+    let rest = drop (at + 1) ts in
+    let stays : scan m s (t ∷ rest) ≡ ends m s (m.long s t) (t ∷ rest) = ap (scan_step (ends m s (m.long s t) (t ∷ rest)) (λ x. scan m x rest >>= λ r. gives (t ∷ r.0) r.1)) none in
+    let e : scan m s (drop at ts) ≡ ends m s (m.long s t) (drop at ts) = ap (scan m s) here ∙ stays ∙ ap (ends m s (m.long s t)) (sym here) in
+    by_done m whole ts from at s (m.long s t) left e d done
+
+-- no token is left behind the last
+pub past_end : (ts : List Lexeme) (n : ℕ) → length ts ≤ n → drop n ts ≡ []
+past_end [] zero le = refl
+past_end [] (suc n) le = refl
+past_end (t ∷ ts) zero le = absurd (omega arith)
+past_end (t ∷ ts) (suc n) le = past_end ts n (omega arith)
+
+-- where no token is left, a machine that isn't done stops
+pub none_left : (m : Machine) (ts : List Lexeme) (from : ℕ) → m.done m.start ≡ false → length ts ≤ from → scan m m.start (drop from ts) ≡ Err (record { long = false; rest = drop from ts })
+unfolding scan
+none_left m ts from done le =
+    let none = past_end ts from le in
+    ap (scan m m.start) none ∙ ap (λ (b : Bool). cond b (gives [] []) (Err (record { long = false; rest = [] }))) done ∙ ap (λ (r : List Lexeme). Err (record { long = false; rest = r })) (sym none)

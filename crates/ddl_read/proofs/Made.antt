@@ -1,0 +1,287 @@
+-- What is read of a text can be written: names that were read are names, texts are texts, expressions are expressions.
+use Rattle.std.proofs.Common.{◌≡◌, ◌≢◌, ℕ, zero, suc, ◌+◌, ◌-◌, ◌<◌, ◌≤◌, Bool, true, false, not, cond, ◌&&◌, ◌||◌, List, [], ◌∷◌, ◌++◌, length, Option, Some, None, Result, Ok, Err, refl, sym, ap, subst, ◌∙◌, ◌⊎◌, arith, inl, inr, codes}
+use Rattle.std.specs.Prelude.{◌==◌, nat_lt, All, map}
+use Rattle.std.specs.List.{list_any, AllByRecursion as ByRecursion}
+use Rattle.std.specs.Str.{IsUtf8, is_utf8}
+use Rattle.std.proofs.lemmas.Bool.{or_parts, cases_Bool}
+use Rattle.std.proofs.lemmas.Bool.Decides.{nat_tests}
+use Rattle.std.proofs.lemmas.List.Elements.{All-from_recursion}
+use Rattle.std.proofs.lemmas.Str.{IsUtf8-from_is_utf8}
+use Rattle.sql_lex.specs.Meaning.{name_of, literal_of}
+use Rattle.copy_text.specs.Texts.{IsName}
+use Rattle.cat_model.specs.declared.object.QName.{QName}
+use Rattle.cat_model.specs.declared.grant.Owned.{Owned}
+use Rattle.cat_model.specs.declared.grant.Owned.TheVariants as owned
+use Rattle.cat_model.specs.declared.stmt.Stmt.{Stmt}
+use Rattle.cat_model.specs.declared.stmt.Stmt.TheVariants as stmt
+use Rattle.ddl_parts.specs.Lexemes.{Lexeme, is_word, is_sign, source}
+use Rattle.ddl_parts.specs.Parts.{Part, Branch, branch, one_of, mark, seen, choose, Runs, ◌then◌, ◌▸◌, ◌◂◌}
+use Rattle.ddl_parts.specs.Pieces.{lexemes}
+use Rattle.ddl_parts.specs.Collecting.{collected}
+use Rattle.ddl_parts.specs.Leaves.{name, name_in, name_value, literal, literal_value, text_in, qualified}
+use Rattle.ddl_parts.specs.Expressions.{nested, expression}
+use Rattle.ddl_write.specs.Spelling.{spelling}
+use Rattle.ddl_read.specs.declared.located.Located.{Located}
+use Rattle.ddl_read.specs.Grammar.{semicolon, create_schema, created, new_owner, new_check, DomainChange, its_owner, one_more_check, domain_changed, domain_change, altered_domain, name_and_owner, path_and_owner, owned_name, owned_path, altered, selected, equals_or_to, setting, command, statement}
+use Rattle.ddl_read.specs.Reading.{listed, statements_of}
+use Rattle.ddl_read.specs.Readings.{IsStatement, Reads, all_read, one_read}
+use Rattle.ddl_read.specs.Respelling.{IsPath, IsOwnedName, IsExpressionText, IsWritable, AllWritable, joined, spellings, said}
+use Rattle.ddl_read.proofs.Kept.{AllCame, came_front, came_behind, have_come}
+use Rattle.ddl_read.proofs.Expressions.{expression_text}
+use Rattle.ddl_read.proofs.ReadingLaws.{found, bounds}
+use Rattle.ddl_read.proofs.Tokens.{none}
+use Rattle.ddl_read.proofs.Respelled.{can_be_written, joined_read}
+
+-- ---- parts
+
+-- what tokens of a text spell has a property
+abbrev Yields : {A : Type 0} → (A → Type 0) → Part A → Type 0
+Yields {A} P p = (v : A) (ts : List Lexeme) (r : List ℕ) → AllCame ts r → p.Spells v ts → P v
+
+then_yields : {A B : Type 0} (P : A → Type 0) (Q : B → Type 0) (p : Part A) (q : Part B) → Yields P p → Yields Q q → Yields (λ x. P x.0 × Q x.1) (p then q)
+then_yields P Q p q f g v ts r came spells =
+    let a = spells.0 in
+    let b = spells.1 in
+    let parts : AllCame (a ++ b) r = subst (λ (us : List Lexeme). AllCame us r) spells.2 came in
+    (f v.0 a _ (came_front a b r parts) spells.3, g v.1 b r (came_behind a b r parts) spells.4)
+
+seen_yields : {A B : Type 0} (P : B → Type 0) (h : A → B) (p : Part A) → Yields (λ v. P (h v)) p → Yields P (seen h p)
+seen_yields P h p f w ts r came spells = subst P (sym spells.1) (f spells.0 ts r came spells.2)
+
+any_yields : {A : Type 0} (p : Part A) → Yields (λ v. Unit {0}) p
+any_yields p v ts r came spells = tt
+
+lead_yields : {A : Type 0} (P : A → Type 0) (test : Lexeme → Bool) (p : Part A) → Yields P p → Yields P (test ▸ p)
+lead_yields P test p f v ts r came spells =
+    let both = then_yields (λ u. Unit {0}) P (mark test) p (any_yields (mark test)) f spells.0 ts r came spells.2 in
+    subst P (sym spells.1) both.1
+
+end_yields : {A : Type 0} (P : A → Type 0) (test : Lexeme → Bool) (p : Part A) → Yields P p → Yields P (p ◂ test)
+end_yields P test p f v ts r came spells =
+    let both = then_yields P (λ u. Unit {0}) p (mark test) f (any_yields (mark test)) spells.0 ts r came spells.2 in
+    subst P (sym spells.1) both.0
+
+choose_yields : {A : Type 0} (P : A → Type 0) (test : Lexeme → Bool) (p q : Part A) → Yields P p → Yields P q → Yields P (choose test p q)
+choose_yields {A} P test p q f g v ts r came spells = by spells
+  where
+    by : p.Spells v ts ⊎ q.Spells v ts → P v
+    by (inl h) = f v ts r came h
+    by (inr h) = g v ts r came h
+
+abbrev AllYield : {A : Type 0} → (A → Type 0) → Branch A → List (Branch A) → Type 0
+AllYield P b [] = Yields P b.part
+AllYield P b (c ∷ rest) = Yields P b.part × AllYield P c rest
+
+one_of_yields : {A : Type 0} (P : A → Type 0) (b : Branch A) (rest : List (Branch A)) → AllYield P b rest → Yields P (one_of b rest)
+one_of_yields P b [] h = lead_yields P (is_word b.key) b.part h
+one_of_yields P b (c ∷ rest) h = choose_yields P (is_word b.key) (branch b) (one_of c rest) (lead_yields P (is_word b.key) b.part h.0) (one_of_yields P c rest h.1)
+
+-- ---- names, literals and expressions
+
+abbrev named : List ℕ → Result (List ℕ) Bool
+named n = Ok n
+
+no_zero : (bytes : List ℕ) → list_any (λ b. b == 0) bytes ≡ false → ByRecursion (λ b. b ≢ 0) bytes
+no_zero [] e = tt
+no_zero (b ∷ bytes) e = let h = or_parts (b == 0) (list_any (λ b. b == 0) bytes) e in ((λ (is : b ≡ 0). grind (arith, nat_tests)), no_zero bytes h.1)
+
+name_in_is : (o : Option (List ℕ)) (n : List ℕ) → name_in o ≡ Ok n → IsName n
+unfolding name_in
+name_in_is None n e = absurd cc
+name_in_is (Some bytes) n e = by_start (cases_Bool (length bytes == 0 || list_any (λ b. b == 0) bytes))
+  where
+    by_utf8 : (length bytes == 0) ≡ false → list_any (λ b. b == 0) bytes ≡ false → nat_lt 63 (length bytes) ≡ false → (b : Bool) → is_utf8 bytes ≡ b → cond b (named bytes) (Err false) ≡ Ok n → IsName n
+    by_utf8 some zeros short true utf8 f =
+        let same : bytes ≡ n = cc in
+        subst IsName same (record { some = grind (arith, nat_tests); short = grind (arith, nat_tests); utf8 = IsUtf8-from_is_utf8 bytes utf8; no_zero = All-from_recursion (λ b. b ≢ 0) bytes (no_zero bytes zeros) })
+    by_utf8 some zeros short false utf8 f = absurd cc
+
+    by_length : (length bytes == 0) ≡ false → list_any (λ b. b == 0) bytes ≡ false → (b : Bool) → nat_lt 63 (length bytes) ≡ b → cond b (Err true) (cond (is_utf8 bytes) (named bytes) (Err false)) ≡ Ok n → IsName n
+    by_length some zeros true is f = absurd cc
+    by_length some zeros false is f = by_utf8 some zeros is (is_utf8 bytes) refl f
+
+    by_start : ((length bytes == 0 || list_any (λ b. b == 0) bytes) ≡ true) ⊎ ((length bytes == 0 || list_any (λ b. b == 0) bytes) ≡ false) → IsName n
+    by_start (inl is) = absurd (let f = rw is at e in cc)
+    by_start (inr is) = let h = or_parts (length bytes == 0) (list_any (λ b. b == 0) bytes) is in by_length h.0 h.1 (nat_lt 63 (length bytes)) refl (rw is at e)
+
+name_yields : Yields IsName name
+unfolding name_value
+name_yields n ts r came spells = name_in_is (name_of spells.0.kind spells.0.word) n spells.2
+
+text_in_is : (o : Option (List ℕ)) (t : List ℕ) → text_in o ≡ Ok t → IsUtf8 t
+unfolding text_in
+text_in_is None t e = absurd cc
+text_in_is (Some bytes) t e = by (is_utf8 bytes) refl e
+  where
+    by : (b : Bool) → is_utf8 bytes ≡ b → cond b (named bytes) (Err false) ≡ Ok t → IsUtf8 t
+    by true is f = let same : bytes ≡ t = cc in subst IsUtf8 same (IsUtf8-from_is_utf8 bytes is)
+    by false is f = absurd cc
+
+literal_yields : Yields IsUtf8 literal
+unfolding literal_value
+literal_yields t ts r came spells = text_in_is (literal_of spells.0.kind spells.0.word) t spells.2
+
+expression_yields : Yields IsExpressionText expression
+unfolding expression
+expression_yields v ts r came spells =
+    let text = expression_text ts r came spells.2.1 in
+    subst IsExpressionText (ap source (sym spells.2.0) ∙ sym spells.1) text
+
+qualified_yields : Yields IsPath qualified
+qualified_yields q ts r came spells =
+    let both = then_yields IsName IsName name (is_sign 46 ▸ name) name_yields (lead_yields IsName (is_sign 46) name name_yields) spells.0 ts r came spells.2 in
+    subst IsPath (sym spells.1) both
+
+-- ---- the kinds
+
+create_schema_yields : Yields IsWritable create_schema
+unfolding create_schema
+create_schema_yields = seen_yields IsWritable stmt.CreateSchema (name ◂ semicolon) (end_yields IsName semicolon name name_yields)
+
+created_yields : Yields IsWritable created
+unfolding created
+created_yields = one_of_yields IsWritable (record { key = codes "schema"; part = create_schema }) [] create_schema_yields
+
+new_owner_yields : Yields IsName new_owner
+unfolding new_owner
+new_owner_yields =
+    lead_yields IsName (is_word (codes "owner")) (is_word (codes "to") ▸ (name ◂ semicolon))
+    (lead_yields IsName (is_word (codes "to")) (name ◂ semicolon) (end_yields IsName semicolon name name_yields))
+
+abbrev check_part : Part (List ℕ)
+check_part = is_word (codes "check") ▸ (is_sign 40 ▸ (expression ◂ is_sign 41 ◂ semicolon))
+
+abbrev IsCheck : List ℕ × List ℕ → Type 0
+IsCheck x = IsName x.0 × IsExpressionText x.1
+
+new_check_yields : Yields IsCheck new_check
+unfolding new_check
+new_check_yields =
+    lead_yields IsCheck (is_word (codes "add")) (is_word (codes "constraint") ▸ (name then check_part))
+    (lead_yields IsCheck (is_word (codes "constraint")) (name then check_part)
+    (then_yields IsName IsExpressionText name check_part name_yields
+    (lead_yields IsExpressionText (is_word (codes "check")) (is_sign 40 ▸ (expression ◂ is_sign 41 ◂ semicolon))
+    (lead_yields IsExpressionText (is_sign 40) (expression ◂ is_sign 41 ◂ semicolon)
+    (end_yields IsExpressionText semicolon (expression ◂ is_sign 41) (end_yields IsExpressionText (is_sign 41) expression expression_yields))))))
+
+abbrev IsChange : DomainChange → Type 0
+IsChange (its_owner role) = IsName role
+IsChange (one_more_check n v) = IsName n × IsExpressionText v
+
+domain_change_yields : Yields IsChange domain_change
+unfolding domain_change
+domain_change_yields =
+    choose_yields IsChange (is_word (codes "owner")) (seen its_owner new_owner) (seen (λ x. one_more_check x.0 x.1) new_check)
+    (seen_yields IsChange its_owner new_owner new_owner_yields) (seen_yields IsChange (λ x. one_more_check x.0 x.1) new_check new_check_yields)
+
+changed : (q : QName) (change : DomainChange) → IsPath q → IsChange change → IsWritable (domain_changed q change)
+changed q (its_owner role) path is = (path, is)
+changed q (one_more_check n v) path is = (path, is.0, is.1)
+
+altered_domain_yields : Yields IsWritable altered_domain
+unfolding altered_domain
+altered_domain_yields v ts r came spells =
+    let both = then_yields IsPath IsChange qualified domain_change qualified_yields domain_change_yields spells.0 ts r came spells.2 in
+    subst IsWritable (sym spells.1) (changed spells.0.0 spells.0.1 both.0 both.1)
+
+owned_name_yields : (key : List ℕ) (kind : List ℕ → Owned) → ((n : List ℕ) → IsName n → IsOwnedName (kind n)) → Yields IsWritable (owned_name key kind).part
+unfolding name_and_owner
+owned_name_yields key kind names v ts r came spells =
+    let both = then_yields IsName IsName name new_owner name_yields new_owner_yields spells.0 ts r came spells.2 in
+    subst IsWritable (sym spells.1) (names spells.0.0 both.0, both.1)
+
+owned_path_yields : (key : List ℕ) (kind : QName → Owned) → ((q : QName) → IsPath q → IsOwnedName (kind q)) → Yields IsWritable (owned_path key kind).part
+unfolding path_and_owner
+owned_path_yields key kind names v ts r came spells =
+    let both = then_yields IsPath IsName qualified new_owner qualified_yields new_owner_yields spells.0 ts r came spells.2 in
+    subst IsWritable (sym spells.1) (names spells.0.0 both.0, both.1)
+
+altered_yields : Yields IsWritable altered
+unfolding altered
+altered_yields =
+    one_of_yields IsWritable (owned_name (codes "schema") owned.Schema)
+    (owned_path (codes "type") owned.Type ∷ record { key = codes "domain"; part = altered_domain } ∷ owned_path (codes "table") owned.Table
+    ∷ owned_path (codes "sequence") owned.Sequence ∷ owned_path (codes "view") owned.View ∷ owned_name (codes "database") owned.Database ∷ []) (
+      owned_name_yields (codes "schema") owned.Schema (λ n is. is),
+      (
+        owned_path_yields (codes "type") owned.Type (λ q is. is),
+        (
+          altered_domain_yields,
+          (
+            owned_path_yields (codes "table") owned.Table (λ q is. is),
+            (
+              owned_path_yields (codes "sequence") owned.Sequence (λ q is. is),
+              (owned_path_yields (codes "view") owned.View (λ q is. is), owned_name_yields (codes "database") owned.Database (λ n is. is)),
+            ),
+          ),
+        ),
+      ),
+    )
+
+abbrev value_end : Part (List ℕ)
+value_end = literal ◂ is_sign 44 ◂ is_word (codes "false") ◂ is_sign 41 ◂ semicolon
+
+abbrev values : Part (List ℕ × List ℕ)
+values = literal then (is_sign 44 ▸ value_end)
+
+selected_yields : Yields IsWritable selected
+unfolding selected
+selected_yields v ts r came spells =
+    let ended : Yields IsUtf8 value_end = end_yields IsUtf8 semicolon (literal ◂ is_sign 44 ◂ is_word (codes "false") ◂ is_sign 41)
+    (end_yields IsUtf8 (is_sign 41) (literal ◂ is_sign 44 ◂ is_word (codes "false"))
+    (end_yields IsUtf8 (is_word (codes "false")) (literal ◂ is_sign 44) (end_yields IsUtf8 (is_sign 44) literal literal_yields))) in
+    let both = then_yields IsUtf8 IsUtf8 literal (is_sign 44 ▸ value_end) literal_yields (lead_yields IsUtf8 (is_sign 44) value_end ended) in
+    let P : List ℕ × List ℕ → Type 0 = λ x. IsUtf8 x.0 × IsUtf8 x.1 in
+    let all = lead_yields P (is_word (codes "pg_catalog")) (is_sign 46 ▸ (is_word (codes "set_config") ▸ (is_sign 40 ▸ values)))
+    (lead_yields P (is_sign 46) (is_word (codes "set_config") ▸ (is_sign 40 ▸ values))
+    (lead_yields P (is_word (codes "set_config")) (is_sign 40 ▸ values) (lead_yields P (is_sign 40) values both))) in
+    subst IsWritable (sym spells.1) (all spells.0 ts r came spells.2)
+
+setting_yields : Yields IsWritable setting
+unfolding setting
+setting_yields v ts r came spells =
+    let value = end_yields IsExpressionText semicolon expression expression_yields in
+    let Q : Unit {0} × List ℕ → Type 0 = λ x. Unit {0} × IsExpressionText x.1 in
+    let rest = then_yields (λ u. Unit {0}) IsExpressionText equals_or_to (expression ◂ semicolon) (any_yields equals_or_to) value in
+    let all = then_yields IsName Q name (equals_or_to then (expression ◂ semicolon)) name_yields rest spells.0 ts r came spells.2 in
+    subst IsWritable (sym spells.1) (all.0, all.1.1)
+
+command_yields : Yields IsWritable command
+unfolding command
+command_yields =
+    one_of_yields IsWritable (record { key = codes "create"; part = created })
+    (record { key = codes "alter"; part = altered } ∷ record { key = codes "select"; part = selected } ∷ record { key = codes "set"; part = setting } ∷ [])
+    (created_yields, (altered_yields, (selected_yields, setting_yields)))
+
+statement_yields : (s : Stmt) (ts : List Lexeme) (r : List ℕ) → AllCame ts r → statement.Spells (Some s) ts → IsWritable s
+unfolding statement
+statement_yields s ts r came spells = by spells
+  where
+    by : (seen (λ x. None) (mark semicolon)).Spells (Some s) ts ⊎ (seen Some command).Spells (Some s) ts → IsWritable s
+    by (inl h) = absurd (cc h.1)
+    by (inr h) = let same : s ≡ h.0 = cc h.1 in subst IsWritable (sym same) (command_yields h.0 ts r came h.2)
+
+-- ---- whole texts
+
+one_more : (text : List ℕ) (at start end : ℕ) (more : List Located) → at ≤ length text → (s : Option Stmt) → IsStatement text at s start end → AllWritable (said more) → AllWritable (said (listed s start end more))
+one_more text at start end more le None is later = later
+one_more text at start end more le (Some s) is later = (statement_yields s (lexemes text (collected text at).pieces) _ (have_come text at le) is.spells, later)
+
+all_writable : (text : List ℕ) (at : ℕ) (found : List Located) → at ≤ length text → Reads text at found → AllWritable (said found)
+all_writable text _ _ le (all_read at first sound) = tt
+all_writable text _ _ le (one_read at s start end more is others) =
+    one_more text at start end more le s is (all_writable text end more (subst (λ n. n ≤ length text) is.last (bounds text at le).1) others)
+
+all_spelled : (statements : List Stmt) → AllWritable statements → (text : List ℕ) × (spellings statements ≡ Some text)
+all_spelled [] all = ([], refl)
+all_spelled (s ∷ more) all =
+    let c = can_be_written [] s none all.0 in
+    let h = all_spelled more all.1 in
+    (c.text ++ h.0, ap (λ (o : Option (List ℕ)). joined o (spellings more)) c.spells ∙ ap (joined (Some c.text)) h.1)
+
+pub read_again : (text : List ℕ) (statements : List Located) → statements_of text ≡ Ok statements
+    → (again : List ℕ) × (spellings (said statements) ≡ Some again) × ((same : List Located) × (statements_of again ≡ Ok same) × (said same ≡ said statements))
+read_again text statements e =
+    let all = all_writable text 0 statements (omega arith) (found text statements e) in
+    let s = all_spelled (said statements) all in
+    (s.0, s.1, joined_read (said statements) s.0 all s.1)

@@ -1,0 +1,61 @@
+-- Statements that can be written, and the spellings of several joined.
+use Rattle.std.specs.Prelude.{◌≡◌, ℕ, false, List, [], ◌∷◌, ◌++◌, map, length, Option, Some, None}
+use Rattle.copy_text.specs.Texts.{IsName, IsText}
+use Rattle.cat_model.specs.declared.object.QName.{QName}
+use Rattle.cat_model.specs.declared.grant.Owned.{Owned}
+use Rattle.cat_model.specs.declared.grant.Owned.TheVariants as owned
+use Rattle.cat_model.specs.declared.stmt.Stmt.{Stmt}
+use Rattle.cat_model.specs.declared.stmt.Stmt.TheVariants as stmt
+use Rattle.ddl_parts.specs.Parts.{Runs}
+use Rattle.ddl_parts.specs.Pieces.{lexemes}
+use Rattle.ddl_parts.specs.Collecting.{collected}
+use Rattle.ddl_parts.specs.Expressions.{nested}
+use Rattle.ddl_write.specs.Spelling.{spelling}
+use Rattle.ddl_read.specs.declared.located.Located.{Located}
+use Rattle.ddl_read.specs.Reading.{first_start}
+
+-- both parts of a path are names
+abbrev pub IsPath : QName → Type 0
+IsPath q = IsName q.schema × IsName q.name
+
+abbrev pub IsOwnedName : Owned → Type 0
+IsOwnedName (owned.Schema n) = IsName n
+IsOwnedName (owned.Type q) = IsPath q
+IsOwnedName (owned.Domain q) = IsPath q
+IsOwnedName (owned.Table q) = IsPath q
+IsOwnedName (owned.Sequence q) = IsPath q
+IsOwnedName (owned.View q) = IsPath q
+IsOwnedName (owned.Database n) = IsName n
+
+-- An expression and nothing else: the text begins with its first token and ends with its last.
+pub record IsExpressionText (v : List ℕ) : Type 0 where
+  pub first : first_start (collected v 0).pieces ≡ Some 0
+  pub last : (collected v 0).end ≡ length v
+  pub runs : Runs (nested false false) (lexemes v (collected v 0).pieces)
+
+-- What a statement is made of is what it should be: names are names, texts are texts, expressions are expressions. It
+-- says so for the kinds that are written.
+abbrev pub IsWritable : Stmt → Type 0
+IsWritable (stmt.CreateSchema n) = IsName n
+IsWritable (stmt.Set n v) = IsName n × IsExpressionText v
+IsWritable (stmt.SetConfig n v) = IsText n × IsText v
+IsWritable (stmt.AddDomainCheck q n v) = IsPath q × IsName n × IsExpressionText v
+IsWritable (stmt.OwnerTo object role) = IsOwnedName object × IsName role
+IsWritable _ = ⊥
+
+abbrev pub AllWritable : List Stmt → Type 0
+AllWritable [] = Unit {0}
+AllWritable (s ∷ more) = IsWritable s × AllWritable more
+
+abbrev pub joined : Option (List ℕ) → Option (List ℕ) → Option (List ℕ)
+joined (Some a) (Some b) = Some (a ++ b)
+joined _ _ = None
+
+-- the spellings of statements, one after another; None where one has none
+abbrev pub spellings : List Stmt → Option (List ℕ)
+spellings [] = Some []
+spellings (s ∷ more) = joined (spelling s) (spellings more)
+
+-- what located statements say
+abbrev pub said : List Located → List Stmt
+said found = map (λ l. l.stmt) found
