@@ -1,0 +1,4 @@
+pub mod Steps
+pub mod Mapped
+pub mod Places
+pub mod Items

@@ -1,0 +1,12 @@
+pub mod Findings
+pub mod Lookups
+pub mod Rights
+pub mod Roles
+pub mod Schemas
+pub mod Cluster
+pub mod Gives
+pub mod Indexed
+pub mod Grants
+pub mod Naming
+pub mod Examples
+pub mod DataSets
