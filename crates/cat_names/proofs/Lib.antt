@@ -2,3 +2,4 @@ pub mod Steps
 pub mod Mapped
 pub mod Places
 pub mod Items
+pub mod FirstFaults

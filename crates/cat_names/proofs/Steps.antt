@@ -43,6 +43,11 @@ module _ {R : Type 0} (find : List R → R → Findings) (ending : Option FaultK
   failed before rows row line error e due =
       rw (← e) (due_first line (first_kind (find before row)) (first_from find ending (before ++ row ∷ []) rows) error due)
 
+  -- a line at which something was found is the first
+  pub stopped : (before rows : List R) (row : R) (kind : FaultKind) → first_kind (find before row) ≡ Some kind → first_from find ending before (row ∷ rows) ≡ Some (record { line = length before + 1; kind = kind })
+  unfolding first_from
+  stopped before rows row kind e = ap (λ k. fault_or (length before + 1) k (first_from find ending (before ++ row ∷ []) rows)) e
+
   -- behind the last line the table's end is tried
   pub ended : (rows : List R) → first_from find ending rows [] ≡ fault_or (length rows + 1) ending None
   unfolding first_from

@@ -1,4 +1,5 @@
 pub mod Findings
+pub mod Firsts
 pub mod Lookups
 pub mod Rights
 pub mod Roles
