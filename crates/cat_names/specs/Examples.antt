@@ -1,5 +1,5 @@
 -- Worked examples: the export of an empty cluster, and what is wrong with it after one change.
-use Rattle.std.specs.Prelude.{◌≡◌, ℕ, negsuc, Bool, true, false, List, [], ◌∷◌, ◌++◌, Option, Some, None, codes}
+use Rattle.std.specs.Prelude.{◌≡◌, ℕ, pos, negsuc, Bool, true, false, List, [], ◌∷◌, ◌++◌, Option, Some, None, codes}
 use Rattle.acl_text.specs.declared.list.AclItem.{AclItem}
 use Rattle.acl_text.specs.declared.rights.Privilege.TheVariants as privilege
 use Rattle.acl_text.specs.declared.rights.Privilege.{Privilege}
@@ -10,13 +10,21 @@ use Rattle.cat_rows.specs.declared.roles.AuthidRow.{AuthidRow}
 use Rattle.cat_rows.specs.declared.roles.AuthMembersRow.{AuthMembersRow}
 use Rattle.cat_rows.specs.declared.roles.DatabaseRow.{DatabaseRow}
 use Rattle.cat_rows.specs.declared.schemas.NamespaceRow.{NamespaceRow}
+use Rattle.cat_rows.specs.declared.types.TypeRow.{TypeRow}
+use Rattle.cat_rows.specs.declared.types.EnumRow.{EnumRow}
+use Rattle.cat_rows.specs.declared.relations.ClassRow.{ClassRow}
+use Rattle.cat_rows.specs.declared.sequences.SequenceRow.{SequenceRow}
+use Rattle.cat_rows.specs.declared.notes.DependRow.{DependRow}
 use Rattle.cat_rows.specs.Catalogues.{no_rows}
 use Rattle.cat_model.specs.declared.words.What.TheVariants as what
 use Rattle.cat_model.specs.Values.{Bytes}
 use Rattle.cat_names.specs.declared.fault.CatFault.{CatFault}
+use Rattle.cat_names.specs.declared.fault.LineFault.{LineFault}
 use Rattle.cat_names.specs.declared.fault.FaultKind.{FaultKind}
 use Rattle.cat_names.specs.declared.fault.FaultKind.TheVariants as kind
 use Rattle.cat_names.specs.Cluster.{cluster_fault}
+use Rattle.cat_names.specs.Enums.{labels_fault}
+use Rattle.cat_names.specs.Relations.{relations_fault, depends_fault}
 use Rattle.cat_names.specs.Naming.{cluster_entries, boot}
 
 abbrev pub role : ℕ → Bytes → AuthidRow
@@ -98,3 +106,66 @@ pub record Faults : Type 0 where
 pub record Names : Type 0 where
   pub other_oids : cluster_entries (with_schemas (schema 16384 (codes "a") 10 None ∷ [])) ≡ cluster_entries (with_schemas (schema 20000 (codes "a") 10 None ∷ []))
   pub boot_role : boot (with_schemas []) ≡ Some (codes "postgres")
+
+-- ---- labels of enums
+
+abbrev pub status : TypeRow
+status = record { oid = 16384; typname = codes "status"; typnamespace = 2200; typowner = 10; typtype = 101; typnotnull = false; typbasetype = 0; basetext = []; typdefault = None; typacl = None }
+
+abbrev pub email : TypeRow
+email = record status { oid = 16388; typname = codes "email"; typtype = 100; basetext = codes "text" }
+
+abbrev pub label : ℕ → ℕ → ℕ → Bytes → EnumRow
+label oid type at text = record { oid = oid; enumtypid = type; enumpos = pos at; enumlabel = text }
+
+abbrev pub labels_found : List EnumRow → Option LineFault
+labels_found labels = labels_fault (status ∷ email ∷ []) labels
+
+abbrev pub at_line : ℕ → FaultKind → Option LineFault
+at_line line kind = Some (record { line = line; kind = kind })
+
+pub record Labels : Type 0 where
+  pub two : labels_found (label 1 16384 1 (codes "new") ∷ label 2 16384 2 (codes "paid") ∷ []) ≡ None
+  pub falling : labels_found (label 1 16384 2 (codes "new") ∷ label 2 16384 1 (codes "paid") ∷ []) ≡ None
+  pub second_gone : labels_found (label 1 16384 1 (codes "new") ∷ label 2 16384 3 (codes "sent") ∷ []) ≡ at_line 2 kind.BadText
+  pub place_twice : labels_found (label 1 16384 1 (codes "new") ∷ label 2 16384 1 (codes "paid") ∷ []) ≡ at_line 2 kind.BadText
+  pub no_place : labels_found (label 1 16384 0 (codes "new") ∷ []) ≡ at_line 1 kind.BadText
+  pub label_twice : labels_found (label 1 16384 1 (codes "new") ∷ label 2 16384 2 (codes "new") ∷ []) ≡ at_line 2 kind.RepeatedName
+  pub of_domain : labels_found (label 1 16388 1 (codes "new") ∷ []) ≡ at_line 1 kind.Dangling
+  pub of_schema : labels_found (label 1 2200 1 (codes "new") ∷ []) ≡ at_line 1 kind.Dangling
+
+-- ---- relations
+
+abbrev pub relation : ℕ → Bytes → ℕ → ClassRow
+relation oid name letter = record { oid = oid; relname = name; relnamespace = 2200; relkind = letter; relowner = 10; relpersistence = 112; relacl = None }
+
+abbrev pub sequence_row : ℕ → SequenceRow
+sequence_row oid = record { seqrelid = oid; seqtype = codes "bigint"; seqstart = pos 1; seqincrement = pos 1; seqmax = pos 9; seqmin = pos 1; seqcache = pos 1; seqcycle = false; last_value = pos 1; is_called = false; ownrel = 0; owncol = pos 0 }
+
+abbrev pub with_relations : List ClassRow → List SequenceRow → Catalogue
+with_relations relations sequences = record (with_schemas (public ∷ [])) { pg_class = relations; pg_sequence = sequences }
+
+abbrev pub relations_found : List ClassRow → Option LineFault
+relations_found relations = relations_fault (with_relations relations (sequence_row 3 ∷ []))
+
+abbrev pub depend : ℕ → ℕ → ℕ → ℕ → DependRow
+depend of column on letter = record { classid = 1259; objid = of; objsubid = pos column; refclassid = 1259; refobjid = on; refobjsubid = pos 0; deptype = letter }
+
+abbrev pub depends_found : DependRow → Option LineFault
+depends_found row = depends_fault (relation 1 (codes "t") 114 ∷ relation 2 (codes "u") 114 ∷ relation 3 (codes "s") 83 ∷ []) (row ∷ [])
+
+pub record Relations : Type 0 where
+  pub tables : relations_found (relation 1 (codes "t") 114 ∷ relation 2 (codes "u") 114 ∷ []) ≡ None
+  pub name_twice : relations_found (relation 1 (codes "t") 114 ∷ relation 3 (codes "t") 83 ∷ []) ≡ at_line 2 kind.RepeatedName
+  pub sequence : relations_found (relation 3 (codes "s") 83 ∷ []) ≡ None
+  pub no_sequence_row : relations_found (relation 4 (codes "s") 83 ∷ []) ≡ at_line 1 kind.Dangling
+  pub no_rewrite_row : relations_found (relation 4 (codes "v") 118 ∷ []) ≡ at_line 1 kind.Dangling
+  pub no_index_row : relations_found (relation 4 (codes "i") 105 ∷ []) ≡ at_line 1 kind.Dangling
+  pub materialized : relations_found (relation 4 (codes "m") 109 ∷ []) ≡ at_line 1 (kind.OutOfProfile (what.RelKind 109))
+  pub unlogged : relations_found (record (relation 1 (codes "t") 114) { relpersistence = 117 } ∷ []) ≡ at_line 1 (kind.OutOfProfile what.Persistence)
+  pub create_on_table : relations_found (record (relation 1 (codes "t") 114) { relacl = Some (grant None privilege.Create (codes "postgres") ∷ []) } ∷ []) ≡ at_line 1 kind.BadText
+  pub read_by_all : relations_found (record (relation 1 (codes "t") 114) { relacl = Some (grant None privilege.Select (codes "postgres") ∷ []) } ∷ []) ≡ None
+  pub identity : depends_found (depend 3 0 1 105) ≡ at_line 1 (kind.OutOfProfile what.Identity)
+  pub serial : depends_found (depend 3 0 1 97) ≡ None
+  pub inheritance : depends_found (depend 1 0 2 110) ≡ at_line 1 (kind.OutOfProfile what.Inheritance)
+  pub column : depends_found (depend 1 1 2 110) ≡ None

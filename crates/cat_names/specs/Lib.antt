@@ -5,6 +5,8 @@ pub mod Rights
 pub mod Roles
 pub mod Schemas
 pub mod Cluster
+pub mod Enums
+pub mod Relations
 pub mod Gives
 pub mod Indexed
 pub mod Grants

@@ -5,7 +5,7 @@ ghost use Rattle.cat_rows.specs.declared.roles.AuthMembersRow.{AuthMembersRow};
 ghost use Rattle.cat_rows.specs.declared.roles.DatabaseRow.{DatabaseRow};
 ghost use Rattle.cat_rows.specs.declared.schemas.NamespaceRow.{NamespaceRow};
 ghost use Rattle.cat_names.specs.declared.fault.LineFault.{LineFault};
-ghost use Rattle.cat_names.specs.Examples.{Faults, Names};
+ghost use Rattle.cat_names.specs.Examples.{Faults, Names, Labels, Relations};
 ghost use Rattle.cat_names.specs.Firsts.{IsFirstFault, IsCleanTable};
 ghost use Rattle.cat_names.specs.Roles.{dangling_unless, has_boot, has_current, role_findings, roles_fault, member_findings, members_fault, database_findings, databases_fault};
 ghost use Rattle.cat_names.specs.Schemas.{schema_findings, schemas_fault};
@@ -14,6 +14,12 @@ ghost use Rattle.cat_names.specs.Schemas.{schema_findings, schemas_fault};
 pub fn worked_examples()
     ensures faults { Faults }
     ensures names { Names }
+{}
+
+/// Worked examples of labels, relations and dependencies, computed from the definitions.
+pub fn later_tables_meet_the_examples()
+    ensures labels { Labels }
+    ensures relations { Relations }
 {}
 
 /// The fault that a table has by its definition is that of the first row which has one, or of the table's end.
