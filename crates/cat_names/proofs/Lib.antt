@@ -1,0 +1,5 @@
+pub mod Steps
+pub mod Mapped
+pub mod Places
+pub mod Items
+pub mod FirstFaults

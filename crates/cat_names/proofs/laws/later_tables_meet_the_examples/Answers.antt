@@ -1,0 +1,27 @@
+use Rattle.std.proofs.Common.{refl}
+use Rattle.cat_names.specs.Findings.{first_from}
+use Rattle.cat_names.specs.Lookups.{role_name}
+use Rattle.cat_names.specs.Rights.{has_bad_item}
+use Rattle.cat_names.proofs.laws.later_tables_meet_the_examples.Goals as goal
+
+pub returns : goal.returns
+unfolding first_from role_name has_bad_item
+returns c = record {
+  labels = record { two = refl; falling = refl; second_gone = refl; place_twice = refl; no_place = refl; label_twice = refl; of_domain = refl; of_schema = refl };
+  relations = record {
+    tables = refl;
+    name_twice = refl;
+    sequence = refl;
+    no_sequence_row = refl;
+    no_rewrite_row = refl;
+    no_index_row = refl;
+    materialized = refl;
+    unlogged = refl;
+    create_on_table = refl;
+    read_by_all = refl;
+    identity = refl;
+    serial = refl;
+    inheritance = refl;
+    column = refl;
+  };
+}

@@ -1,0 +1,15 @@
+pub mod Findings
+pub mod Firsts
+pub mod Lookups
+pub mod Rights
+pub mod Roles
+pub mod Schemas
+pub mod Cluster
+pub mod Enums
+pub mod Relations
+pub mod Gives
+pub mod Indexed
+pub mod Grants
+pub mod Naming
+pub mod Examples
+pub mod DataSets

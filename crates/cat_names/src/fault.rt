@@ -1,0 +1,114 @@
+//! What is wrong with a catalogue, and where.
+ghost use Rattle.std.specs.Prelude.{◌≡◌};
+ghost use Rattle.cat_names.specs.declared.fault.LineError.TheVariants as line_errors;
+ghost use Rattle.cat_names.specs.declared.fault.CheckError.TheVariants as check_errors;
+ghost use Rattle.cat_names.specs.Findings.{first_kind};
+
+use cat_model::What;
+use cat_rows::SysTable;
+use std::alloc::{AllocError, AllocFailed};
+use thiserror::Error;
+
+/// What is wrong with a row. At one line the kinds count in this order.
+#[derive(Debug, PartialEq, Eq, Drop)]
+pub enum FaultKind {
+    /// An earlier line has the same oid.
+    RepeatedOid,
+    /// An earlier line has the same name.
+    RepeatedName,
+    /// An oid leads to no row of the right kind, or a row that must be there isn't.
+    Dangling,
+    /// A text isn't what its place wants, or disagrees with the rows.
+    BadText,
+    /// Something that is left out.
+    OutOfProfile(What),
+}
+
+/// The first fault of a catalogue.
+#[derive(Debug, PartialEq, Eq, Drop)]
+pub struct CatFault {
+    /// The table.
+    pub table: SysTable,
+    /// The line, counted from 1; a row that must be there and isn't counts at the line after the last.
+    pub line: u64,
+    /// What is wrong.
+    pub kind: FaultKind,
+}
+
+/// The first fault of a table.
+#[derive(Debug, Drop)]
+pub(crate) struct LineFault {
+    pub(crate) line: u64,
+    pub(crate) kind: FaultKind,
+}
+
+/// What is wrong with a row, kind by kind.
+#[derive(Debug, Drop)]
+pub(crate) struct Findings {
+    pub(crate) repeated_oid: bool,
+    pub(crate) repeated_name: bool,
+    pub(crate) dangling: bool,
+    pub(crate) bad_text: bool,
+    pub(crate) left_out: Option<What>,
+}
+
+impl Findings {
+    /// The first of the faults.
+    pub(crate) fn first_kind(self) -> Option<FaultKind>
+        ensures { result ≡ first_kind self }
+    {
+        if self.repeated_oid {
+            Some(FaultKind::RepeatedOid)
+        } else if self.repeated_name {
+            Some(FaultKind::RepeatedName)
+        } else if self.dangling {
+            Some(FaultKind::Dangling)
+        } else if self.bad_text {
+            Some(FaultKind::BadText)
+        } else {
+            self.left_out.map(FaultKind::OutOfProfile)
+        }
+    }
+}
+
+/// Why a table isn't well-formed.
+#[derive(Debug, Drop)]
+pub(crate) enum LineError {
+    Fault(LineFault),
+    Memory,
+}
+
+/// Why a check ended.
+#[derive(Debug, Drop, Error)]
+pub enum CheckError {
+    /// The catalogue isn't well-formed.
+    #[error("not well-formed")]
+    Fault(CatFault),
+    /// Memory ran out.
+    #[error("out of memory")]
+    Memory,
+}
+
+impl From<AllocError> for LineError {
+    ghost from_gives = { λ _ e. e ≡ line_errors.Memory };
+
+    fn from(_e: AllocError) -> LineError {
+        LineError::Memory
+    }
+}
+
+impl<T: Drop> From<AllocFailed<T>> for LineError {
+    ghost from_gives = { λ _ e. e ≡ line_errors.Memory };
+
+    fn from(_e: AllocFailed<T>) -> LineError {
+        LineError::Memory
+    }
+}
+
+impl From<AllocError> for CheckError {
+    ghost from_gives = { λ _ e. e ≡ check_errors.Memory };
+
+    fn from(_e: AllocError) -> CheckError {
+        CheckError::Memory
+    }
+}

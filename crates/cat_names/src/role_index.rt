@@ -1,0 +1,75 @@
+//! Roles, found by oid and by name.
+ghost use Rattle.std.specs.Prelude.{◌≡◌, option_map};
+ghost use Rattle.cat_model.specs.Values.{bytes_cmp};
+ghost use Rattle.cat_names.specs.Indexed.{AreKeys};
+ghost use Rattle.cat_names.specs.Lookups.{is_role, is_role_name, name_at, role_name, role_oids, role_names};
+
+use crate::oid_index::OidIndex;
+use cat_rows::AuthidRow;
+use copy_text::Name;
+use std::collections::BTreeSet;
+use std::marker::Model;
+
+/// The roles of a catalogue, found without going through them. A contract sees the list of their rows.
+#[derive(Drop)]
+pub(crate) struct RoleIndex<'a> {
+    rows: &'a [AuthidRow],
+    oids: OidIndex,
+    names: BTreeSet<Name>,
+}
+
+impl<'a> Model for RoleIndex<'a> {
+    ghost use Rattle.std.specs.Prelude.{List};
+    ghost use Rattle.cat_rows.specs.declared.roles.AuthidRow.{AuthidRow};
+    ghost use Rattle.cat_names.specs.Indexed.{AreRoles};
+
+    ghost Value = { List AuthidRow };
+
+    ghost view = { λ r. r.rows.now };
+
+    ghost invariant = { λ r. AreRoles r.rows.now r.oids r.names };
+}
+
+impl<'a> RoleIndex<'a> {
+    /// These roles, with their oids and the set of their names.
+    pub(crate) fn new(rows: &'a [AuthidRow], oids: OidIndex, names: BTreeSet<Name>) -> RoleIndex<'a>
+        requires oids { oids ≡ role_oids rows.now }
+        requires names { AreKeys bytes_cmp names (role_names rows.now) }
+        ensures { result ≡ rows.now }
+    {
+        RoleIndex { rows, oids, names }
+    }
+
+    /// Whether there is a role of this oid.
+    pub(crate) fn has(&self, oid: u32) -> bool
+        ensures { result ≡ is_role self.now oid }
+    {
+        self.oids.find(oid).is_some()
+    }
+
+    /// Whether there is a role of this name.
+    pub(crate) fn has_name(&self, name: &Name) -> bool
+        ensures { result ≡ is_role_name self.now name.now }
+    {
+        self.names.contains(name)
+    }
+
+    /// The name of the role of this oid.
+    pub(crate) fn name_of(&self, oid: u32) -> Option<&Name>
+        ensures { option_map (λ n. n.now) result ≡ role_name self.now oid }
+    {
+        match self.oids.find(oid) {
+            Some(place) => name_at(self.rows, place),
+            None => None,
+        }
+    }
+}
+
+fn name_at(rows: &[AuthidRow], place: usize) -> Option<&Name>
+    ensures { option_map (λ n. n.now) result ≡ name_at rows.now place }
+{
+    match rows.get(place) {
+        Some(row) => Some(&row.rolname),
+        None => None,
+    }
+}
