@@ -1,5 +1,5 @@
 -- Worked examples: the export of an empty cluster, and what is wrong with it after one change.
-use Rattle.std.specs.Prelude.{◌≡◌, ℕ, pos, negsuc, Bool, true, false, List, [], ◌∷◌, ◌++◌, Option, Some, None, codes}
+use Rattle.std.specs.Prelude.{◌≡◌, ℕ, pos, negsuc, Bool, true, false, List, [], ◌∷◌, ◌++◌, map, Option, Some, None, codes}
 use Rattle.acl_text.specs.declared.list.AclItem.{AclItem}
 use Rattle.acl_text.specs.declared.rights.Privilege.TheVariants as privilege
 use Rattle.acl_text.specs.declared.rights.Privilege.{Privilege}
@@ -25,6 +25,14 @@ use Rattle.cat_names.specs.declared.fault.FaultKind.TheVariants as kind
 use Rattle.cat_names.specs.Cluster.{cluster_fault}
 use Rattle.cat_names.specs.Enums.{labels_fault}
 use Rattle.cat_names.specs.Relations.{relations_fault, depends_fault}
+use Rattle.std.specs.FinMap.{from_entries}
+use Rattle.cat_model.specs.declared.key.Key.TheVariants as key
+use Rattle.cat_model.specs.declared.object.Object.TheVariants as object
+use Rattle.cat_model.specs.Grants.{owner_only, schema_rights, type_rights, without_option}
+use Rattle.cat_model.specs.Values as value
+use Rattle.cat_model.specs.Values.{PUBLIC, ROLE}
+use Rattle.cat_names.specs.declared.rights.GrantKind.TheVariants as on
+use Rattle.cat_names.specs.Grants.{grants_of}
 use Rattle.cat_names.specs.Naming.{cluster_entries, boot}
 
 abbrev pub role : ℕ → Bytes → AuthidRow
@@ -102,9 +110,22 @@ pub record Faults : Type 0 where
   pub none_current : cluster_fault (with_databases (database 5 (codes "d") 10 (codes "UTF8") false ∷ [])) ≡ fault PgDatabase 2 kind.Dangling
   pub two_current : cluster_fault (with_databases (main ∷ database 6 (codes "d") 10 (codes "UTF8") true ∷ [])) ≡ fault PgDatabase 2 kind.RepeatedName
 
--- schemas of other oids are the same by names; one schema more isn't
+-- the item of an owner with these rights
+abbrev pub owner_item : List Privilege → AclItem
+owner_item privileges = record { grantee = Some (codes "postgres"); rights = map (λ p. record { privilege = p; grant_option = false }) privileges; grantor = codes "postgres" }
+
+-- Schemas, roles and databases of other oids are the same by names, and so is another current database. One schema more
+-- has three keys more. No rights at all aren't the default, which the owner's rights spelled out are.
 pub record Names : Type 0 where
   pub other_oids : cluster_entries (with_schemas (schema 16384 (codes "a") 10 None ∷ [])) ≡ cluster_entries (with_schemas (schema 20000 (codes "a") 10 None ∷ []))
+  pub other_role_oids : cluster_entries (catalogue (postgres ∷ bob ∷ []) (member 1 10 16400 10 ∷ []) (main ∷ []) []) ≡ cluster_entries (catalogue (postgres ∷ record bob { oid = 17 } ∷ []) (member 2 10 17 10 ∷ []) (main ∷ []) [])
+  pub other_current : cluster_entries (with_databases (main ∷ [])) ≡ cluster_entries (with_databases (record main { datcurrent = false } ∷ []))
+  pub one_more : cluster_entries (with_schemas (public ∷ schema 16384 (codes "a") 10 None ∷ [])) ≡ cluster_entries (with_schemas (public ∷ [])) ++ (key.Schema (codes "a"), value.schema) ∷ (key.Owner (object.Schema (codes "a")), value.owner (codes "postgres")) ∷ (key.Acl (object.Schema (codes "a")), value.grants (owner_only schema_rights)) ∷ []
+  pub spelled_out : grants_of on.Schema (codes "postgres") (Some (owner_item (privilege.Usage ∷ privilege.Create ∷ []) ∷ [])) ≡ grants_of on.Schema (codes "postgres") None
+  pub repeated_letter : grants_of on.Schema (codes "postgres") (Some (owner_item (privilege.Usage ∷ privilege.Create ∷ privilege.Usage ∷ []) ∷ [])) ≡ grants_of on.Schema (codes "postgres") None
+  pub no_items : grants_of on.Schema (codes "postgres") (Some []) ≡ from_entries []
+  pub without_rights : grants_of on.Schema (codes "postgres") (Some (owner_item [] ∷ [])) ≡ from_entries []
+  pub of_others : grants_of on.Schema (codes "postgres") (Some (grant (Some (codes "bob")) privilege.Usage (codes "postgres") ∷ grant None privilege.Usage (codes "postgres") ∷ [])) ≡ from_entries ((ROLE (codes "bob"), without_option type_rights) ∷ (PUBLIC, without_option type_rights) ∷ [])
   pub boot_role : boot (with_schemas []) ≡ Some (codes "postgres")
 
 -- ---- labels of enums

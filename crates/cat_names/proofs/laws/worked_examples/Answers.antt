@@ -34,5 +34,16 @@ returns c = record {
     none_current = refl;
     two_current = refl;
   };
-  names = record { other_oids = refl; boot_role = refl };
+  names = record {
+    other_oids = refl;
+    other_role_oids = refl;
+    other_current = refl;
+    one_more = refl;
+    spelled_out = refl;
+    repeated_letter = refl;
+    no_items = refl;
+    without_rights = refl;
+    of_others = refl;
+    boot_role = refl;
+  };
 }
