@@ -1,4 +1,7 @@
 //! The words of the command line as the system gives them.
+ghost use Rattle.std.specs.Prelude.{◌≡◌};
+ghost use Rattle.pgtools.specs.declared.arguments.ArgumentFault.TheVariants as faults;
+
 use copy_text::Text;
 use std::alloc::{AllocError, Global};
 use std::env::{Env, FillError};
@@ -16,6 +19,8 @@ pub enum ArgumentFault {
 }
 
 impl From<AllocError> for ArgumentFault {
+    ghost from_gives = { λ _ fault. fault ≡ faults.Memory };
+
     fn from(_error: AllocError) -> ArgumentFault {
         ArgumentFault::Memory
     }

@@ -1,5 +1,5 @@
 //! The schemas of a folder, found by oid and by name.
-ghost use Rattle.std.specs.Prelude.{◌≡◌, ◌≢◌, ℕ, ◌+◌, ◌<◌, ◌≤◌, ◌↔◌, List, [], ◌∷◌, ◌++◌, ◌⊎◌, Bool, true, false, Option, Some, Result, Ok, Err, IsTrue, IfSome, OnOk, OnErr, IfOk, IfErr, codes, not, ◌||◌};
+ghost use Rattle.std.specs.Prelude.{◌≡◌, ◌≢◌, ℕ, ◌+◌, ◌<◌, ◌≤◌, ◌↔◌, List, [], ◌∷◌, ◌++◌, ◌⊎◌, Bool, true, false, Option, Some, None, Result, Ok, Err, IsTrue, IfSome, OnOk, OnErr, IfOk, IfErr, codes, not, ◌||◌};
 ghost use Rattle.std.specs.Ordering.{nat_cmp, eq_by_cmp};
 ghost use Rattle.std.specs.BTreeSet.{contains};
 ghost use Rattle.std.specs.List.{IsDistinct};
@@ -223,15 +223,21 @@ fn index(
     Ok(())
 }
 
-/// The least oid from a place on that isn't among these.
+/// The least oid from a place on that isn't among these; `None` comes only where the greatest oid is taken.
 fn fresh_oid(oids: &BTreeSet<u32>, from: u32) -> Option<u32>
-    ensures { IfSome result (λ oid. contains nat_cmp oids.now oid ≡ false) }
+    ensures fresh { IfSome result (λ oid. contains nat_cmp oids.now oid ≡ false) }
+    ensures full { result ≡ None → contains nat_cmp oids.now 4294967295 ≡ true }
 {
-    let mut oid = from;
-    while oids.contains(&oid) {
-        oid = oid.checked_add(1)?;
+    for oid in from..u32::MAX {
+        if !oids.contains(&oid) {
+            return Some(oid);
+        }
     }
-    Some(oid)
+    if oids.contains(&u32::MAX) {
+        None
+    } else {
+        Some(u32::MAX)
+    }
 }
 
 /// Whether this is the name of the boot role.
