@@ -1,2 +1,10 @@
+pub mod Paths
+pub mod Sequences
+pub mod Views
+pub mod Keys
+pub mod RowsText
+pub mod RightsText
+pub mod Roles
+pub mod Pieces
 pub mod Spelling
 pub mod Outcome

@@ -7,14 +7,13 @@ use Rattle.cat_model.specs.declared.grant.Owned.{Owned}
 use Rattle.cat_model.specs.declared.grant.Owned.TheVariants as owned
 use Rattle.cat_model.specs.declared.stmt.Stmt.{Stmt}
 use Rattle.cat_model.specs.declared.stmt.Stmt.TheVariants as stmt
-
--- a semicolon and a newline
-abbrev pub ending : List ℕ
-ending = 59 ∷ 10 ∷ []
-
--- schema, dot, name
-unfoldable pub path : QName → List ℕ
-path q = written_name q.schema ++ (46 ∷ written_name q.name)
+pub use Rattle.ddl_write.specs.Paths.{path, ending}
+use Rattle.ddl_write.specs.Sequences.{sequence_text, owned_by_text, value_text}
+use Rattle.ddl_write.specs.Views.{view_text, default_text}
+use Rattle.ddl_write.specs.Keys.{key_text, foreign_text, added_check_text, index_text}
+use Rattle.ddl_write.specs.RowsText.{copy_text}
+use Rattle.ddl_write.specs.RightsText.{grant_text, revoke_text, comment_text}
+use Rattle.ddl_write.specs.Roles.{role_text, changes_text, member_text, database_text, connect_text}
 
 -- a kind of object and its name
 unfoldable pub owned_object : Owned → List ℕ
@@ -53,4 +52,25 @@ spelling (stmt.Set name value) = Some (set_text name value)
 spelling (stmt.SetConfig name value) = Some (setting_text name value)
 spelling (stmt.OwnerTo object role) = Some (owner_text object role)
 spelling (stmt.AddDomainCheck q name text) = Some (domain_check_text q name text)
+spelling (stmt.CreateSequence q kind start step min max cache cycle) = Some (sequence_text q kind start step min max cache cycle)
+spelling (stmt.OwnedBy q table column) = Some (owned_by_text q table column)
+spelling (stmt.SetVal q n called) = Some (value_text q n called)
+spelling (stmt.CreateView q body) = Some (view_text (codes "CREATE VIEW ") q body)
+spelling (stmt.ReplaceView q body) = Some (view_text (codes "CREATE OR REPLACE VIEW ") q body)
+spelling (stmt.SetDefault q column text) = Some (default_text q column text)
+spelling (stmt.AddPrimary q name columns rest) = Some (key_text (codes " PRIMARY KEY ") q name columns rest)
+spelling (stmt.AddUnique q name columns rest) = Some (key_text (codes " UNIQUE ") q name columns rest)
+spelling (stmt.AddForeign q name columns parent parent_columns rest) = Some (foreign_text q name columns parent parent_columns rest)
+spelling (stmt.AddCheck q name text) = Some (added_check_text q name text)
+spelling (stmt.CreateIndex q name method rest) = Some (index_text (codes "CREATE INDEX ") q name method rest)
+spelling (stmt.CreateUniqueIndex q name method rest) = Some (index_text (codes "CREATE UNIQUE INDEX ") q name method rest)
+spelling (stmt.CopyRows q columns rows) = Some (copy_text q columns rows)
+spelling (stmt.Grant object rights who option) = Some (grant_text object rights who option)
+spelling (stmt.Revoke object rights who) = Some (revoke_text object rights who)
+spelling (stmt.Comment object text) = Some (comment_text object text)
+spelling (stmt.CreateRole name) = Some (role_text name)
+spelling (stmt.AlterRole name changes) = Some (changes_text name changes)
+spelling (stmt.GrantRole role member grantor admin inherit may_set) = Some (member_text role member grantor admin inherit may_set)
+spelling (stmt.CreateDatabase name encoding) = Some (database_text name encoding)
+spelling (stmt.Connect name) = Some (connect_text name)
 spelling _ = None

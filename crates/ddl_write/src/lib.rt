@@ -2,6 +2,13 @@
 #![tactic(auto)]
 
 mod fault;
+mod keys;
+mod rights;
+mod roles;
+mod rows;
+mod sequences;
+mod views;
+mod words;
 mod writing;
 
 pub use fault::WriteStmtError;

@@ -1,13 +1,20 @@
 //! Statements as texts.
 ghost use Rattle.std.specs.Prelude.{◌≡◌, ◌++◌, take, vec_len, OnOk, OnErr, Some};
 ghost use Rattle.ddl_write.specs.Spelling.{path, owned_object, schema_text, set_text, setting_text, owner_text, check_text, domain_check_text, spelling};
-ghost use Rattle.sql_lex.specs.Written.{written_name, written_literal};
+ghost use Rattle.sql_lex.specs.Written.{written_name};
 ghost use Rattle.ddl_write.specs.Outcome.{Writes, Extends};
 
 use crate::fault::WriteStmtError;
-use cat_model::{Owned, QName, Stmt};
+use crate::keys::{put_check, put_foreign, put_index, put_key};
+use crate::rights::{put_comment, put_grant, put_revoke};
+use crate::roles::{put_changes, put_connect, put_database, put_member, put_role};
+use crate::rows::put_copy;
+use crate::sequences::{put_owned_by, put_sequence, put_value};
+use crate::views::{put_default, put_view};
+use crate::words::{put_literal, put_named, put_path};
+use cat_model::{Owned, Stmt};
 use copy_text::{Name, Text};
-use sql_lex::{write_literal, write_name};
+use sql_lex::write_name;
 use std::alloc::AllocError;
 
 /// Appends the one written spelling of a statement, with its semicolon and a newline.
@@ -34,28 +41,97 @@ fn put_stmt(stmt: &Stmt, out: &mut Vec<u8>) -> Result<(), WriteStmtError>
     ensures kept { Extends out.old.items out.new.items }
 {
     match stmt {
-        Stmt::CreateSchema { name } => {
-            put_schema(name, out)?;
-            Ok(())
+        Stmt::CreateSchema { name } => put_schema(name, out)?,
+        Stmt::SetConfig { name, value } => put_setting(name, value, out)?,
+        Stmt::CreateSequence {
+            q,
+            kind,
+            start,
+            step,
+            min,
+            max,
+            cache,
+            cycle,
+        } => put_sequence(q, *kind, start, step, min, max, cache, *cycle, out)?,
+        Stmt::OwnedBy { q, table, column } => put_owned_by(q, table, column, out)?,
+        Stmt::SetVal { q, value, called } => put_value(q, value, *called, out)?,
+        Stmt::CreateView { q, body } => put_view(b"CREATE VIEW ", q, body, out)?,
+        Stmt::ReplaceView { q, body } => put_view(b"CREATE OR REPLACE VIEW ", q, body, out)?,
+        Stmt::SetDefault { q, column, text } => put_default(q, column, text, out)?,
+        Stmt::AddPrimary {
+            q,
+            name,
+            columns,
+            rest,
+        } => put_key(b" PRIMARY KEY ", q, name, columns.as_slice(), rest, out)?,
+        Stmt::AddUnique {
+            q,
+            name,
+            columns,
+            rest,
+        } => put_key(b" UNIQUE ", q, name, columns.as_slice(), rest, out)?,
+        Stmt::AddForeign {
+            q,
+            name,
+            columns,
+            parent,
+            parent_columns,
+            rest,
+        } => put_foreign(
+            q,
+            name,
+            columns.as_slice(),
+            parent,
+            parent_columns.as_slice(),
+            rest,
+            out,
+        )?,
+        Stmt::AddCheck { q, name, text } => put_check(q, name, text, out)?,
+        Stmt::CreateIndex {
+            q,
+            name,
+            method,
+            rest,
+        } => put_index(b"CREATE INDEX ", q, name, method, rest, out)?,
+        Stmt::CreateUniqueIndex {
+            q,
+            name,
+            method,
+            rest,
+        } => put_index(b"CREATE UNIQUE INDEX ", q, name, method, rest, out)?,
+        Stmt::CopyRows { q, columns, rows } => {
+            put_copy(q, columns.as_slice(), rows.as_slice(), out)?
         }
-        Stmt::Set { name, value } => {
-            put_set(name, value, out)?;
-            Ok(())
-        }
-        Stmt::SetConfig { name, value } => {
-            put_setting(name, value, out)?;
-            Ok(())
-        }
-        Stmt::AddDomainCheck { q, name, text } => {
-            put_domain_check(q, name, text, out)?;
-            Ok(())
-        }
-        Stmt::OwnerTo { object, role } => {
-            put_owner(object, role, out)?;
-            Ok(())
-        }
-        _ => Err(WriteStmtError::Unbuilt),
+        Stmt::Set { name, value } => put_set(name, value, out)?,
+        Stmt::AddDomainCheck { q, name, text } => put_domain_check(q, name, text, out)?,
+        Stmt::Grant {
+            object,
+            rights,
+            grantee,
+            option,
+        } => put_grant(object, *rights, grantee, *option, out)?,
+        Stmt::Revoke {
+            object,
+            rights,
+            grantee,
+        } => put_revoke(object, *rights, grantee, out)?,
+        Stmt::Comment { object, text } => put_comment(object, text, out)?,
+        Stmt::OwnerTo { object, role } => put_owner(object, role, out)?,
+        Stmt::CreateRole { name } => put_role(name, out)?,
+        Stmt::AlterRole { name, changes } => put_changes(name, changes, out)?,
+        Stmt::GrantRole {
+            role,
+            member,
+            grantor,
+            admin,
+            inherit,
+            set,
+        } => put_member(role, member, grantor, *admin, *inherit, *set, out)?,
+        Stmt::CreateDatabase { name, encoding } => put_database(name, *encoding, out)?,
+        Stmt::Connect { name } => put_connect(name, out)?,
+        _ => return Err(WriteStmtError::Unbuilt),
     }
+    Ok(())
 }
 
 #[tactic(auto, unfolding(crate::specs::Spelling::schema_text))]
@@ -91,15 +167,6 @@ fn put_setting(name: &Text, value: &Text, out: &mut Vec<u8>) -> Result<(), Alloc
     Ok(())
 }
 
-/// Words and a literal.
-fn put_literal(words: &[u8], text: &Text, out: &mut Vec<u8>) -> Result<(), AllocError>
-    ensures ok { OnOk result (out.new.items ≡ out.old.items ++ (words.now ++ written_literal text.now)) }
-    ensures kept { Extends out.old.items out.new.items }
-{
-    out.extend_from_slice(words)?;
-    write_literal(text.as_bytes(), out)
-}
-
 #[tactic(auto, unfolding(crate::specs::Spelling::owner_text))]
 fn put_owner(object: &Owned, role: &Name, out: &mut Vec<u8>) -> Result<(), AllocError>
     ensures ok { OnOk result (out.new.items ≡ out.old.items ++ owner_text object.now role.now) }
@@ -128,30 +195,9 @@ fn put_owned(object: &Owned, out: &mut Vec<u8>) -> Result<(), AllocError>
     }
 }
 
-/// Words and a name.
-fn put_named(words: &[u8], name: &Name, out: &mut Vec<u8>) -> Result<(), AllocError>
-    ensures ok { OnOk result (out.new.items ≡ out.old.items ++ (words.now ++ written_name name.now)) }
-    ensures kept { Extends out.old.items out.new.items }
-{
-    out.extend_from_slice(words)?;
-    write_name(name.as_bytes(), out)
-}
-
-/// Words and a qualified name.
-#[tactic(auto, unfolding(crate::specs::Spelling::path))]
-fn put_path(words: &[u8], q: &QName, out: &mut Vec<u8>) -> Result<(), AllocError>
-    ensures ok { OnOk result (out.new.items ≡ out.old.items ++ (words.now ++ path q.now)) }
-    ensures kept { Extends out.old.items out.new.items }
-{
-    out.extend_from_slice(words)?;
-    write_name(q.schema.as_bytes(), out)?;
-    out.push(b'.')?;
-    write_name(q.name.as_bytes(), out)
-}
-
 /// A name for a check, and its expression in brackets.
 #[tactic(auto, unfolding(crate::specs::Spelling::check_text))]
-fn put_check(name: &Name, text: &Text, out: &mut Vec<u8>) -> Result<(), AllocError>
+fn put_named_check(name: &Name, text: &Text, out: &mut Vec<u8>) -> Result<(), AllocError>
     ensures ok { OnOk result (out.new.items ≡ out.old.items ++ check_text name.now text.now) }
     ensures kept { Extends out.old.items out.new.items }
 {
@@ -175,7 +221,7 @@ fn put_domain_check(
 {
     put_path(b"ALTER DOMAIN ", q, out)?;
     out.extend_from_slice(b"\n    ADD ")?;
-    put_check(name, text, out)?;
+    put_named_check(name, text, out)?;
     out.extend_from_slice(b";\n")?;
     Ok(())
 }

@@ -1,6 +1,6 @@
 use Rattle.std.proofs.Common.{◌++◌, append_assoc}
 use Rattle.ddl_write.specs.Spelling.{check_text}
-use Rattle.ddl_write.proofs.writing.put_check.Goals as goal
+use Rattle.ddl_write.proofs.writing.put_named_check.Goals as goal
 
 pub returns-clause-ok : goal.returns-clause-ok
 unfolding check_text
