@@ -12,7 +12,7 @@ use crate::rows::put_copy;
 use crate::sequences::{put_owned_by, put_sequence, put_value};
 use crate::views::{put_default, put_view};
 use crate::words::{put_literal, put_named, put_path};
-use cat_model::{Owned, Stmt};
+use cat_model::{Owned, QName, Stmt};
 use copy_text::{Name, Text};
 use sql_lex::write_name;
 use std::alloc::AllocError;
