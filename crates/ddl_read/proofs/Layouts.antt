@@ -20,7 +20,8 @@ use Rattle.cat_model.specs.declared.stmt.Stmt.TheVariants as stmt
 use Rattle.ddl_parts.specs.Lexemes.{Lexeme, is_word, is_sign, is_sign_kind, spelled}
 use Rattle.ddl_parts.specs.Parts.{Part, Branch, branch, one, one_of, mark, seen, choose, passes, ◌then◌, ◌▸◌, ◌◂◌}
 use Rattle.ddl_parts.specs.Leaves.{name, name_value, literal, literal_value, qualified}
-use Rattle.ddl_write.specs.Spelling.{path, owned_object, schema_text, set_text, setting_text, owner_text, check_text, domain_check_text, spelling}
+use Rattle.ddl_write.specs.Paths.{path}
+use Rattle.ddl_write.specs.Spelling.{owned_object, schema_text, set_text, setting_text, owner_text, check_text, domain_check_text, spelling}
 use Rattle.ddl_read.specs.Grammar.{semicolon, create_schema, created, new_owner, new_check, its_owner, one_more_check, domain_change, altered_domain, name_and_owner, path_and_owner, owned_name, owned_path, altered, selected, equals_or_to, setting, command, statement}
 use Rattle.ddl_read.specs.Respelling.{IsPath, IsOwnedName, IsExpressionText}
 use Rattle.ddl_read.proofs.Closed.{only_last}
