@@ -8,3 +8,4 @@ pub mod Roles
 pub mod Pieces
 pub mod Spelling
 pub mod Outcome
+pub mod Examples

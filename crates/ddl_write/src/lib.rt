@@ -3,6 +3,7 @@
 
 mod fault;
 mod keys;
+pub mod laws;
 mod rights;
 mod roles;
 mod rows;
