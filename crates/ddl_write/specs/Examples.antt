@@ -16,8 +16,15 @@ public name = record { schema = codes "public"; name = name }
 
 abbrev pub no_rights : Rights
 no_rights = record {
-  select = false; usage = false; insert = false; references = false; delete = false; trigger = false; truncate = false;
-  update = false; create = false;
+  select = false;
+  usage = false;
+  insert = false;
+  references = false;
+  delete = false;
+  trigger = false;
+  truncate = false;
+  update = false;
+  create = false;
 }
 
 -- the statement is written so
@@ -26,9 +33,9 @@ IsWritten s text = spelling s ≡ Some text
 
 pub record WorkedExamples : Type 0 where
   pub rising : IsWritten (stmt.CreateSequence (public (codes "s")) sequences.Integer (pos 1) (pos 1) (pos 1) (pos 2147483647) (pos 1) false)
-    (codes "CREATE SEQUENCE public.s\n    AS integer\n    START WITH 1\n    INCREMENT BY 1\n    NO MINVALUE\n    NO MAXVALUE\n    CACHE 1;\n")
+      (codes "CREATE SEQUENCE public.s\n    AS integer\n    START WITH 1\n    INCREMENT BY 1\n    NO MINVALUE\n    NO MAXVALUE\n    CACHE 1;\n")
   pub falling : IsWritten (stmt.CreateSequence (public (codes "s")) sequences.SmallInt (negsuc 0) (negsuc 0) (negsuc 99) (negsuc 0) (pos 20) true)
-    (codes "CREATE SEQUENCE public.s\n    AS smallint\n    START WITH -1\n    INCREMENT BY -1\n    MINVALUE -100\n    NO MAXVALUE\n    CACHE 20\n    CYCLE;\n")
+      (codes "CREATE SEQUENCE public.s\n    AS smallint\n    START WITH -1\n    INCREMENT BY -1\n    MINVALUE -100\n    NO MAXVALUE\n    CACHE 20\n    CYCLE;\n")
   pub owned_by : IsWritten (stmt.OwnedBy (public (codes "s")) (public (codes "t")) (codes "id")) (codes "ALTER SEQUENCE public.s OWNED BY public.t.id;\n")
   pub value : IsWritten (stmt.SetVal (public (codes "s")) (pos 7) true) (codes "SELECT pg_catalog.setval('public.s', 7, true);\n")
   pub view : IsWritten (stmt.CreateView (public (codes "v")) (codes "SELECT 1")) (codes "CREATE VIEW public.v AS\n SELECT 1;\n")
@@ -48,7 +55,7 @@ pub record WorkedExamples : Type 0 where
   pub no_comment : IsWritten (stmt.Comment (commented.Constraint (public (codes "t")) (codes "c")) None) (codes "COMMENT ON CONSTRAINT c ON public.t IS NULL;\n")
   pub role : IsWritten (stmt.CreateRole (codes "joe")) (codes "CREATE ROLE joe;\n")
   pub changes : IsWritten (stmt.AlterRole (codes "joe") (record { superuser = Some false; inherit = Some true; create_role = None; create_db = None; login = Some true; replication = None; bypass_rls = None; limit = Some (pos 5); password = None; valid_until = Some (codes "infinity") }))
-    (codes "ALTER ROLE joe WITH NOSUPERUSER INHERIT LOGIN CONNECTION LIMIT 5 VALID UNTIL 'infinity';\n")
+      (codes "ALTER ROLE joe WITH NOSUPERUSER INHERIT LOGIN CONNECTION LIMIT 5 VALID UNTIL 'infinity';\n")
   pub member : IsWritten (stmt.GrantRole (codes "a") (codes "b") (Some (codes "c")) false (Some true) true) (codes "GRANT a TO b WITH ADMIN FALSE, INHERIT TRUE, SET TRUE GRANTED BY c;\n")
   pub plain_member : IsWritten (stmt.GrantRole (codes "a") (codes "b") None true None false) (codes "GRANT a TO b WITH ADMIN TRUE, SET FALSE;\n")
   pub database : IsWritten (stmt.CreateDatabase (codes "d") (Some encodings.Utf8)) (codes "CREATE DATABASE d WITH TEMPLATE = template0 ENCODING = 'UTF8';\n")
