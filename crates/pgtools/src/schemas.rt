@@ -134,6 +134,7 @@ impl Schemas {
     pub fn apply(&mut self, statement: &Statement) -> Result<(), ApplyFault>
         ensures ok { OnOk result (said boot statement.now (named self.old) ≡ Ok (named self.new)) }
         ensures grown { OnOk result ((self.new ≡ self.old) ⊎ ((row : SchemaRow) × (has_oid row.oid self.old ≡ false) × (self.new ≡ self.old ++ row ∷ []))) }
+        ensures user { OnOk result ((self.new ≡ self.old) ⊎ ((row : SchemaRow) × (16384 ≤ row.oid) × (self.new ≡ self.old ++ row ∷ []))) }
         ensures refused { IfErr result (λ fault. (why : SchemaCause) → fault ≡ ApplyFault.Refused why
             → said boot statement.now (named self.old) ≡ Err (cause_of why)) }
         ensures err { OnErr result (self.new ≡ self.old) }
@@ -165,6 +166,7 @@ impl Schemas {
     fn create(&mut self, name: &Name) -> Result<(), ApplyFault>
         ensures ok { OnOk result (run (effect boot (stmt.CreateSchema name.now)) (named self.old) ≡ Ok (named self.new)) }
         ensures drawn { OnOk result ((oid : ℕ) × (has_oid oid self.old ≡ false) × (self.new ≡ self.old ++ record { oid = oid; name = name.now } ∷ [])) }
+        ensures user { OnOk result ((oid : ℕ) × (16384 ≤ oid) × (self.new ≡ self.old ++ record { oid = oid; name = name.now } ∷ [])) }
         ensures refused { IfErr result (λ fault. (why : SchemaCause) → fault ≡ ApplyFault.Refused why
             → run (effect boot (stmt.CreateSchema name.now)) (named self.old) ≡ Err (cause_of why)) }
         ensures err { OnErr result (self.new ≡ self.old) }
@@ -172,7 +174,8 @@ impl Schemas {
         if self.refuses(name) {
             return Err(ApplyFault::Refused(SchemaCause::Exists(name.clone()?)));
         }
-        let Some(oid) = fresh_oid(&self.oids, self.next) else {
+        let from = self.next.max(FIRST_OID);
+        let Some(oid) = fresh_oid(&self.oids, from) else {
             return Err(ApplyFault::Memory);
         };
         let name = name.clone()?;
@@ -226,6 +229,7 @@ fn index(
 /// The least oid from a place on that isn't among these; `None` comes only where the greatest oid is taken.
 fn fresh_oid(oids: &BTreeSet<u32>, from: u32) -> Option<u32>
     ensures fresh { IfSome result (λ oid. contains nat_cmp oids.now oid ≡ false) }
+    ensures place { IfSome result (λ oid. from ≤ oid) }
     ensures full { result ≡ None → contains nat_cmp oids.now 4294967295 ≡ true }
 {
     for oid in from..u32::MAX {
