@@ -10,11 +10,16 @@ use Rattle.cat_model.specs.declared.grant.Owned.TheVariants as owned
 use Rattle.cat_model.specs.declared.stmt.Stmt.{Stmt}
 use Rattle.ddl_parts.specs.declared.pieces.Piece.{Piece}
 use Rattle.ddl_parts.specs.Lexemes.{Lexeme, is_word, is_sign, is_sign_kind}
-use Rattle.ddl_parts.specs.Parts.{Part, Branch, branch, one_of, mark, seen, choose, ◌then◌, ◌▸◌, ◌◂◌}
+use Rattle.ddl_parts.specs.Parts.{Part, Branch, branch, one_of, mark, seen, choose, many, ◌then◌, ◌▸◌, ◌◂◌}
 use Rattle.ddl_parts.specs.Pieces.{lexeme_of, lexemes}
 use Rattle.ddl_parts.specs.Collecting.{Collected, collected, collected_within, collected_by, nothing_more, preceded}
-use Rattle.ddl_parts.specs.Leaves.{name, literal, qualified}
+use Rattle.cat_model.specs.declared.table.ColumnDef.{ColumnDef}
+use Rattle.cat_model.specs.declared.table.CheckDef.{CheckDef}
+use Rattle.ddl_parts.specs.Leaves.{name, literal, is_literal, qualified}
+use Rattle.ddl_parts.specs.Lists.{listed}
 use Rattle.ddl_parts.specs.Expressions.{expression}
+use Rattle.ddl_read.specs.Clauses.{named_check}
+use Rattle.ddl_read.specs.TableGrammar.{create_enum, enum_of, checking, typed, domain_of, create_domain, table_elements, table_of, create_table}
 use Rattle.ddl_read.specs.Grammar.{semicolon, create_schema, created, new_owner, new_check, DomainChange, its_owner, one_more_check, domain_changed, domain_change, altered_domain, name_and_owner, path_and_owner, owned_name, owned_path, altered, selected, equals_or_to, setting, command, statement}
 
 -- ---- the last token
@@ -79,9 +84,44 @@ create_schema_closes : Closes semicolon create_schema
 unfolding create_schema
 create_schema_closes v ts spells = end_closes semicolon name spells.0 ts spells.2
 
+abbrev labels_closed : Part (List (List ℕ))
+labels_closed = listed is_literal literal ◂ is_sign 41 ◂ semicolon
+
+create_enum_closes : Closes semicolon create_enum
+unfolding create_enum
+create_enum_closes =
+    seen_closes semicolon enum_of (qualified then (is_word (codes "as") ▸ (is_word (codes "enum") ▸ (is_sign 40 ▸ labels_closed))))
+    (then_closes semicolon qualified (is_word (codes "as") ▸ (is_word (codes "enum") ▸ (is_sign 40 ▸ labels_closed)))
+    (lead_closes semicolon (is_word (codes "as")) (is_word (codes "enum") ▸ (is_sign 40 ▸ labels_closed))
+    (lead_closes semicolon (is_word (codes "enum")) (is_sign 40 ▸ labels_closed)
+    (lead_closes semicolon (is_sign 40) labels_closed (end_closes semicolon (listed is_literal literal ◂ is_sign 41))))))
+
+abbrev checks_closed : Part (List CheckDef)
+checks_closed = many (is_word (codes "constraint")) checking ◂ semicolon
+
+create_domain_closes : Closes semicolon create_domain
+unfolding create_domain
+create_domain_closes =
+    seen_closes semicolon domain_of (qualified then (is_word (codes "as") ▸ (typed then checks_closed)))
+    (then_closes semicolon qualified (is_word (codes "as") ▸ (typed then checks_closed))
+    (lead_closes semicolon (is_word (codes "as")) (typed then checks_closed)
+    (then_closes semicolon typed checks_closed (end_closes semicolon (many (is_word (codes "constraint")) checking)))))
+
+abbrev table_closed : Part (List ColumnDef × List CheckDef)
+table_closed = table_elements ◂ is_sign 41 ◂ semicolon
+
+create_table_closes : Closes semicolon create_table
+unfolding create_table
+create_table_closes =
+    seen_closes semicolon table_of (qualified then (is_sign 40 ▸ table_closed))
+    (then_closes semicolon qualified (is_sign 40 ▸ table_closed) (lead_closes semicolon (is_sign 40) table_closed (end_closes semicolon (table_elements ◂ is_sign 41))))
+
 created_closes : Closes semicolon created
 unfolding created
-created_closes = one_of_closes semicolon (record { key = codes "schema"; part = create_schema }) [] create_schema_closes
+created_closes =
+    one_of_closes semicolon (record { key = codes "schema"; part = create_schema })
+    (record { key = codes "type"; part = create_enum } ∷ record { key = codes "domain"; part = create_domain } ∷ record { key = codes "table"; part = create_table } ∷ [])
+    (create_schema_closes, (create_enum_closes, (create_domain_closes, create_table_closes)))
 
 new_owner_closes : Closes semicolon new_owner
 unfolding new_owner
@@ -97,23 +137,15 @@ path_and_owner_closes : Closes semicolon path_and_owner
 unfolding path_and_owner
 path_and_owner_closes = then_closes semicolon qualified new_owner new_owner_closes
 
-abbrev check_part : Part (List ℕ)
-check_part = is_word (codes "check") ▸ (is_sign 40 ▸ (expression ◂ is_sign 41 ◂ semicolon))
-
 new_check_closes : Closes semicolon new_check
 unfolding new_check
-new_check_closes =
-    lead_closes semicolon (is_word (codes "add")) (is_word (codes "constraint") ▸ (name then check_part))
-    (lead_closes semicolon (is_word (codes "constraint")) (name then check_part)
-    (then_closes semicolon name check_part
-    (lead_closes semicolon (is_word (codes "check")) (is_sign 40 ▸ (expression ◂ is_sign 41 ◂ semicolon))
-    (lead_closes semicolon (is_sign 40) (expression ◂ is_sign 41 ◂ semicolon) (end_closes semicolon (expression ◂ is_sign 41))))))
+new_check_closes = lead_closes semicolon (is_word (codes "add")) (named_check ◂ semicolon) (end_closes semicolon named_check)
 
 domain_change_closes : Closes semicolon domain_change
 unfolding domain_change
 domain_change_closes =
-    choose_closes semicolon (is_word (codes "owner")) (seen its_owner new_owner) (seen (λ x. one_more_check x.0 x.1) new_check)
-    (seen_closes semicolon its_owner new_owner new_owner_closes) (seen_closes semicolon (λ x. one_more_check x.0 x.1) new_check new_check_closes)
+    choose_closes semicolon (is_word (codes "owner")) (seen its_owner new_owner) (seen one_more_check new_check)
+    (seen_closes semicolon its_owner new_owner new_owner_closes) (seen_closes semicolon one_more_check new_check new_check_closes)
 
 altered_domain_closes : Closes semicolon altered_domain
 unfolding altered_domain

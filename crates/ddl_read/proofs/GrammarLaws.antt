@@ -17,6 +17,9 @@ use Rattle.ddl_parts.proofs.Leads.{a_sign, a_word, sign_is, word_is, name_laws, 
 use Rattle.ddl_parts.specs.Expressions.{expression}
 use Rattle.ddl_parts.proofs.RunLaws.{expression_laws, expression_ends, expression_ends_bracket}
 use Rattle.ddl_parts.proofs.Tables.{one_of_laws, one_of_avoids_others}
+use Rattle.ddl_read.specs.Clauses.{named_check}
+use Rattle.ddl_read.specs.TableGrammar.{create_enum, create_domain, create_table}
+use Rattle.ddl_read.proofs.TableLaws.{named_check_laws, named_check_free, create_enum_laws, create_domain_laws, create_table_laws}
 use Rattle.ddl_read.specs.Grammar.{semicolon, create_schema, created, new_owner, new_check, DomainChange, its_owner, one_more_check, domain_changed, domain_change, altered_domain, name_and_owner, path_and_owner, owned_name, owned_path, altered, selected, equals_or_to, setting, command, statement}
 
 free : (test : Lexeme → Bool) → Apart test never
@@ -36,7 +39,10 @@ create_schema_laws = seen_laws stmt.CreateSchema (name ◂ semicolon) (ended_law
 
 created_laws : Lawful created
 unfolding created
-created_laws = one_of_laws (record { key = codes "schema"; part = create_schema }) [] refl create_schema_laws
+created_laws =
+    one_of_laws (record { key = codes "schema"; part = create_schema })
+    (record { key = codes "type"; part = create_enum } ∷ record { key = codes "domain"; part = create_domain } ∷ record { key = codes "table"; part = create_table } ∷ [])
+    refl (create_schema_laws, (create_enum_laws, (create_domain_laws, create_table_laws)))
 
 new_owner_laws : Lawful new_owner
 unfolding new_owner
@@ -52,26 +58,17 @@ path_and_owner_laws : Lawful path_and_owner
 unfolding path_and_owner
 path_and_owner_laws = then_laws qualified new_owner qualified_laws new_owner_laws (avoids_never new_owner)
 
-abbrev check_part : Part (List ℕ)
-check_part = is_word (codes "check") ▸ (is_sign 40 ▸ (expression ◂ is_sign 41 ◂ semicolon))
-
-check_end_laws : Lawful (expression ◂ is_sign 41 ◂ semicolon)
-check_end_laws = ended_laws 59 (expression ◂ is_sign 41) (ended_laws 41 expression expression_laws expression_ends_bracket) (free semicolon)
-
 new_check_laws : Lawful new_check
 unfolding new_check
-new_check_laws =
-    word_laws (codes "add") (is_word (codes "constraint") ▸ (name then check_part))
-    (word_laws (codes "constraint") (name then check_part)
-    (then_laws name check_part name_laws (word_laws (codes "check") (is_sign 40 ▸ (expression ◂ is_sign 41 ◂ semicolon)) (sign_laws 40 (expression ◂ is_sign 41 ◂ semicolon) check_end_laws)) (avoids_never check_part)))
+new_check_laws = word_laws (codes "add") (named_check ◂ semicolon) (ended_laws 59 named_check named_check_laws (λ t e. named_check_free t))
 
 domain_change_laws : Lawful domain_change
 unfolding domain_change new_owner new_check
 domain_change_laws =
-    choose_apart (is_word (codes "owner")) (is_word (codes "add")) (seen its_owner new_owner) (seen (λ x. one_more_check x.0 x.1) new_check)
-    (seen_laws its_owner new_owner new_owner_laws) (seen_laws (λ x. one_more_check x.0 x.1) new_check new_check_laws)
+    choose_apart (is_word (codes "owner")) (is_word (codes "add")) (seen its_owner new_owner) (seen one_more_check new_check)
+    (seen_laws its_owner new_owner new_owner_laws) (seen_laws one_more_check new_check new_check_laws)
     (seen_begins (is_word (codes "owner")) its_owner new_owner (lead_begins (is_word (codes "owner")) (is_word (codes "to") ▸ (name ◂ semicolon))))
-    (seen_begins (is_word (codes "add")) (λ x. one_more_check x.0 x.1) new_check (lead_begins (is_word (codes "add")) (is_word (codes "constraint") ▸ (name then check_part))))
+    (seen_begins (is_word (codes "add")) one_more_check new_check (lead_begins (is_word (codes "add")) (named_check ◂ semicolon)))
     (words_apart (codes "add") (codes "owner") refl)
 
 altered_domain_laws : Lawful altered_domain

@@ -1,4 +1,5 @@
 pub mod Statements
+pub mod TableLaws
 pub mod GrammarLaws
 pub mod Closed
 pub mod ReadingLaws

@@ -2,6 +2,7 @@
 -- Key words stand in letters of any case, names bare or quoted; white space and comments stand anywhere between tokens.
 use Rattle.std.specs.Prelude.{ℕ, Bool, List, [], ◌∷◌, Option, Some, None, codes}
 use Rattle.cat_model.specs.declared.object.QName.{QName}
+use Rattle.cat_model.specs.declared.table.CheckDef.{CheckDef}
 use Rattle.cat_model.specs.declared.grant.Owned.{Owned}
 use Rattle.cat_model.specs.declared.grant.Owned.TheVariants as owned
 use Rattle.cat_model.specs.declared.stmt.Stmt.{Stmt}
@@ -10,9 +11,8 @@ use Rattle.ddl_parts.specs.Lexemes.{Lexeme, is_word, is_sign}
 use Rattle.ddl_parts.specs.Parts.{Part, Branch, mark, seen, choose, one_of, ◌then◌, ◌▸◌, ◌◂◌}
 use Rattle.ddl_parts.specs.Leaves.{name, literal, qualified}
 use Rattle.ddl_parts.specs.Expressions.{expression}
-
-abbrev pub semicolon : Lexeme → Bool
-semicolon = is_sign 59
+pub use Rattle.ddl_read.specs.Clauses.{semicolon, named_check}
+use Rattle.ddl_read.specs.TableGrammar.{create_enum, create_domain, create_table}
 
 -- ---- CREATE ..
 
@@ -21,7 +21,9 @@ unfoldable pub create_schema : Part Stmt
 create_schema = seen stmt.CreateSchema (name ◂ semicolon)
 
 unfoldable pub created : Part Stmt
-created = one_of (record { key = codes "schema"; part = create_schema }) []
+created =
+    one_of (record { key = codes "schema"; part = create_schema })
+    (record { key = codes "type"; part = create_enum } ∷ record { key = codes "domain"; part = create_domain } ∷ record { key = codes "table"; part = create_table } ∷ [])
 
 -- ---- ALTER ..
 
@@ -38,21 +40,20 @@ unfoldable pub path_and_owner : Part (QName × List ℕ)
 path_and_owner = qualified then new_owner
 
 -- ADD CONSTRAINT name CHECK (expression);
-unfoldable pub new_check : Part (List ℕ × List ℕ)
-new_check =
-    is_word (codes "add") ▸ (is_word (codes "constraint") ▸ (name then (is_word (codes "check") ▸ (is_sign 40 ▸ (expression ◂ is_sign 41 ◂ semicolon)))))
+unfoldable pub new_check : Part CheckDef
+new_check = is_word (codes "add") ▸ (named_check ◂ semicolon)
 
 -- what changes of a domain
 pub data DomainChange : Type 0 where
   its_owner : List ℕ → DomainChange
-  one_more_check : List ℕ → List ℕ → DomainChange
+  one_more_check : CheckDef → DomainChange
 
 abbrev pub domain_changed : QName → DomainChange → Stmt
 domain_changed q (its_owner role) = stmt.OwnerTo (owned.Domain q) role
-domain_changed q (one_more_check name text) = stmt.AddDomainCheck q name text
+domain_changed q (one_more_check check) = stmt.AddDomainCheck q check.name check.text
 
 unfoldable pub domain_change : Part DomainChange
-domain_change = choose (is_word (codes "owner")) (seen its_owner new_owner) (seen (λ x. one_more_check x.0 x.1) new_check)
+domain_change = choose (is_word (codes "owner")) (seen its_owner new_owner) (seen one_more_check new_check)
 
 -- path OWNER TO role; or path ADD CONSTRAINT name CHECK (expression);
 unfoldable pub altered_domain : Part Stmt

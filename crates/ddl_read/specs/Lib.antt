@@ -1,3 +1,5 @@
+pub mod Clauses
+pub mod TableGrammar
 pub mod Grammar
 pub mod Reading
 pub mod Readings

@@ -4,8 +4,9 @@ ghost use Rattle.cat_model.specs.declared.stmt.Stmt.TheVariants.{OwnerTo};
 ghost use Rattle.ddl_parts.specs.Pieces.{GivesPart, GivesPlace, GivesValue, value_of};
 ghost use Rattle.ddl_read.specs.Grammar.{create_schema, created, new_owner, new_check, domain_change, altered_domain, altered, selected, equals_or_to, setting, name_and_owner, path_and_owner, command, statement};
 
-use cat_model::{Owned, QName, Stmt};
-use copy_text::{Name, Text};
+use crate::tables::{create_domain, create_enum, create_table, named_check};
+use cat_model::{CheckDef, Owned, QName, Stmt};
+use copy_text::Name;
 use ddl_parts::{Pieces, ReadError, qualified_name};
 use std::alloc::Global;
 
@@ -22,8 +23,20 @@ fn create_schema(alloc: Global, pieces: &Pieces<'_>, at: usize) -> Result<(Stmt,
 fn created(alloc: Global, pieces: &Pieces<'_>, at: usize) -> Result<(Stmt, usize), ReadError>
     ensures { GivesPart pieces.now (λ s. s) result (created.read (drop at pieces.now)) }
 {
-    let at = pieces.word(at, "schema")?;
-    create_schema(alloc, pieces, at)
+    if pieces.is_word(at, "schema") {
+        let at = pieces.word(at, "schema")?;
+        return create_schema(alloc, pieces, at);
+    }
+    if pieces.is_word(at, "type") {
+        let at = pieces.word(at, "type")?;
+        return create_enum(alloc, pieces, at);
+    }
+    if pieces.is_word(at, "domain") {
+        let at = pieces.word(at, "domain")?;
+        return create_domain(alloc, pieces, at);
+    }
+    let at = pieces.word(at, "table")?;
+    create_table(alloc, pieces, at)
 }
 
 #[tactic(auto, unfolding(crate::specs::Grammar::new_owner))]
@@ -75,18 +88,13 @@ fn new_check(
     alloc: Global,
     pieces: &Pieces<'_>,
     at: usize,
-) -> Result<((Name, Text), usize), ReadError>
-    ensures { GivesPart pieces.now (λ x. (x.0, x.1)) result (new_check.read (drop at pieces.now)) }
+) -> Result<(CheckDef, usize), ReadError>
+    ensures { GivesPart pieces.now (λ c. c) result (new_check.read (drop at pieces.now)) }
 {
     let at = pieces.word(at, "add")?;
-    let at = pieces.word(at, "constraint")?;
-    let (name, at) = pieces.name(alloc, at)?;
-    let at = pieces.word(at, "check")?;
-    let at = pieces.sign(at, b'(')?;
-    let (text, at) = pieces.expression(alloc, at)?;
-    let at = pieces.sign(at, b')')?;
+    let (check, at) = named_check(alloc, pieces, at)?;
     let at = pieces.sign(at, b';')?;
-    Ok(((name, text), at))
+    Ok((check, at))
 }
 
 #[tactic(auto, unfolding(crate::specs::Grammar::altered_domain, crate::specs::Grammar::domain_change))]
@@ -98,7 +106,7 @@ fn altered_domain(alloc: Global, pieces: &Pieces<'_>, at: usize) -> Result<(Stmt
         let (role, at) = new_owner(alloc, pieces, at)?;
         return Ok((owner_to(Owned::Domain(q), role), at));
     }
-    let ((name, text), at) = new_check(alloc, pieces, at)?;
+    let (CheckDef { name, text }, at) = new_check(alloc, pieces, at)?;
     Ok((Stmt::AddDomainCheck { q, name, text }, at))
 }
 

@@ -1,0 +1,19 @@
+-- What several kinds of statements have: the semicolon, and named checks.
+use Rattle.std.specs.Prelude.{ℕ, Bool, List, codes}
+use Rattle.cat_model.specs.declared.table.CheckDef.{CheckDef}
+use Rattle.ddl_parts.specs.Lexemes.{Lexeme, is_word, is_sign}
+use Rattle.ddl_parts.specs.Parts.{Part, seen, ◌then◌, ◌▸◌, ◌◂◌}
+use Rattle.ddl_parts.specs.Leaves.{name}
+use Rattle.ddl_parts.specs.Expressions.{expression}
+
+abbrev pub semicolon : Lexeme → Bool
+semicolon = is_sign 59
+
+abbrev pub check_of : List ℕ × List ℕ → CheckDef
+check_of x = record { name = x.0; text = x.1 }
+
+-- CONSTRAINT name CHECK (expression)
+unfoldable pub named_check : Part CheckDef
+named_check =
+    seen check_of
+    (is_word (codes "constraint") ▸ (name then (is_word (codes "check") ▸ (is_sign 40 ▸ (expression ◂ is_sign 41)))))
