@@ -3,6 +3,7 @@ pub mod Simple
 pub mod Sequence
 pub mod Choice
 pub mod Repeated
+pub mod Items
 pub mod Machines
 pub mod Joined
 pub mod Collects
@@ -11,3 +12,4 @@ pub mod RunLaws
 pub mod Tables
 pub mod Slices
 pub mod Scanning
+pub mod Listing

@@ -28,7 +28,7 @@ record ManyStopped {A : Type 0} (items : Items A) (s : items.State) (ts : List L
   local : (t : Lexeme) (behind : List Lexeme) → u.rest ≡ t ∷ behind → (other : List Lexeme) (m : ℕ) → length (front ++ t ∷ other) ≤ m → many_at items m s (front ++ t ∷ other) ≡ Err (record { long = u.long; rest = t ∷ other })
 
 -- what begins with something has a token
-begun_long : (test : Lexeme → Bool) (ts : List Lexeme) → starts test ts ≡ true → 0 < length ts
+pub begun_long : (test : Lexeme → Bool) (ts : List Lexeme) → starts test ts ≡ true → 0 < length ts
 begun_long test [] e = absurd cc
 begun_long test (t ∷ ts) e = omega arith
 
@@ -42,23 +42,23 @@ unfolding many_at
 turned items n s ts b e = ap (turn items n s ts) e
 
 -- nothing is read where no item begins
-none_read : {A : Type 0} (items : Items A) (n : ℕ) (s : items.State) (ts : List Lexeme) → starts (items.more s) ts ≡ false → many_at items n s ts ≡ Ok ([], ts)
+pub none_read : {A : Type 0} (items : Items A) (n : ℕ) (s : items.State) (ts : List Lexeme) → starts (items.more s) ts ≡ false → many_at items n s ts ≡ Ok ([], ts)
 unfolding many_at
 none_read items zero s ts e = refl
 none_read items (suc n) s ts e = turned items n s ts false e
 
 -- an item is read, and then the others
-one_read : {A : Type 0} (items : Items A) (n : ℕ) (s : items.State) (ts : List Lexeme) (v : A) (mid : List Lexeme) → starts (items.more s) ts ≡ true → (items.item s).read ts ≡ Ok (v, mid)
+pub one_read : {A : Type 0} (items : Items A) (n : ℕ) (s : items.State) (ts : List Lexeme) (v : A) (mid : List Lexeme) → starts (items.more s) ts ≡ true → (items.item s).read ts ≡ Ok (v, mid)
     → many_at items (suc n) s ts ≡ (many_at items n (items.next s v) mid >>= λ others. Ok (v ∷ others.0, others.1))
 one_read items n s ts v mid begins e =
     turned items n s ts true begins ∙ ap (λ r. r >>= λ first. many_at items n (items.next s first.0) first.1 >>= λ others. Ok (first.0 ∷ others.0, others.1)) e
 
 -- or where it isn't read, nothing is
-one_refused : {A : Type 0} (items : Items A) (n : ℕ) (s : items.State) (ts : List Lexeme) (u : Stop) → starts (items.more s) ts ≡ true → (items.item s).read ts ≡ Err u → many_at items (suc n) s ts ≡ Err u
+pub one_refused : {A : Type 0} (items : Items A) (n : ℕ) (s : items.State) (ts : List Lexeme) (u : Stop) → starts (items.more s) ts ≡ true → (items.item s).read ts ≡ Err u → many_at items (suc n) s ts ≡ Err u
 one_refused items n s ts u begins e =
     turned items n s ts true begins ∙ ap (λ r. r >>= λ first. many_at items n (items.next s first.0) first.1 >>= λ others. Ok (first.0 ∷ others.0, others.1)) e
 
-some_left : (n : ℕ) (ts : List Lexeme) → 0 < length ts → length ts ≤ n → (m : ℕ) × (n ≡ suc m)
+pub some_left : (n : ℕ) (ts : List Lexeme) → 0 < length ts → length ts ≤ n → (m : ℕ) × (n ≡ suc m)
 some_left zero ts some le = absurd (omega arith)
 some_left (suc n) ts some le = (n, refl)
 
@@ -97,7 +97,7 @@ none_found items s ts rest e none =
       local = λ t behind is other m le. none_read items m s (t ∷ other) (starts_again (items.more s) false ts [] rest t behind other none e is);
     }
 
-shorter : (test : Lexeme → Bool) (n : ℕ) (ts front rest : List Lexeme) → starts test front ≡ true → ts ≡ front ++ rest → length ts ≤ suc n → length rest ≤ n
+pub shorter : (test : Lexeme → Bool) (n : ℕ) (ts front rest : List Lexeme) → starts test front ≡ true → ts ≡ front ++ rest → length ts ≤ suc n → length rest ≤ n
 shorter test n ts front rest begun parts le =
     omega (arith, begun_long test front begun, length-append front rest, ap (λ (x : List Lexeme). length x) parts, le)
 

@@ -6,3 +6,4 @@ pub mod Pieces
 pub mod Collecting
 pub mod Expressions
 pub mod Types
+pub mod Lists
