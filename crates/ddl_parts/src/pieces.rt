@@ -2,14 +2,16 @@
 ghost use Rattle.std.specs.Prelude.{◌≡◌, ◌≤◌, ◌<◌, ◌+◌, ◌∷◌, [], ℕ, List, length, drop, false, true, Err, IsTrue, IfOk, IfSome, MatchOption, option_map, ◌||◌, ◌==◌};
 ghost use Rattle.std.specs.List.{list_any};
 ghost use Rattle.ddl_parts.specs.Lexemes.{Lexeme, is_word, is_sign, is_sign_kind, starts, start_of};
-ghost use Rattle.ddl_parts.specs.Leaves.{name, literal, name_in, text_in};
+ghost use Rattle.ddl_parts.specs.Leaves.{name, literal, name_in, text_in, is_name, is_name_kind, is_literal, is_literal_kind};
 ghost use Rattle.ddl_parts.specs.Parts.{Part, mark, stop};
-ghost use Rattle.ddl_parts.specs.Expressions.{expression};
+ghost use Rattle.ddl_parts.specs.Expressions.{expression, default_text, default_and_null};
+ghost use Rattle.ddl_parts.specs.Types.{type_part};
 ghost use Rattle.ddl_parts.specs.Pieces.{lexeme_of, lexemes, are_joined, are_sound, GivesPlace, GivesPart};
 ghost use Rattle.ddl_parts.specs.declared.fault.ReadError.TheVariants.{Halted};
 
 use crate::fault::{Halt, ReadError};
 use crate::runs::run_at;
+use cat_model::TypeName;
 use copy_text::{Name, Text};
 use sql_lex::{Token, TokenKind, is_keyword, literal_text, token_name};
 use std::alloc::Global;
@@ -98,6 +100,20 @@ impl<'a> Pieces<'a> {
         is_sign_at(self.text, &self.pieces, at, byte)
     }
 
+    /// Whether a word or a quoted name stands at a place.
+    pub fn is_name(&self, at: usize) -> bool
+        ensures { result ≡ starts is_name (drop at self.now) }
+    {
+        is_name_at(self.text, &self.pieces, at)
+    }
+
+    /// Whether a literal stands at a place.
+    pub fn is_literal(&self, at: usize) -> bool
+        ensures { result ≡ starts is_literal (drop at self.now) }
+    {
+        is_literal_at(self.text, &self.pieces, at)
+    }
+
     /// The name at a place, and the place behind it.
     pub fn name(&self, alloc: Global, at: usize) -> Result<(Name, usize), ReadError>
         ensures { GivesPart self.now (λ n. n) result (name.read (drop at self.now)) }
@@ -118,6 +134,26 @@ impl<'a> Pieces<'a> {
         ensures { GivesPart self.now (λ t. t) result (expression.read (drop at self.now)) }
     {
         run_at(alloc, self.text, &self.pieces, at, false, false)
+    }
+}
+
+impl<'a> Pieces<'a> {
+    pub fn default_text(&self, alloc: Global, at: usize) -> Result<(Text, usize), ReadError>
+        ensures { GivesPart self.now (λ t. t) result (default_text.read (drop at self.now)) }
+    {
+        Err(ReadError::Memory)
+    }
+
+    pub fn default_and_null(&self, alloc: Global, at: usize) -> Result<((Text, bool), usize), ReadError>
+        ensures { GivesPart self.now (λ x. (x.0, x.1)) result (default_and_null.read (drop at self.now)) }
+    {
+        Err(ReadError::Memory)
+    }
+
+    pub fn type_name(&self, alloc: Global, at: usize) -> Result<(TypeName, usize), ReadError>
+        ensures { GivesPart self.now (λ t. t) result (type_part.read (drop at self.now)) }
+    {
+        Err(ReadError::Memory)
     }
 }
 
@@ -182,6 +218,42 @@ fn is_sign_at(text: &[u8], pieces: &[Piece], at: usize, byte: u8) -> bool
         Some(piece) => is_sign_kind(piece.token.kind, byte),
         None => false,
     }
+}
+
+#[tactic(auto, unfolding(crate::specs::Leaves::is_name))]
+fn is_name_at(text: &[u8], pieces: &[Piece], at: usize) -> bool
+    requires { are_joined (length text.now) pieces.now ≡ true }
+    ensures { result ≡ starts is_name (drop at (lexemes text.now pieces.now)) }
+{
+    match piece_at(text, pieces, at) {
+        Some(piece) => is_name_kind(piece.token.kind),
+        None => false,
+    }
+}
+
+/// Whether tokens of this kind stand for names.
+fn is_name_kind(kind: TokenKind) -> bool
+    ensures { result ≡ is_name_kind kind }
+{
+    matches!(kind, TokenKind::Word | TokenKind::QuotedName)
+}
+
+#[tactic(auto, unfolding(crate::specs::Leaves::is_literal))]
+fn is_literal_at(text: &[u8], pieces: &[Piece], at: usize) -> bool
+    requires { are_joined (length text.now) pieces.now ≡ true }
+    ensures { result ≡ starts is_literal (drop at (lexemes text.now pieces.now)) }
+{
+    match piece_at(text, pieces, at) {
+        Some(piece) => is_literal_kind(piece.token.kind),
+        None => false,
+    }
+}
+
+/// Whether tokens of this kind are literals.
+fn is_literal_kind(kind: TokenKind) -> bool
+    ensures { result ≡ is_literal_kind kind }
+{
+    matches!(kind, TokenKind::Literal)
 }
 
 #[tactic(auto, unfolding(crate::specs::Lexemes::is_word))]

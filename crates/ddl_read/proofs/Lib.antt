@@ -7,6 +7,7 @@ pub mod Standing
 pub mod Tokens
 pub mod Kept
 pub mod Expressions
+pub mod Putting
 pub mod Layouts
 pub mod Respelled
 pub mod Made

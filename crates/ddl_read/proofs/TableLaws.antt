@@ -26,8 +26,8 @@ use Rattle.ddl_parts.proofs.Listing.{listed_laws}
 use Rattle.ddl_parts.proofs.Leads.{a_word, name_laws, name_begins, literal_laws, literal_begins, qualified_laws, word_laws, sign_laws, ended_laws, word_no_sign, words_apart, word_avoids, choose_avoids}
 use Rattle.ddl_parts.proofs.RunLaws.{expression_laws, expression_ends_bracket, default_text_laws, default_and_null_laws, type_laws}
 use Rattle.cat_model.specs.declared.table.ColumnDef.{ColumnDef}
-use Rattle.ddl_read.specs.declared.tables.Element.{Element}
-use Rattle.ddl_read.specs.declared.tables.Element.TheVariants.{Column, Check}
+use Rattle.ddl_read.specs.declared.tables.TableElement.{TableElement}
+use Rattle.ddl_read.specs.declared.tables.TableElement.TheVariants.{Column, Check}
 use Rattle.ddl_read.specs.declared.tables.Spot.{Spot}
 use Rattle.ddl_read.specs.declared.tables.Spot.TheVariants.{Opening, BehindColumn, BehindCheck}
 use Rattle.ddl_read.specs.Clauses.{semicolon, check_of, named_check}
@@ -292,7 +292,7 @@ word_ends : (t : Lexeme) → is_word (codes "constraint") t ≡ true → ends_ru
 unfolding ends_run
 word_ends t e = rw e (by (is_end_kind t.kind) (is_sign 44 t) (is_word (codes "default") t))
   where
-    by : (a b c : Bool) → (a || (b || (c || true))) ≡ true
+    by : (a b c : Bool) → (a || ((b || c) || true)) ≡ true
     by true b c = refl
     by false true c = refl
     by false false true = refl
@@ -364,7 +364,7 @@ create_domain_laws =
 
 -- ---- CREATE TABLE
 
-is_no_constraint : Lexeme → Bool
+abbrev is_no_constraint : Lexeme → Bool
 is_no_constraint t = not (is_word (codes "constraint") t)
 
 column_name_is : (t : Lexeme) (v : List ℕ) → column_name_value t ≡ Ok v → (is_word (codes "constraint") t ≡ false) × (name_value t ≡ Ok v)
@@ -457,7 +457,7 @@ elements_apart = record {
     comma_apart BehindColumn = comma_no_element
     comma_apart BehindCheck = λ t e. last_element_free t
 
-    apart : (v : Element) (s : Spot) → Apart (element_begins (spot_behind v)) (element_at s).goes_on
+    apart : (v : TableElement) (s : Spot) → Apart (element_begins (spot_behind v)) (element_at s).goes_on
     apart (Column c) s = comma_apart s
     apart (Check c) s = comma_apart s
 

@@ -12,8 +12,8 @@ use Rattle.ddl_parts.specs.Lists.{comma, listed}
 use Rattle.ddl_parts.specs.Leaves.{name, name_value, is_name, literal, is_literal, qualified}
 use Rattle.ddl_parts.specs.Expressions.{default_text, default_and_null}
 use Rattle.ddl_parts.specs.Types.{type_goes_on, type_part}
-use Rattle.ddl_read.specs.declared.tables.Element.{Element}
-use Rattle.ddl_read.specs.declared.tables.Element.TheVariants.{Column, Check}
+use Rattle.ddl_read.specs.declared.tables.TableElement.{TableElement}
+use Rattle.ddl_read.specs.declared.tables.TableElement.TheVariants.{Column, Check}
 use Rattle.ddl_read.specs.declared.tables.Spot.{Spot}
 use Rattle.ddl_read.specs.declared.tables.Spot.TheVariants.{Opening, BehindColumn, BehindCheck}
 use Rattle.ddl_read.specs.Clauses.{semicolon, named_check}
@@ -98,11 +98,11 @@ unfoldable pub column : Part ColumnDef
 column = seen column_of (column_name then typed)
 
 -- the bare word CONSTRAINT begins a check
-unfoldable pub element : Part Element
+unfoldable pub element : Part TableElement
 element = choose (is_word (codes "constraint")) (seen Check named_check) (seen Column column)
 
 -- a check, behind which no column stands
-unfoldable pub last_element : Part Element
+unfoldable pub last_element : Part TableElement
 last_element = seen Check named_check
 
 abbrev pub element_begins : Spot → Lexeme → Bool
@@ -110,17 +110,17 @@ element_begins Opening = is_name
 element_begins BehindColumn = comma
 element_begins BehindCheck = comma
 
-abbrev pub element_at : Spot → Part Element
+abbrev pub element_at : Spot → Part TableElement
 element_at Opening = element
 element_at BehindColumn = comma ▸ element
 element_at BehindCheck = comma ▸ last_element
 
-abbrev pub spot_behind : Element → Spot
+abbrev pub spot_behind : TableElement → Spot
 spot_behind (Column c) = BehindColumn
 spot_behind (Check c) = BehindCheck
 
 -- columns and then checks, with commas between them
-abbrev pub elements : Items Element
+abbrev pub elements : Items TableElement
 elements = record {
   State = Spot;
   start = Opening;
@@ -129,12 +129,12 @@ elements = record {
   next = λ s v. spot_behind v;
 }
 
-abbrev pub columns_of : List Element → List ColumnDef
+abbrev pub columns_of : List TableElement → List ColumnDef
 columns_of [] = []
 columns_of (Column c ∷ more) = c ∷ columns_of more
 columns_of (Check c ∷ more) = columns_of more
 
-abbrev pub checks_of : List Element → List CheckDef
+abbrev pub checks_of : List TableElement → List CheckDef
 checks_of [] = []
 checks_of (Column c ∷ more) = checks_of more
 checks_of (Check c ∷ more) = c ∷ checks_of more
@@ -142,7 +142,7 @@ checks_of (Check c ∷ more) = c ∷ checks_of more
 abbrev pub more_elements : Lexeme → Bool
 more_elements t = is_name t || (comma t || element.goes_on t)
 
-abbrev pub parted : List Element → List ColumnDef × List CheckDef
+abbrev pub parted : List TableElement → List ColumnDef × List CheckDef
 parted es = (columns_of es, checks_of es)
 
 unfoldable pub table_elements : Part (List ColumnDef × List CheckDef)

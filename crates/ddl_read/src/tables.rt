@@ -26,7 +26,7 @@ pub enum Spot {
 
 /// What a list of a table's columns and checks has.
 #[derive(Debug, Drop)]
-pub enum Element {
+pub enum TableElement {
     /// A column.
     Column(ColumnDef),
     /// A check.
@@ -279,14 +279,14 @@ fn element(
     alloc: Global,
     pieces: &Pieces<'_>,
     at: usize,
-) -> Result<(Element, usize), ReadError>
+) -> Result<(TableElement, usize), ReadError>
     ensures { GivesPart pieces.now (λ e. e) result (element.read (drop at pieces.now)) }
 {
     if pieces.is_word(at, "constraint") {
         return last_element(alloc, pieces, at);
     }
     let (column, at) = column(alloc, pieces, at)?;
-    Ok((Element::Column(column), at))
+    Ok((TableElement::Column(column), at))
 }
 
 /// A check, behind which no column stands.
@@ -295,11 +295,11 @@ fn last_element(
     alloc: Global,
     pieces: &Pieces<'_>,
     at: usize,
-) -> Result<(Element, usize), ReadError>
+) -> Result<(TableElement, usize), ReadError>
     ensures { GivesPart pieces.now (λ e. e) result (last_element.read (drop at pieces.now)) }
 {
     let (check, at) = named_check(alloc, pieces, at)?;
-    Ok((Element::Check(check), at))
+    Ok((TableElement::Check(check), at))
 }
 
 /// Whether a column or a check stands at a place of their list.
@@ -318,7 +318,7 @@ fn element_at(
     pieces: &Pieces<'_>,
     at: usize,
     spot: Spot,
-) -> Result<(Element, usize), ReadError>
+) -> Result<(TableElement, usize), ReadError>
     ensures { GivesPart pieces.now (λ e. e) result ((element_at spot).read (drop at pieces.now)) }
 {
     match spot {
@@ -336,7 +336,7 @@ fn element_at(
 
 /// Adds a column or a check to its list, and tells where the list stands behind it.
 fn put_element(
-    element: Element,
+    element: TableElement,
     columns: &mut Vec<ColumnDef>,
     checks: &mut Vec<CheckDef>,
 ) -> Result<Spot, AllocError>
@@ -345,11 +345,11 @@ fn put_element(
     ensures spot { IfOk result (λ spot. spot ≡ spot_behind element) }
 {
     match element {
-        Element::Column(column) => {
+        TableElement::Column(column) => {
             columns.push(column)?;
             Ok(Spot::BehindColumn)
         }
-        Element::Check(check) => {
+        TableElement::Check(check) => {
             checks.push(check)?;
             Ok(Spot::BehindCheck)
         }
