@@ -6,6 +6,7 @@ pub mod RowsText
 pub mod RightsText
 pub mod Roles
 pub mod Pieces
+pub mod Tables
 pub mod Spelling
 pub mod Outcome
 pub mod Examples

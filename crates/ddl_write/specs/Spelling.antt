@@ -1,5 +1,5 @@
 -- The one written spelling of each statement.
--- Each ends with a semicolon and a newline. None stands for a kind of statement that isn't written yet.
+-- Each ends with a semicolon and a newline.
 use Rattle.std.specs.Prelude.{ℕ, List, [], ◌∷◌, ◌++◌, Option, Some, None, codes}
 use Rattle.sql_lex.specs.Written.{written_name, written_literal}
 use Rattle.cat_model.specs.declared.object.QName.{QName}
@@ -8,6 +8,8 @@ use Rattle.cat_model.specs.declared.grant.Owned.TheVariants as owned
 use Rattle.cat_model.specs.declared.stmt.Stmt.{Stmt}
 use Rattle.cat_model.specs.declared.stmt.Stmt.TheVariants as stmt
 pub use Rattle.ddl_write.specs.Paths.{path, ending}
+unfoldable pub use Rattle.ddl_write.specs.Tables.{check_text}
+use Rattle.ddl_write.specs.Tables.{enum_text, domain_text, table_text}
 use Rattle.ddl_write.specs.Sequences.{sequence_text, owned_by_text, value_text}
 use Rattle.ddl_write.specs.Views.{view_text, default_text}
 use Rattle.ddl_write.specs.Keys.{key_text, foreign_text, added_check_text, index_text}
@@ -38,16 +40,15 @@ set_text name value = codes "SET " ++ written_name name ++ codes " = " ++ value 
 unfoldable pub owner_text : Owned → List ℕ → List ℕ
 owner_text object role = codes "ALTER " ++ owned_object object ++ codes " OWNER TO " ++ written_name role ++ ending
 
--- a name for a check, and its expression in brackets
-unfoldable pub check_text : List ℕ → List ℕ → List ℕ
-check_text name text = codes "CONSTRAINT " ++ written_name name ++ codes " CHECK (" ++ text ++ codes ")"
-
 -- a line feed and four spaces stand before ADD
 unfoldable pub domain_check_text : QName → List ℕ → List ℕ → List ℕ
 domain_check_text q name text = codes "ALTER DOMAIN " ++ path q ++ (10 ∷ codes "    ADD ") ++ check_text name text ++ ending
 
 unfoldable pub spelling : Stmt → Option (List ℕ)
 spelling (stmt.CreateSchema name) = Some (schema_text name)
+spelling (stmt.CreateEnum q labels) = Some (enum_text q labels)
+spelling (stmt.CreateDomain q base not_null default checks) = Some (domain_text q base not_null default checks)
+spelling (stmt.CreateTable q columns checks) = Some (table_text q columns checks)
 spelling (stmt.Set name value) = Some (set_text name value)
 spelling (stmt.SetConfig name value) = Some (setting_text name value)
 spelling (stmt.OwnerTo object role) = Some (owner_text object role)
@@ -73,4 +74,3 @@ spelling (stmt.AlterRole name changes) = Some (changes_text name changes)
 spelling (stmt.GrantRole role member grantor admin inherit may_set) = Some (member_text role member grantor admin inherit may_set)
 spelling (stmt.CreateDatabase name encoding) = Some (database_text name encoding)
 spelling (stmt.Connect name) = Some (connect_text name)
-spelling _ = None
