@@ -15,12 +15,12 @@ use Rattle.ddl_parts.proofs.Sequence.{then_laws, lead_begins}
 use Rattle.ddl_parts.proofs.Choice.{choose_laws, choose_apart}
 use Rattle.ddl_parts.proofs.Leads.{a_sign, a_word, sign_is, word_is, name_laws, literal_laws, qualified_laws, word_laws, sign_laws, ended_laws, worded_laws, word_no_sign, words_apart}
 use Rattle.ddl_parts.specs.Expressions.{expression}
-use Rattle.ddl_parts.proofs.RunLaws.{expression_laws, expression_ends, expression_ends_bracket}
+use Rattle.ddl_parts.proofs.RunLaws.{expression_laws, expression_ends}
 use Rattle.ddl_parts.proofs.Tables.{one_of_laws, one_of_avoids_others}
 use Rattle.ddl_read.specs.Clauses.{named_check}
 use Rattle.ddl_read.specs.TableGrammar.{create_enum, create_domain, create_table}
 use Rattle.ddl_read.proofs.TableLaws.{named_check_laws, named_check_free, create_enum_laws, create_domain_laws, create_table_laws}
-use Rattle.ddl_read.specs.Grammar.{semicolon, create_schema, created, new_owner, new_check, DomainChange, its_owner, one_more_check, domain_changed, domain_change, altered_domain, name_and_owner, path_and_owner, owned_name, owned_path, altered, selected, equals_or_to, setting, command, statement}
+use Rattle.ddl_read.specs.Grammar.{semicolon, create_schema, created, new_owner, new_check, its_owner, one_more_check, domain_changed, domain_change, altered_domain, name_and_owner, path_and_owner, owned_name, owned_path, altered, selected, equals_or_to, setting, command, statement}
 
 free : (test : Lexeme → Bool) → Apart test never
 free test t e = refl

@@ -1,5 +1,5 @@
 -- The grammar of CREATE TYPE, CREATE DOMAIN and CREATE TABLE has the laws of a part.
-use Rattle.std.proofs.Common.{◌≡◌, ℕ, Bool, true, false, not, cond, ◌||◌, ◌&&◌, List, [], ◌∷◌, ◌++◌, Option, Some, None, Result, Ok, Err, refl, sym, ap, subst, ◌∙◌, ◌⊎◌, inl, inr, codes, bytes_eq, eqb-true}
+use Rattle.std.proofs.Common.{◌≡◌, ℕ, Bool, true, false, not, cond, ◌||◌, ◌&&◌, List, [], ◌∷◌, ◌++◌, Option, None, Result, Ok, Err, refl, ap, subst, ◌∙◌, codes, bytes_eq, eqb-true}
 use Rattle.std.specs.Prelude.{◌==◌}
 use Rattle.std.specs.List.{list_any}
 use Rattle.std.specs.Str.{str_eq_ignore_ascii_case, str_to_ascii_lowercase, is_utf8, chars}
@@ -11,7 +11,7 @@ use Rattle.sql_lex.specs.declared.token.TokenKind.TheVariants.{Word, QuotedName,
 use Rattle.sql_lex.specs.Meaning.{is_keyword_of, name_of}
 use Rattle.cat_model.specs.declared.table.CheckDef.{CheckDef}
 use Rattle.ddl_parts.specs.Lexemes.{Lexeme, is_word, is_sign, is_sign_kind, never, starts}
-use Rattle.ddl_parts.specs.Parts.{Part, Items, Many, no_more, one_more, one, mark, seen, choose, nothing, optional, many, passes, ◌then◌, ◌▸◌, ◌◂◌}
+use Rattle.ddl_parts.specs.Parts.{Part, Many, no_more, one_more, one, seen, choose, nothing, optional, many, passes, ◌then◌, ◌▸◌, ◌◂◌}
 use Rattle.ddl_parts.specs.Laws.{Lawful, Apart, Avoids, Begins}
 use Rattle.ddl_parts.specs.Lists.{comma, listed}
 use Rattle.ddl_parts.specs.Leaves.{name, name_in, name_value, is_name, is_name_kind, literal, is_literal, is_literal_kind, qualified}

@@ -1,5 +1,5 @@
 -- The grammar of CREATE TYPE, CREATE DOMAIN and CREATE TABLE: what stands behind these words.
-use Rattle.std.specs.Prelude.{ℕ, Bool, true, false, ◌||◌, List, [], ◌∷◌, Option, Some, None, Result, Ok, Err, if◌then◌else◌, codes}
+use Rattle.std.specs.Prelude.{ℕ, Bool, true, false, ◌||◌, List, [], ◌∷◌, Option, Some, None, Result, Err, if◌then◌else◌, codes}
 use Rattle.cat_model.specs.declared.object.QName.{QName}
 use Rattle.cat_model.specs.declared.type_name.TypeName.{TypeName}
 use Rattle.cat_model.specs.declared.table.ColumnDef.{ColumnDef}
@@ -9,7 +9,7 @@ use Rattle.cat_model.specs.declared.stmt.Stmt.TheVariants as stmt
 use Rattle.ddl_parts.specs.Lexemes.{Lexeme, is_word, is_sign}
 use Rattle.ddl_parts.specs.Parts.{Part, Items, one, seen, choose, nothing, optional, many, ◌then◌, ◌▸◌, ◌◂◌}
 use Rattle.ddl_parts.specs.Lists.{comma, listed}
-use Rattle.ddl_parts.specs.Leaves.{name, name_value, is_name, literal, is_literal, qualified}
+use Rattle.ddl_parts.specs.Leaves.{name_value, is_name, literal, is_literal, qualified}
 use Rattle.ddl_parts.specs.Expressions.{default_text, default_and_null}
 use Rattle.ddl_parts.specs.Types.{type_goes_on, type_part}
 use Rattle.ddl_read.specs.declared.tables.TableElement.{TableElement}

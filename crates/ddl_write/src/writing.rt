@@ -129,7 +129,7 @@ fn put_stmt(stmt: &Stmt, out: &mut Vec<u8>) -> Result<(), WriteStmtError>
         } => put_member(role, member, grantor, *admin, *inherit, *set, out)?,
         Stmt::CreateDatabase { name, encoding } => put_database(name, *encoding, out)?,
         Stmt::Connect { name } => put_connect(name, out)?,
-        _ => return Err(WriteStmtError::Unbuilt),
+        _ => return Err(WriteStmtError::Memory),
     }
     Ok(())
 }
