@@ -13,7 +13,7 @@ use Rattle.cat_model.specs.declared.table.CheckDef.{CheckDef}
 use Rattle.ddl_parts.specs.Lexemes.{Lexeme, is_word, is_sign, is_sign_kind, never, starts}
 use Rattle.ddl_parts.specs.Parts.{Part, Many, no_more, one_more, one, seen, choose, nothing, optional, many, passes, ◌then◌, ◌▸◌, ◌◂◌}
 use Rattle.ddl_parts.specs.Laws.{Lawful, Apart, Avoids, Begins}
-use Rattle.ddl_parts.specs.Lists.{comma, listed}
+use Rattle.ddl_parts.specs.Lists.{comma, listing, listed}
 use Rattle.ddl_parts.specs.Leaves.{name, name_in, name_value, is_name, is_name_kind, literal, is_literal, is_literal_kind, qualified}
 use Rattle.ddl_parts.specs.Expressions.{expression, default_text, default_and_null, ends_run, is_end_kind}
 use Rattle.ddl_parts.specs.Types.{type_goes_on, type_part, is_type_word, is_word_kind, stop_words}
@@ -22,7 +22,7 @@ use Rattle.ddl_parts.proofs.Simple.{seen_laws, seen_begins, seen_avoids, one_law
 use Rattle.ddl_parts.proofs.Sequence.{then_laws, then_begins, lead_begins}
 use Rattle.ddl_parts.proofs.Choice.{choose_laws, choose_begins, optional_laws}
 use Rattle.ddl_parts.proofs.Repeated.{AreApart, many_laws}
-use Rattle.ddl_parts.proofs.Listing.{listed_laws}
+use Rattle.ddl_parts.proofs.Listing.{listing_apart, listed_laws}
 use Rattle.ddl_parts.proofs.Leads.{a_word, name_laws, name_begins, literal_laws, literal_begins, qualified_laws, word_laws, sign_laws, ended_laws, word_no_sign, words_apart, word_avoids, choose_avoids}
 use Rattle.ddl_parts.proofs.RunLaws.{expression_laws, expression_ends_bracket, default_text_laws, default_and_null_laws, type_laws}
 use Rattle.cat_model.specs.declared.table.ColumnDef.{ColumnDef}
@@ -165,6 +165,9 @@ unfolding named_check
 named_check_free t = refl
 
 -- ---- CREATE TYPE
+
+pub labels_apart : AreApart (λ t. is_literal t || (comma t || literal.goes_on t)) (listing is_literal literal)
+labels_apart = listing_apart is_literal literal literal_laws literal_begins (free comma)
 
 abbrev labels : Part (List (List ℕ))
 labels = listed is_literal literal
@@ -315,7 +318,7 @@ constraint_no_attributes t e = attributes_end t (word_ends t e) (words_apart (co
 abbrev checks : Part (List CheckDef)
 checks = many (is_word (codes "constraint")) checking
 
-checks_apart : AreApart (is_word (codes "constraint")) checking
+pub checks_apart : AreApart (is_word (codes "constraint")) checking
 checks_apart = record {
   laws = λ s. named_check_laws;
   begins = λ s. named_check_begins;
@@ -434,7 +437,7 @@ last_element_free : (t : Lexeme) → last_element.goes_on t ≡ false
 unfolding last_element
 last_element_free t = named_check_free t
 
-elements_apart : AreApart more_elements elements
+pub elements_apart : AreApart more_elements elements
 elements_apart = record {
   laws = laws;
   begins = begins;

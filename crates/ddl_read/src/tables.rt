@@ -274,7 +274,7 @@ fn column(
 }
 
 /// A column or a check.
-#[tactic(auto, unfolding(crate::specs::TableGrammar::element))]
+#[tactic(auto, unfolding(crate::specs::TableGrammar::element, crate::specs::TableGrammar::last_element))]
 fn element(
     alloc: Global,
     pieces: &Pieces<'_>,
