@@ -4,14 +4,12 @@ ghost use Rattle.std.specs.List.{list_any};
 ghost use Rattle.ddl_parts.specs.Lexemes.{Lexeme, is_word, is_sign, is_sign_kind, starts, start_of};
 ghost use Rattle.ddl_parts.specs.Leaves.{name, literal, name_in, text_in, is_name, is_name_kind, is_literal, is_literal_kind};
 ghost use Rattle.ddl_parts.specs.Parts.{Part, mark, stop};
-ghost use Rattle.ddl_parts.specs.Expressions.{expression, default_text, default_and_null};
-ghost use Rattle.ddl_parts.specs.Types.{type_part};
+ghost use Rattle.ddl_parts.specs.Expressions.{expression};
 ghost use Rattle.ddl_parts.specs.Pieces.{lexeme_of, lexemes, are_joined, are_sound, GivesPlace, GivesPart};
 ghost use Rattle.ddl_parts.specs.declared.fault.ReadError.TheVariants.{Halted};
 
 use crate::fault::{Halt, ReadError};
 use crate::runs::run_at;
-use cat_model::TypeName;
 use copy_text::{Name, Text};
 use sql_lex::{Token, TokenKind, is_keyword, literal_text, token_name};
 use std::alloc::Global;
@@ -134,26 +132,6 @@ impl<'a> Pieces<'a> {
         ensures { GivesPart self.now (λ t. t) result (expression.read (drop at self.now)) }
     {
         run_at(alloc, self.text, &self.pieces, at, false, false)
-    }
-}
-
-impl<'a> Pieces<'a> {
-    pub fn default_text(&self, alloc: Global, at: usize) -> Result<(Text, usize), ReadError>
-        ensures { GivesPart self.now (λ t. t) result (default_text.read (drop at self.now)) }
-    {
-        Err(ReadError::Memory)
-    }
-
-    pub fn default_and_null(&self, alloc: Global, at: usize) -> Result<((Text, bool), usize), ReadError>
-        ensures { GivesPart self.now (λ x. (x.0, x.1)) result (default_and_null.read (drop at self.now)) }
-    {
-        Err(ReadError::Memory)
-    }
-
-    pub fn type_name(&self, alloc: Global, at: usize) -> Result<(TypeName, usize), ReadError>
-        ensures { GivesPart self.now (λ t. t) result (type_part.read (drop at self.now)) }
-    {
-        Err(ReadError::Memory)
     }
 }
 
