@@ -13,3 +13,4 @@ pub mod Tables
 pub mod Slices
 pub mod Scanning
 pub mod Listing
+pub mod Endings
