@@ -14,3 +14,4 @@ pub mod Slices
 pub mod Scanning
 pub mod Listing
 pub mod Endings
+pub mod TypeRuns
