@@ -205,7 +205,7 @@ type_covers Behind t d free = let a = or_parts (is_type_word t) (is_sign 46 t ||
 type_covers Array t d free = absurd cc
 type_covers Ended t d free = refl
 
-typing_ends : CanEnd typing
+pub typing_ends : CanEnd typing
 typing_ends = record { finish = type_finish; last = type_last; finished = type_finished; done = type_is_done; covers = type_covers }
 
 pub type_laws : Lawful type_part
