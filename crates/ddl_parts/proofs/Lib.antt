@@ -13,3 +13,5 @@ pub mod Tables
 pub mod Slices
 pub mod Scanning
 pub mod Listing
+pub mod Endings
+pub mod TypeRuns

@@ -16,7 +16,7 @@ pub record CanEnd (m : Machine) : Type 0 where
 
 -- ---- runs
 
-run_none : (m : Machine) (ts : List Lexeme) → run m None ts ≡ None
+pub run_none : (m : Machine) (ts : List Lexeme) → run m None ts ≡ None
 run_none m [] = refl
 run_none m (t ∷ ts) = run_none m ts
 

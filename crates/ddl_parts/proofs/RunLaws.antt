@@ -16,7 +16,9 @@ use Rattle.ddl_parts.specs.declared.runs.Bracket.TheVariants.{Round, Square}
 use Rattle.ddl_parts.specs.declared.runs.Spot.{Spot}
 use Rattle.ddl_parts.specs.declared.runs.Spot.TheVariants.{First, FirstNot, LaterNot, Inside, Closed as Shut}
 use Rattle.ddl_parts.specs.Expressions.{Nest, nested, nest_step, nest_done, ends_run, is_end_kind, step_by, behind_bounded, behind_kind, moved, expression, default_text, default_and_null, without_not_null}
-use Rattle.ddl_parts.specs.Types.{TypeSpot, begin, first_word, schema, dotted, path, words, bracket, number, comma, behind, array, closed, typing, type_step, type_done, type_goes_on, is_type_word, is_number, type_part, type_of}
+use Rattle.ddl_parts.specs.Types.{typing, type_step, type_done, type_goes_on, is_type_word, is_number, type_part, type_of}
+use Rattle.ddl_parts.specs.declared.types.TypeSpot.{TypeSpot}
+use Rattle.ddl_parts.specs.declared.types.TypeSpot.TheVariants.{Begin, FirstWord, Schema, Dotted, Path, Words, Opened, Counted, Further, Behind, Array, Ended}
 use Rattle.ddl_parts.proofs.Simple.{seen_laws}
 use Rattle.ddl_parts.proofs.Machines.{CanEnd, machine_laws}
 use Rattle.ddl_parts.proofs.Leads.{a_word, a_sign}
@@ -131,79 +133,79 @@ default_and_null_laws = seen_laws without_not_null (runs_of (nested true true)) 
 -- ---- types
 
 type_finish : TypeSpot → List Lexeme
-type_finish begin = a_word (codes "text") ∷ []
-type_finish (first_word short) = []
-type_finish schema = a_sign 46 ∷ a_word (codes "a") ∷ []
-type_finish dotted = a_word (codes "a") ∷ []
-type_finish path = []
-type_finish words = []
-type_finish bracket = a_number ∷ a_sign 41 ∷ []
-type_finish number = a_sign 41 ∷ []
-type_finish comma = a_number ∷ a_sign 41 ∷ []
-type_finish behind = []
-type_finish array = a_sign 93 ∷ []
-type_finish closed = []
+type_finish Begin = a_word (codes "text") ∷ []
+type_finish (FirstWord short) = []
+type_finish Schema = a_sign 46 ∷ a_word (codes "a") ∷ []
+type_finish Dotted = a_word (codes "a") ∷ []
+type_finish Path = []
+type_finish Words = []
+type_finish Opened = a_number ∷ a_sign 41 ∷ []
+type_finish Counted = a_sign 41 ∷ []
+type_finish Further = a_number ∷ a_sign 41 ∷ []
+type_finish Behind = []
+type_finish Array = a_sign 93 ∷ []
+type_finish Ended = []
 
 type_last : TypeSpot → TypeSpot
-type_last begin = first_word true
-type_last (first_word short) = first_word short
-type_last schema = path
-type_last dotted = path
-type_last path = path
-type_last words = words
-type_last bracket = behind
-type_last number = behind
-type_last comma = behind
-type_last behind = behind
-type_last array = closed
-type_last closed = closed
+type_last Begin = FirstWord true
+type_last (FirstWord short) = FirstWord short
+type_last Schema = Path
+type_last Dotted = Path
+type_last Path = Path
+type_last Words = Words
+type_last Opened = Behind
+type_last Counted = Behind
+type_last Further = Behind
+type_last Behind = Behind
+type_last Array = Ended
+type_last Ended = Ended
 
 type_finished : (s : TypeSpot) → run typing (Some s) (type_finish s) ≡ Some (type_last s)
 unfolding type_step type_finish type_last is_type_word is_number is_word is_sign is_keyword_of name_value name_in name_of is_utf8 chars encode
-type_finished begin = refl
-type_finished (first_word short) = refl
-type_finished schema = refl
-type_finished dotted = refl
-type_finished path = refl
-type_finished words = refl
-type_finished bracket = refl
-type_finished number = refl
-type_finished comma = refl
-type_finished behind = refl
-type_finished array = refl
-type_finished closed = refl
+type_finished Begin = refl
+type_finished (FirstWord short) = refl
+type_finished Schema = refl
+type_finished Dotted = refl
+type_finished Path = refl
+type_finished Words = refl
+type_finished Opened = refl
+type_finished Counted = refl
+type_finished Further = refl
+type_finished Behind = refl
+type_finished Array = refl
+type_finished Ended = refl
 
 type_is_done : (s : TypeSpot) → type_done (type_last s) ≡ true
 unfolding type_done type_last
-type_is_done begin = refl
-type_is_done (first_word short) = refl
-type_is_done schema = refl
-type_is_done dotted = refl
-type_is_done path = refl
-type_is_done words = refl
-type_is_done bracket = refl
-type_is_done number = refl
-type_is_done comma = refl
-type_is_done behind = refl
-type_is_done array = refl
-type_is_done closed = refl
+type_is_done Begin = refl
+type_is_done (FirstWord short) = refl
+type_is_done Schema = refl
+type_is_done Dotted = refl
+type_is_done Path = refl
+type_is_done Words = refl
+type_is_done Opened = refl
+type_is_done Counted = refl
+type_is_done Further = refl
+type_is_done Behind = refl
+type_is_done Array = refl
+type_is_done Ended = refl
 
 type_covers : (s : TypeSpot) (t : Lexeme) → type_done s ≡ true → type_goes_on t ≡ false → type_step s t ≡ None
 unfolding type_step type_done type_goes_on
-type_covers begin t d free = absurd cc
-type_covers (first_word short) t d free = let a = or_parts (is_type_word t) (is_sign 46 t || (is_sign 40 t || is_sign 91 t)) free in let b = or_parts (is_sign 46 t) (is_sign 40 t || is_sign 91 t) a.1 in let c = or_parts (is_sign 40 t) (is_sign 91 t) b.1 in rw (b.0, a.0, c.0, c.1) refl
-type_covers schema t d free = absurd cc
-type_covers dotted t d free = absurd cc
-type_covers path t d free = refl
-type_covers words t d free = let a = or_parts (is_type_word t) (is_sign 46 t || (is_sign 40 t || is_sign 91 t)) free in let b = or_parts (is_sign 46 t) (is_sign 40 t || is_sign 91 t) a.1 in let c = or_parts (is_sign 40 t) (is_sign 91 t) b.1 in rw (a.0, c.0, c.1) refl
-type_covers bracket t d free = absurd cc
-type_covers number t d free = absurd cc
-type_covers comma t d free = absurd cc
-type_covers behind t d free = let a = or_parts (is_type_word t) (is_sign 46 t || (is_sign 40 t || is_sign 91 t)) free in let b = or_parts (is_sign 46 t) (is_sign 40 t || is_sign 91 t) a.1 in let c = or_parts (is_sign 40 t) (is_sign 91 t) b.1 in rw (a.0, c.1) refl
-type_covers array t d free = absurd cc
-type_covers closed t d free = refl
+type_covers Begin t d free = absurd cc
+type_covers (FirstWord short) t d free = let a = or_parts (is_type_word t) (is_sign 46 t || (is_sign 40 t || is_sign 91 t)) free in let b = or_parts (is_sign 46 t) (is_sign 40 t || is_sign 91 t) a.1 in let c = or_parts (is_sign 40 t) (is_sign 91 t) b.1 in rw (b.0, a.0, c.0, c.1) refl
+type_covers Schema t d free = absurd cc
+type_covers Dotted t d free = absurd cc
+type_covers Path t d free = refl
+type_covers Words t d free = let a = or_parts (is_type_word t) (is_sign 46 t || (is_sign 40 t || is_sign 91 t)) free in let b = or_parts (is_sign 46 t) (is_sign 40 t || is_sign 91 t) a.1 in let c = or_parts (is_sign 40 t) (is_sign 91 t) b.1 in rw (a.0, c.0, c.1) refl
+type_covers Opened t d free = absurd cc
+type_covers Counted t d free = absurd cc
+type_covers Further t d free = absurd cc
+type_covers Behind t d free = let a = or_parts (is_type_word t) (is_sign 46 t || (is_sign 40 t || is_sign 91 t)) free in let b = or_parts (is_sign 46 t) (is_sign 40 t || is_sign 91 t) a.1 in let c = or_parts (is_sign 40 t) (is_sign 91 t) b.1 in rw (a.0, c.1) refl
+type_covers Array t d free = absurd cc
+type_covers Ended t d free = refl
 
-typing_ends : CanEnd typing
+pub typing_ends : CanEnd typing
 typing_ends = record { finish = type_finish; last = type_last; finished = type_finished; done = type_is_done; covers = type_covers }
 
 pub type_laws : Lawful type_part

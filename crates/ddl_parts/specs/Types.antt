@@ -6,6 +6,8 @@ use Rattle.sql_lex.specs.declared.token.TokenKind.{TokenKind}
 use Rattle.sql_lex.specs.declared.token.TokenKind.TheVariants.{Word, Number}
 use Rattle.cat_model.specs.declared.type_name.TypeName.{TypeName}
 use Rattle.cat_model.specs.declared.type_name.TypeName.TheVariants as type_name
+use Rattle.ddl_parts.specs.declared.types.TypeSpot.{TypeSpot}
+use Rattle.ddl_parts.specs.declared.types.TypeSpot.TheVariants.{Begin, FirstWord, Schema, Dotted, Path, Words, Opened, Counted, Further, Behind, Array, Ended}
 use Rattle.ddl_parts.specs.Lexemes.{Lexeme, is_word, is_sign, source}
 use Rattle.ddl_parts.specs.Parts.{Part, Machine, runs_of, seen}
 use Rattle.ddl_parts.specs.Leaves.{name_value}
@@ -30,21 +32,6 @@ is_number_kind _ = false
 unfoldable pub is_number : Lexeme → Bool
 is_number t = is_number_kind t.kind
 
--- Where reading a type stands. A first word may be a schema's name, unless it is too long for a name.
-pub data TypeSpot : Type 0 where
-  begin : TypeSpot
-  first_word : Bool → TypeSpot
-  schema : TypeSpot
-  dotted : TypeSpot
-  path : TypeSpot
-  words : TypeSpot
-  bracket : TypeSpot
-  number : TypeSpot
-  comma : TypeSpot
-  behind : TypeSpot
-  array : TypeSpot
-  closed : TypeSpot
-
 abbrev pub if_name : Result (List ℕ) Bool → TypeSpot → Option TypeSpot
 if_name (Ok n) s = Some s
 if_name (Err long) s = None
@@ -54,36 +41,36 @@ only_if b s = if b then Some s else None
 
 abbrev pub more_words : Lexeme → Option TypeSpot
 more_words t =
-    if is_type_word t then Some words
-    else (if is_sign 40 t then Some bracket else only_if (is_sign 91 t) array)
+    if is_type_word t then Some Words
+    else (if is_sign 40 t then Some Opened else only_if (is_sign 91 t) Array)
 
 unfoldable pub type_step : TypeSpot → Lexeme → Option TypeSpot
-type_step begin t = if is_type_word t then Some (first_word (is_ok (name_value t))) else if_name (name_value t) schema
-type_step (first_word short) t = if is_sign 46 t then only_if short dotted else more_words t
-type_step schema t = only_if (is_sign 46 t) dotted
-type_step dotted t = if_name (name_value t) path
-type_step path t = None
-type_step words t = more_words t
-type_step bracket t = only_if (is_number t) number
-type_step number t = if is_sign 44 t then Some comma else only_if (is_sign 41 t) behind
-type_step comma t = only_if (is_number t) number
-type_step behind t = if is_type_word t then Some behind else only_if (is_sign 91 t) array
-type_step array t = only_if (is_sign 93 t) closed
-type_step closed t = None
+type_step Begin t = if is_type_word t then Some (FirstWord (is_ok (name_value t))) else if_name (name_value t) Schema
+type_step (FirstWord short) t = if is_sign 46 t then only_if short Dotted else more_words t
+type_step Schema t = only_if (is_sign 46 t) Dotted
+type_step Dotted t = if_name (name_value t) Path
+type_step Path t = None
+type_step Words t = more_words t
+type_step Opened t = only_if (is_number t) Counted
+type_step Counted t = if is_sign 44 t then Some Further else only_if (is_sign 41 t) Behind
+type_step Further t = only_if (is_number t) Counted
+type_step Behind t = if is_type_word t then Some Behind else only_if (is_sign 91 t) Array
+type_step Array t = only_if (is_sign 93 t) Ended
+type_step Ended t = None
 
 unfoldable pub type_done : TypeSpot → Bool
-type_done begin = false
-type_done (first_word short) = true
-type_done schema = false
-type_done dotted = false
-type_done path = true
-type_done words = true
-type_done bracket = false
-type_done number = false
-type_done comma = false
-type_done behind = true
-type_done array = false
-type_done closed = true
+type_done Begin = false
+type_done (FirstWord short) = true
+type_done Schema = false
+type_done Dotted = false
+type_done Path = true
+type_done Words = true
+type_done Opened = false
+type_done Counted = false
+type_done Further = false
+type_done Behind = true
+type_done Array = false
+type_done Ended = true
 
 abbrev pub is_long_by : Result (List ℕ) Bool → Bool
 is_long_by (Ok n) = false
@@ -91,8 +78,8 @@ is_long_by (Err long) = long
 
 -- where a name would be read but for its length
 unfoldable pub type_long : TypeSpot → Lexeme → Bool
-type_long begin t = is_long_by (name_value t)
-type_long dotted t = is_long_by (name_value t)
+type_long Begin t = is_long_by (name_value t)
+type_long Dotted t = is_long_by (name_value t)
 type_long _ t = false
 
 unfoldable pub type_goes_on : Lexeme → Bool
@@ -101,7 +88,7 @@ type_goes_on t = is_type_word t || (is_sign 46 t || (is_sign 40 t || is_sign 91 
 abbrev pub typing : Machine
 typing = record {
   State = TypeSpot;
-  start = begin;
+  start = Begin;
   step = type_step;
   done = type_done;
   long = type_long;

@@ -2,11 +2,13 @@
 #![tactic(auto)]
 
 mod collecting;
+mod defaults;
 mod fault;
 pub mod laws;
 mod pieces;
 mod qualified;
 mod runs;
+mod types;
 
 pub use collecting::{Run, collect};
 pub use fault::{Halt, ReadError};

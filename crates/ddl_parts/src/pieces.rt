@@ -2,17 +2,21 @@
 ghost use Rattle.std.specs.Prelude.{◌≡◌, ◌≤◌, ◌<◌, ◌+◌, ◌∷◌, [], ℕ, List, length, drop, false, true, Err, IsTrue, IfOk, IfSome, MatchOption, option_map, ◌||◌, ◌==◌};
 ghost use Rattle.std.specs.List.{list_any};
 ghost use Rattle.ddl_parts.specs.Lexemes.{Lexeme, is_word, is_sign, is_sign_kind, starts, start_of};
-ghost use Rattle.ddl_parts.specs.Leaves.{name, literal, name_in, text_in, is_name, is_name_kind, is_literal, is_literal_kind};
+ghost use Rattle.ddl_parts.specs.Leaves.{name, literal, name_in, name_value, text_in, is_name, is_name_kind, is_literal, is_literal_kind};
 ghost use Rattle.ddl_parts.specs.Parts.{Part, mark, stop};
-ghost use Rattle.ddl_parts.specs.Expressions.{expression};
+ghost use Rattle.ddl_parts.specs.Expressions.{expression, default_text, default_and_null};
+ghost use Rattle.ddl_parts.specs.Types.{type_part};
 ghost use Rattle.ddl_parts.specs.Pieces.{lexeme_of, lexemes, are_joined, are_sound, GivesPlace, GivesPart};
 ghost use Rattle.ddl_parts.specs.declared.fault.ReadError.TheVariants.{Halted};
 
+use crate::defaults::default_and_null_at;
 use crate::fault::{Halt, ReadError};
 use crate::runs::run_at;
+use crate::types::type_at;
+use cat_model::TypeName;
 use copy_text::{Name, Text};
 use sql_lex::{Token, TokenKind, is_keyword, literal_text, token_name};
-use std::alloc::Global;
+use std::alloc::{AllocError, Global};
 use std::marker::Model;
 
 /// The most bytes of a name: PostgreSQL's NAMEDATALEN less one.
@@ -133,6 +137,32 @@ impl<'a> Pieces<'a> {
     {
         run_at(alloc, self.text, &self.pieces, at, false, false)
     }
+
+    /// The text of the default at a place, which NOT NULL may not follow, and the place behind it.
+    #[tactic(auto, unfolding(crate::specs::Expressions::default_text))]
+    pub fn default_text(&self, alloc: Global, at: usize) -> Result<(Text, usize), ReadError>
+        ensures { GivesPart self.now (λ t. t) result (default_text.read (drop at self.now)) }
+    {
+        run_at(alloc, self.text, &self.pieces, at, true, false)
+    }
+
+    /// The text of the default at a place, whether NOT NULL follows it, and the place behind both.
+    pub fn default_and_null(
+        &self,
+        alloc: Global,
+        at: usize,
+    ) -> Result<((Text, bool), usize), ReadError>
+        ensures { GivesPart self.now (λ x. (x.0, x.1)) result (default_and_null.read (drop at self.now)) }
+    {
+        default_and_null_at(alloc, self.text, &self.pieces, at)
+    }
+
+    /// The type at a place, and the place behind it.
+    pub fn type_name(&self, alloc: Global, at: usize) -> Result<(TypeName, usize), ReadError>
+        ensures { GivesPart self.now (λ t. t) result (type_part.read (drop at self.now)) }
+    {
+        type_at(alloc, self.text, &self.pieces, at)
+    }
 }
 
 /// The token at a place.
@@ -167,7 +197,7 @@ pub(crate) fn halt<T>(at: usize) -> Result<T, ReadError>
 }
 
 #[tactic(auto, unfolding(crate::specs::Lexemes::is_word))]
-fn is_word_at(text: &[u8], pieces: &[Piece], at: usize, key: &str) -> bool
+pub(crate) fn is_word_at(text: &[u8], pieces: &[Piece], at: usize, key: &str) -> bool
     requires { are_joined (length text.now) pieces.now ≡ true }
     ensures { result ≡ starts (is_word key.now) (drop at (lexemes text.now pieces.now)) }
 {
@@ -188,7 +218,7 @@ pub(crate) fn is_sign_kind(kind: TokenKind, byte: u8) -> bool
 }
 
 #[tactic(auto, unfolding(crate::specs::Lexemes::is_sign))]
-fn is_sign_at(text: &[u8], pieces: &[Piece], at: usize, byte: u8) -> bool
+pub(crate) fn is_sign_at(text: &[u8], pieces: &[Piece], at: usize, byte: u8) -> bool
     requires { are_joined (length text.now) pieces.now ≡ true }
     ensures { result ≡ starts (is_sign byte) (drop at (lexemes text.now pieces.now)) }
 {
@@ -264,8 +294,21 @@ fn sign_at(text: &[u8], pieces: &[Piece], at: usize, byte: u8) -> Result<usize, 
     }
 }
 
+/// The name that a token stands for; the error says whether it is one but for its length.
 #[tactic(auto, unfolding(crate::specs::Leaves::name_value))]
-fn name_at(
+pub(crate) fn name_value(
+    alloc: Global,
+    text: &[u8],
+    piece: Piece,
+) -> Result<Result<Name, bool>, AllocError>
+    requires low { piece.token.start ≤ piece.token.end }
+    requires high { piece.token.end ≤ length text.now }
+    ensures { IfOk result (λ name. name ≡ name_value (lexeme_of text.now piece)) }
+{
+    Ok(name_in(token_name(alloc, text, piece.token)?))
+}
+
+pub(crate) fn name_at(
     alloc: Global,
     text: &[u8],
     pieces: &[Piece],
@@ -277,8 +320,7 @@ fn name_at(
     let Some(piece) = piece_at(text, pieces, at) else {
         return halt(at);
     };
-    let name = name_in(token_name(alloc, text, piece.token)?);
-    match name {
+    match name_value(alloc, text, piece)? {
         Ok(name) => Ok((name, at + 1)),
         Err(long) => Err(ReadError::Halted(Halt { long, at })),
     }

@@ -260,7 +260,7 @@ fn source_between<'a>(text: &'a [u8], pieces: &[Piece], from: usize, end: usize)
 }
 
 /// The text of a run of tokens that is UTF-8.
-fn text_between(
+pub(crate) fn text_between(
     alloc: Global,
     text: &[u8],
     pieces: &[Piece],

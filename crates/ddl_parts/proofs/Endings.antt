@@ -1,0 +1,26 @@
+-- The last two tokens of a run.
+use Rattle.std.proofs.Common.{◌≡◌, ◌+◌, ◌-◌, ◌≤◌, ℕ, Bool, List, [], ◌∷◌, ◌&&◌, length, take, drop, codes, refl, ap, ◌∙◌, arith}
+use Rattle.std.proofs.lemmas.List.{drop-take, length-drop}
+use Rattle.ddl_parts.specs.Lexemes.{Lexeme, is_word, starts}
+use Rattle.ddl_parts.specs.Expressions.{are_not_null}
+use Rattle.ddl_parts.proofs.Slices.{drop_twice}
+
+last_two : (ts : List Lexeme) (from end : ℕ) → from + 2 ≤ end → drop (end - from - 2) (take (end - from) (drop from ts)) ≡ take 2 (drop (end - 2) ts)
+last_two ts from end le =
+    ap (λ n. drop (end - from - 2) (take n (drop from ts))) (let e : end - from ≡ (end - from - 2) + 2 = omega arith in e)
+    ∙ drop-take (end - from - 2) 2 (drop from ts)
+    ∙ ap (take 2) (drop_twice (end - from - 2) from ts)
+    ∙ ap (λ n. take 2 (drop n ts)) (let e : from + (end - from - 2) ≡ end - 2 = omega arith in e)
+
+first_two : (ts : List Lexeme) → 2 ≤ length ts → are_not_null (take 2 ts) ≡ (starts (is_word (codes "not")) ts && starts (is_word (codes "null")) (drop 1 ts))
+first_two [] le = absurd (omega arith)
+first_two (a ∷ []) le = absurd (omega arith)
+first_two (a ∷ b ∷ ts) le = refl
+
+-- a run ends with NOT NULL where these two stand before its end
+pub ends_null : (ts : List Lexeme) (from end : ℕ) → from + 2 ≤ end → end ≤ length ts
+    → are_not_null (drop (end - from - 2) (take (end - from) (drop from ts))) ≡ (starts (is_word (codes "not")) (drop (end - 2) ts) && starts (is_word (codes "null")) (drop (end - 1) ts))
+ends_null ts from end le high =
+    ap are_not_null (last_two ts from end le)
+    ∙ first_two (drop (end - 2) ts) (omega (arith, length-drop (end - 2) ts))
+    ∙ ap (λ (r : List Lexeme). starts (is_word (codes "not")) (drop (end - 2) ts) && starts (is_word (codes "null")) r) (drop_twice 1 (end - 2) ts ∙ ap (λ n. drop n ts) (let e : end - 2 + 1 ≡ end - 1 = omega arith in e))

@@ -1,0 +1,142 @@
+-- The tokens of a type: how a step goes on, and those of a qualified name.
+use Rattle.std.proofs.Common.{◌≡◌, ℕ, zero, suc, ◌+◌, ◌-◌, ◌≤◌, Bool, true, false, cond, List, [], ◌∷◌, length, take, drop, Option, Some, None, Result, Ok, Err, is_ok, refl, sym, ap, subst, ◌∙◌, arith, option_and_then}
+use Rattle.std.proofs.lemmas.List.{length-drop}
+use Rattle.std.specs.Option.{ok_or}
+use Rattle.ddl_parts.specs.declared.types.TypeSpot.{TypeSpot}
+use Rattle.ddl_parts.specs.declared.types.TypeSpot.TheVariants.{Begin, FirstWord, Schema, Dotted, Path}
+use Rattle.cat_model.specs.declared.type_name.TypeName.{TypeName}
+use Rattle.cat_model.specs.declared.type_name.TypeName.TheVariants as type_name
+use Rattle.ddl_parts.specs.declared.fault.ReadError.{ReadError}
+use Rattle.ddl_parts.specs.declared.fault.ReadError.TheVariants.{Halted, Memory}
+use Rattle.ddl_parts.specs.Lexemes.{Lexeme, is_sign, starts, source}
+use Rattle.ddl_parts.specs.Leaves.{name_value}
+use Rattle.ddl_parts.specs.Parts.{Reading, Runs, run, scan, first_by, one_at, seen_at}
+use Rattle.ddl_parts.specs.Pieces.{Fails}
+use Rattle.ddl_parts.specs.Types.{typing, type_step, is_type_word, if_name, named, type_of, type_part}
+use Rattle.ddl_parts.proofs.Steps.{gives}
+use Rattle.ddl_parts.proofs.Slices.{drop_twice}
+use Rattle.ddl_parts.proofs.Machines.{run_none, machine_laws}
+use Rattle.ddl_parts.proofs.RunLaws.{typing_ends}
+
+abbrev gone : TypeSpot → Result TypeSpot Bool
+gone x = Ok x
+
+abbrev held : Bool → Result TypeSpot Bool
+held long = Err long
+
+pub goes : (next : Option TypeSpot) (long : Bool) (x : TypeSpot) → gone x ≡ ok_or next long → next ≡ Some x
+goes (Some y) long x e = cc
+goes None long x e = absurd cc
+
+pub stays : (next : Option TypeSpot) (long long' : Bool) → held long' ≡ ok_or next long → (next ≡ None) × (long ≡ long')
+stays (Some y) long long' e = absurd cc
+stays None long long' e = (refl, cc)
+
+-- ---- a qualified name
+
+-- both stand for names
+pub record AreNames (a b : Lexeme) : Type 0 where
+  pub schema : List ℕ
+  pub schema_is : name_value a ≡ Ok schema
+  pub name : List ℕ
+  pub name_is : name_value b ≡ Ok name
+
+-- the spot behind a first token and a dot
+abbrev behind_dot : Bool → Result (List ℕ) Bool → Lexeme → Option TypeSpot
+behind_dot words first dot = option_and_then (λ x. type_step x dot) (cond words (Some (FirstWord (is_ok first))) (if_name first Schema))
+
+dot_goes : (words : Bool) (first : Result (List ℕ) Bool) (dot : Lexeme) → is_sign 46 dot ≡ true → (s : TypeSpot) → behind_dot words first dot ≡ Some s → (n : List ℕ) × (first ≡ Ok n) × (s ≡ Dotted)
+unfolding type_step
+dot_goes true (Ok n) dot e s h = let h' = rw e at h in (n, refl, cc)
+dot_goes false (Ok n) dot e s h = let h' = rw e at h in (n, refl, cc)
+dot_goes true (Err long) dot e s h = let h' = rw e at h in absurd cc
+dot_goes false (Err long) dot e s h = absurd cc
+
+name_goes : (second : Result (List ℕ) Bool) (s : TypeSpot) → if_name second Path ≡ Some s → (n : List ℕ) × (second ≡ Ok n)
+name_goes (Ok n) s h = (n, refl)
+name_goes (Err long) s h = absurd cc
+
+-- a run that goes on has a state behind each token
+run_some : (o : Option TypeSpot) (ts : List Lexeme) (last : TypeSpot) → run typing o ts ≡ Some last → (s : TypeSpot) × (o ≡ Some s)
+run_some (Some s) ts last e = (s, refl)
+run_some None ts last e = absurd (cc (run_none typing ts))
+
+step_some : (o : Option TypeSpot) (t : Lexeme) (s : TypeSpot) → option_and_then (λ x. type_step x t) o ≡ Some s → (r : TypeSpot) × (o ≡ Some r) × (type_step r t ≡ Some s)
+step_some (Some r) t s e = (r, refl, e)
+step_some None t s e = absurd cc
+
+-- a type whose second token is a dot, with another behind it, has two names
+pub path_names : (a dot b : Lexeme) (ts : List Lexeme) (last : TypeSpot) → is_sign 46 dot ≡ true → run typing (Some Begin) (a ∷ dot ∷ b ∷ ts) ≡ Some last → AreNames a b
+unfolding type_step
+path_names a dot b ts last e h =
+    let second = run_some (option_and_then (λ x. type_step x b) (behind_dot (is_type_word a) (name_value a) dot)) ts last h in
+    let first = step_some (behind_dot (is_type_word a) (name_value a) dot) b second.0 second.1 in
+    let schema = dot_goes (is_type_word a) (name_value a) dot e first.0 first.1 in
+    let name = name_goes (name_value b) second.0 (ap (λ (x : TypeSpot). type_step x b) (sym schema.2) ∙ first.2) in
+    record { schema = schema.0; schema_is = schema.1; name = name.0; name_is = name.1 }
+
+scanned_runs : (ts taken rest : List Lexeme) → scan typing Begin ts ≡ Ok (taken, rest) → Runs typing taken
+scanned_runs ts taken rest e =
+    let f = (machine_laws typing typing_ends).found ts taken rest e in
+    subst (λ (x : List Lexeme). Runs typing x) (sym f.spells.0) f.spells.1
+
+-- the names of a type's tokens, as they are read one by one
+pub record ArePath (ts taken : List Lexeme) : Type 0 where
+  pub schema : List ℕ
+  pub schema_is : one_at name_value ts ≡ gives schema (drop 1 ts)
+  pub name : List ℕ
+  pub name_is : one_at name_value (drop 2 ts) ≡ gives name (drop 3 ts)
+  pub type_is : type_of taken ≡ type_name.Path (record { schema = schema; name = name })
+
+three_names : (a dot b : Lexeme) (ts taken : List Lexeme) → is_sign 46 dot ≡ true → AreNames a b → ArePath (a ∷ dot ∷ b ∷ ts) (a ∷ dot ∷ b ∷ taken)
+unfolding type_of
+three_names a dot b ts taken e n = record {
+  schema = n.schema;
+  schema_is = ap (first_by a (dot ∷ b ∷ ts)) n.schema_is;
+  name = n.name;
+  name_is = ap (first_by b ts) n.name_is;
+  type_is = rw (e, n.schema_is, n.name_is) refl;
+}
+
+-- a run of three tokens or more with a dot as the second is a qualified name
+pub path_is : (n : ℕ) (ts rest : List Lexeme) → 3 ≤ n → n ≤ length ts → starts (is_sign 46) (drop 1 ts) ≡ true → scan typing Begin ts ≡ Ok (take n ts, rest) → ArePath ts (take n ts)
+path_is zero ts rest le high e scanned = absurd (omega arith)
+path_is (suc zero) ts rest le high e scanned = absurd (omega arith)
+path_is (suc (suc zero)) ts rest le high e scanned = absurd (omega arith)
+path_is (suc (suc (suc n))) [] rest le high e scanned = absurd (omega arith)
+path_is (suc (suc (suc n))) (a ∷ []) rest le high e scanned = absurd (omega arith)
+path_is (suc (suc (suc n))) (a ∷ dot ∷ []) rest le high e scanned = absurd (omega arith)
+path_is (suc (suc (suc n))) (a ∷ dot ∷ b ∷ ts) rest le high e scanned =
+    let r = scanned_runs (a ∷ dot ∷ b ∷ ts) (a ∷ dot ∷ b ∷ take n ts) rest scanned in
+    three_names a dot b ts (take n ts) e (path_names a dot b (take n ts) r.last e r.runs)
+
+-- the same by places
+pub path_between : (ts : List Lexeme) (at end : ℕ) (dot : Bool) → (dot ≡ true → at + 3 ≤ end) → (at + 3 ≤ end → dot ≡ starts (is_sign 46) (drop (at + 1) ts)) → dot ≡ true → end ≤ length ts → scan typing Begin (drop at ts) ≡ Ok (take (end - at) (drop at ts), drop end ts)
+    → ArePath (drop at ts) (take (end - at) (drop at ts))
+path_between ts at end dot long exact is high e =
+    let le = long is in
+    path_is (end - at) (drop at ts) (drop end ts) (omega (arith, le)) (omega (arith, length-drop at ts)) (ap (starts (is_sign 46)) (drop_twice 1 at ts) ∙ sym (exact le) ∙ is) e
+
+-- another run is words
+pub words_are : (n : ℕ) (ts : List Lexeme) → (3 ≤ n → starts (is_sign 46) (drop 1 ts) ≡ false) → type_of (take n ts) ≡ type_name.Words (source (take n ts))
+unfolding type_of
+words_are zero ts no_dot = refl
+words_are (suc zero) [] no_dot = refl
+words_are (suc zero) (a ∷ ts) no_dot = refl
+words_are (suc (suc zero)) [] no_dot = refl
+words_are (suc (suc zero)) (a ∷ []) no_dot = refl
+words_are (suc (suc zero)) (a ∷ b ∷ ts) no_dot = refl
+words_are (suc (suc (suc n))) [] no_dot = refl
+words_are (suc (suc (suc n))) (a ∷ []) no_dot = refl
+words_are (suc (suc (suc n))) (a ∷ b ∷ []) no_dot = refl
+words_are (suc (suc (suc n))) (a ∷ dot ∷ b ∷ ts) no_dot = let e : is_sign 46 dot ≡ false = no_dot (omega arith) in rw e refl
+
+-- the type of the tokens that were scanned
+pub type_is : (ts taken rest : List Lexeme) (t : TypeName) → scan typing Begin ts ≡ Ok (taken, rest) → type_of taken ≡ t → type_part.read ts ≡ Ok (t, rest)
+unfolding type_part
+type_is ts taken rest t e is = ap (seen_at type_of) e ∙ ap (λ (x : TypeName). gives x rest) is
+
+-- what was read can't have failed
+pub read_fails : {A B : Type 0} (ts : List Lexeme) (error : ReadError) (given : Reading A) (whole : Reading B) (v : A) (rest : List Lexeme) → given ≡ gives v rest → Fails ts error given → Fails ts error whole
+read_fails ts Memory given whole v rest e fails = tt
+read_fails ts (Halted h) given whole v rest e fails = absurd (cc (e, fails))
