@@ -5,6 +5,7 @@ pub mod ReadingLaws
 pub mod Standing
 pub mod Tokens
 pub mod Kept
+pub mod RunTexts
 pub mod Expressions
 pub mod Layouts
 pub mod Respelled
