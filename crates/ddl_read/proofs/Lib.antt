@@ -6,6 +6,7 @@ pub mod ReadingLaws
 pub mod Standing
 pub mod Tokens
 pub mod Kept
+pub mod RunTexts
 pub mod Expressions
 pub mod Putting
 pub mod Layouts

@@ -1,15 +1,18 @@
 -- Statements that can be written, and the spellings of several joined.
-use Rattle.std.specs.Prelude.{◌≡◌, ℕ, false, List, [], ◌∷◌, ◌++◌, map, length, Option, Some, None}
+use Rattle.std.specs.Prelude.{◌≡◌, ℕ, true, false, List, [], ◌∷◌, ◌++◌, map, length, Option, Some, None}
 use Rattle.copy_text.specs.Texts.{IsName, IsText}
 use Rattle.cat_model.specs.declared.object.QName.{QName}
 use Rattle.cat_model.specs.declared.grant.Owned.{Owned}
 use Rattle.cat_model.specs.declared.grant.Owned.TheVariants as owned
 use Rattle.cat_model.specs.declared.stmt.Stmt.{Stmt}
 use Rattle.cat_model.specs.declared.stmt.Stmt.TheVariants as stmt
-use Rattle.ddl_parts.specs.Parts.{Runs}
+use Rattle.cat_model.specs.declared.type_name.TypeName.{TypeName}
+use Rattle.cat_model.specs.declared.type_name.TypeName.TheVariants as type_name
+use Rattle.ddl_parts.specs.Parts.{Machine, Runs}
 use Rattle.ddl_parts.specs.Pieces.{lexemes}
 use Rattle.ddl_parts.specs.Collecting.{collected}
 use Rattle.ddl_parts.specs.Expressions.{nested}
+use Rattle.ddl_parts.specs.Types.{typing, type_of}
 use Rattle.ddl_write.specs.Spelling.{spelling}
 use Rattle.ddl_read.specs.declared.located.Located.{Located}
 use Rattle.ddl_read.specs.Reading.{first_start}
@@ -27,11 +30,29 @@ IsOwnedName (owned.Sequence q) = IsPath q
 IsOwnedName (owned.View q) = IsPath q
 IsOwnedName (owned.Database n) = IsName n
 
--- An expression and nothing else: the text begins with its first token and ends with its last.
-pub record IsExpressionText (v : List ℕ) : Type 0 where
+-- A run of tokens and nothing else: the text begins with its first token and ends with its last.
+pub record IsRunText (m : Machine) (v : List ℕ) : Type 0 where
   pub first : first_start (collected v 0).pieces ≡ Some 0
   pub last : (collected v 0).end ≡ length v
-  pub runs : Runs (nested false false) (lexemes v (collected v 0).pieces)
+  pub runs : Runs m (lexemes v (collected v 0).pieces)
+
+-- an expression
+abbrev pub IsExpressionText : List ℕ → Type 0
+IsExpressionText v = IsRunText (nested false false) v
+
+-- a default that NOT NULL may not follow
+abbrev pub IsDefaultText : List ℕ → Type 0
+IsDefaultText v = IsRunText (nested true false) v
+
+-- the words of a type, which are no qualified name
+pub record IsTypeText (v : List ℕ) : Type 0 where
+  pub run : IsRunText typing v
+  pub words : type_of (lexemes v (collected v 0).pieces) ≡ type_name.Words v
+
+-- words that are a type, or a path
+abbrev pub IsType : TypeName → Type 0
+IsType (type_name.Words v) = IsTypeText v
+IsType (type_name.Path q) = IsPath q
 
 -- What a statement is made of is what it should be: names are names, texts are texts, expressions are expressions. It
 -- says so for the kinds that are written.
