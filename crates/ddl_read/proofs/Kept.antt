@@ -1,9 +1,9 @@
 -- Tokens of a text are read as the same tokens in another text, where they are kept with what stands between them.
-use Rattle.std.proofs.Common.{◌≡◌, ℕ, zero, suc, ◌+◌, ◌-◌, ◌<◌, ◌≤◌, Bool, true, false, not, cond, ◌&&◌, ◌||◌, List, [], ◌∷◌, ◌++◌, length, length-append, append_assoc, append-nil, take, drop, Option, Some, None, Result, Ok, Err, refl, sym, ap, subst, ◌∙◌, ◌⊎◌, arith, inl, inr}
+use Rattle.std.proofs.Common.{◌≡◌, ℕ, zero, suc, ◌+◌, ◌-◌, ◌<◌, ◌≤◌, Bool, true, false, cond, ◌&&◌, List, [], ◌∷◌, ◌++◌, length, length-append, append_assoc, append-nil, take, drop, Option, Some, None, Result, Ok, Err, refl, sym, ap, subst, ◌∙◌, ◌⊎◌, arith, inl, inr}
 use Rattle.std.specs.Prelude.{◌==◌, slice_range}
 use Rattle.std.specs.List.{list_all}
 use Rattle.std.specs.Str.{is_utf8}
-use Rattle.std.proofs.lemmas.Bool.{and_parts, or_parts, cases_Bool}
+use Rattle.std.proofs.lemmas.Bool.{or_parts, cases_Bool}
 use Rattle.std.proofs.lemmas.Bool.Decides.{nat_tests}
 use Rattle.std.proofs.lemmas.List.{drop_at}
 use Rattle.std.proofs.lemmas.List.Folds.{drop_split}
@@ -11,23 +11,21 @@ use Rattle.sql_lex.specs.declared.token.TokenKind.{TokenKind}
 use Rattle.sql_lex.specs.declared.token.TokenKind.TheVariants.{Word, QuotedName, Literal, Number, Sign, MetaLine}
 use Rattle.sql_lex.specs.declared.token.Token.{Token}
 use Rattle.sql_lex.specs.declared.fault.LexFault.{LexFault}
-use Rattle.sql_lex.specs.Bytes.{is_blank, is_digit, begins_word, in_word, in_line, marks_escapes, next_is}
-use Rattle.sql_lex.specs.Pieces.{begins_line}
+use Rattle.sql_lex.specs.Bytes.{is_digit, begins_word, in_word, next_is}
 use Rattle.sql_lex.specs.Next.{next_token_of}
 use Rattle.sql_lex.specs.Meaning.{spelling}
 use Rattle.sql_lex.specs.Spelling.{Spells, IsGap, goes_on, goes_on_behind_dot}
-use Rattle.sql_lex.specs.Answers.{SoundIn, Between, nothing, gap, IsNext}
+use Rattle.sql_lex.specs.Answers.{Between, nothing, gap, IsNext}
 use Rattle.sql_lex.proofs.TextLaws.{next_found, piece_word}
 use Rattle.sql_lex.specs.Written.{quoted}
 use Rattle.sql_lex.proofs.PieceLaws.{quoted_is}
 use Rattle.sql_lex.proofs.Passing.{lies_behind}
 use Rattle.sql_lex.proofs.WriteLaws.{spelling_is_read, gap_is_passed}
-use Rattle.ddl_parts.specs.declared.pieces.Piece.{Piece}
 use Rattle.ddl_parts.specs.Lexemes.{Lexeme, spelled, is_sign_kind}
 use Rattle.ddl_parts.specs.Pieces.{lexeme_of, lexemes}
 use Rattle.ddl_parts.specs.Collecting.{Collected, collected, collected_within, collected_by, nothing_more, preceded}
 use Rattle.ddl_parts.proofs.Slices.{drop_twice, seam}
-use Rattle.ddl_read.proofs.Standing.{is_safe, is_safe_byte, GapStands, TokenStands, Stands, Stood}
+use Rattle.ddl_read.proofs.Standing.{is_safe, is_safe_byte, Stands, Stood}
 
 -- ---- tokens as they came
 

@@ -1,49 +1,30 @@
 -- The written spelling of each statement is laid out in tokens that stand wherever they are put, and they spell it.
-use Rattle.std.proofs.Common.{◌≡◌, ℕ, zero, suc, ◌+◌, Bool, true, false, not, cond, ◌&&◌, List, [], ◌∷◌, ◌++◌, length, append_assoc, append-nil, Option, Some, None, Result, Ok, Err, refl, sym, ap, subst, ◌∙◌, ◌⊎◌, inl, inr, codes}
-use Rattle.std.specs.Prelude.{◌==◌}
+use Rattle.std.proofs.Common.{◌≡◌, ℕ, true, List, [], ◌∷◌, ◌++◌, append_assoc, append-nil, Some, refl, sym, ap, subst, ◌∙◌, inl, inr, codes}
 use Rattle.std.specs.Str.{IsUtf8, is_utf8, chars}
-use Rattle.std.specs.List.{list_any}
 use Rattle.std.proofs.Math.Utf8.{encode}
-use Rattle.std.proofs.lemmas.Bool.{and_from}
-use Rattle.sql_lex.specs.declared.token.TokenKind.TheVariants.{Word, Literal, Sign}
 use Rattle.sql_lex.specs.Bytes.{is_blank, is_digit, begins_word, in_word, is_sign as is_sign_byte}
 use Rattle.sql_lex.specs.Meaning.{is_keyword_of}
-use Rattle.sql_lex.specs.Spelling.{IsWord}
 use Rattle.sql_lex.specs.Written.{written_name, written_literal}
-use Rattle.sql_lex.specs.ReadBack.{written_kind}
 use Rattle.copy_text.specs.Texts.{IsName}
 use Rattle.cat_model.specs.declared.object.QName.{QName}
+use Rattle.cat_model.specs.declared.table.CheckDef.{CheckDef}
 use Rattle.cat_model.specs.declared.grant.Owned.{Owned}
 use Rattle.cat_model.specs.declared.grant.Owned.TheVariants as owned
 use Rattle.cat_model.specs.declared.stmt.Stmt.{Stmt}
 use Rattle.cat_model.specs.declared.stmt.Stmt.TheVariants as stmt
-use Rattle.ddl_parts.specs.Lexemes.{Lexeme, is_word, is_sign, is_sign_kind, spelled}
-use Rattle.ddl_parts.specs.Parts.{Part, Branch, branch, one, one_of, mark, seen, choose, passes, ◌then◌, ◌▸◌, ◌◂◌}
-use Rattle.ddl_parts.specs.Leaves.{name, name_value, literal, literal_value, qualified}
-use Rattle.ddl_write.specs.Paths.{path}
-use Rattle.ddl_write.specs.Spelling.{owned_object, schema_text, set_text, setting_text, owner_text, check_text, domain_check_text, spelling}
-use Rattle.ddl_read.specs.Grammar.{semicolon, create_schema, created, new_owner, new_check, its_owner, one_more_check, domain_change, altered_domain, name_and_owner, path_and_owner, owned_name, owned_path, altered, selected, equals_or_to, setting, command, statement}
+use Rattle.ddl_parts.specs.Lexemes.{Lexeme, is_word, is_sign, spelled}
+use Rattle.ddl_parts.specs.Parts.{Part, mark, ◌then◌, ◌▸◌, ◌◂◌}
+use Rattle.ddl_parts.specs.Leaves.{name, literal, qualified}
+use Rattle.ddl_parts.specs.Expressions.{expression}
+use Rattle.ddl_write.specs.Paths.{path, ending}
+use Rattle.ddl_write.specs.Spelling.{owned_object, schema_text, set_text, setting_text, owner_text, check_text, domain_check_text}
+use Rattle.ddl_read.specs.Clauses.{semicolon, check_of, named_check}
+use Rattle.ddl_read.specs.Grammar.{create_schema, created, new_owner, new_check, its_owner, one_more_check, domain_changed, domain_change, altered_domain, name_and_owner, path_and_owner, owned_name, owned_path, altered, selected, equals_or_to, setting, command, statement}
 use Rattle.ddl_read.specs.Respelling.{IsPath, IsOwnedName, IsExpressionText}
 use Rattle.ddl_read.proofs.Closed.{only_last}
-use Rattle.ddl_parts.specs.Expressions.{expression}
-use Rattle.ddl_read.proofs.Kept.{spelled-append}
-use Rattle.ddl_read.proofs.Expressions.{IsKept, IsSafe, kept, placed-append, last_more, plain_last}
-use Rattle.ddl_read.proofs.Standing.{Stood, placed}
-use Rattle.ddl_read.proofs.Tokens.{word_token, sign_token, name_token, literal_token, Gap, none, space, indented, indent, a_word, a_sign, a_name, a_literal, name_means, literal_means, name_no_sign}
-
--- ---- what tokens spell
-
-pub marks : (test : Lexeme → Bool) (t : Lexeme) → test t ≡ true → (mark test).Spells tt (t ∷ [])
-marks test t e = (t, refl, ap (λ (b : Bool). cond b (Ok tt) (Err false)) e)
-
-pub leads : {A : Type 0} (test : Lexeme → Bool) (p : Part A) (t : Lexeme) (v : A) (ts : List Lexeme) → test t ≡ true → p.Spells v ts → (test ▸ p).Spells v (t ∷ ts)
-leads test p t v ts e spells = ((tt, v), refl, (t ∷ [], ts, refl, marks test t e, spells))
-
-pub ends : {A : Type 0} (test : Lexeme → Bool) (p : Part A) (t : Lexeme) (v : A) (ts : List Lexeme) → test t ≡ true → p.Spells v ts → (p ◂ test).Spells v (ts ++ t ∷ [])
-ends test p t v ts e spells = ((v, tt), refl, (ts, t ∷ [], refl, spells, marks test t e))
-
-pub follows : {A B : Type 0} (p : Part A) (q : Part B) (v : A) (w : B) (a b : List Lexeme) → p.Spells v a → q.Spells w b → (p then q).Spells (v, w) (a ++ b)
-follows p q v w a b f g = (a, b, refl, f, g)
+use Rattle.ddl_read.proofs.Standing.{is_safe_byte, Stood, placed}
+use Rattle.ddl_read.proofs.Tokens.{Gap, none, space, indented, indent}
+use Rattle.ddl_read.proofs.Putting.{begins_by, parts_words, Follows, IsPut, IsKey, IsWrittenSign, behind, begun, same_text, put_as, sign_put, name_put, literal_put, word_put, then_put, seen_put, close_put, word_lead, sign_lead, name_lead, path_lead, expression_put}
 
 -- how a statement is written, behind a gap
 pub record IsLaidOut (g : List ℕ) (s : Stmt) (text : List ℕ) : Type 0 where
@@ -53,496 +34,363 @@ pub record IsLaidOut (g : List ℕ) (s : Stmt) (text : List ℕ) : Type 0 where
   pub says : (at : ℕ) → statement.Spells (Some s) (placed at tokens)
   pub last : only_last semicolon tokens ≡ true
 
+pub laid_out : (g text : List ℕ) (s : Stmt) (whole : List ℕ) → IsPut statement (Some s) whole [] → whole ++ 10 ∷ [] ≡ g ++ text → IsLaidOut g s text
+laid_out g text s whole k e = record {
+  tokens = k.tokens;
+  bytes = ap (λ (x : List ℕ). x ++ 10 ∷ []) k.bytes ∙ e;
+  stood = subst Stood (append-nil k.tokens) k.stood;
+  says = k.spells;
+  last = ap (only_last semicolon) (sym (append-nil k.tokens)) ∙ k.last;
+}
+
+-- ---- key words and signs
+
+pub create_key : IsKey (codes "create") (codes "CREATE")
+unfolding begins_word in_word is_digit is_utf8 chars encode is_keyword_of
+create_key = record { word = (refl, refl); utf8 = refl; same = refl }
+
+pub schema_key : IsKey (codes "schema") (codes "SCHEMA")
+unfolding begins_word in_word is_digit is_utf8 chars encode is_keyword_of
+schema_key = record { word = (refl, refl); utf8 = refl; same = refl }
+
+pub type_key : IsKey (codes "type") (codes "TYPE")
+unfolding begins_word in_word is_digit is_utf8 chars encode is_keyword_of
+type_key = record { word = (refl, refl); utf8 = refl; same = refl }
+
+pub domain_key : IsKey (codes "domain") (codes "DOMAIN")
+unfolding begins_word in_word is_digit is_utf8 chars encode is_keyword_of
+domain_key = record { word = (refl, refl); utf8 = refl; same = refl }
+
+pub table_key : IsKey (codes "table") (codes "TABLE")
+unfolding begins_word in_word is_digit is_utf8 chars encode is_keyword_of
+table_key = record { word = (refl, refl); utf8 = refl; same = refl }
+
+sequence_key : IsKey (codes "sequence") (codes "SEQUENCE")
+unfolding begins_word in_word is_digit is_utf8 chars encode is_keyword_of
+sequence_key = record { word = (refl, refl); utf8 = refl; same = refl }
+
+view_key : IsKey (codes "view") (codes "VIEW")
+unfolding begins_word in_word is_digit is_utf8 chars encode is_keyword_of
+view_key = record { word = (refl, refl); utf8 = refl; same = refl }
+
+database_key : IsKey (codes "database") (codes "DATABASE")
+unfolding begins_word in_word is_digit is_utf8 chars encode is_keyword_of
+database_key = record { word = (refl, refl); utf8 = refl; same = refl }
+
+alter_key : IsKey (codes "alter") (codes "ALTER")
+unfolding begins_word in_word is_digit is_utf8 chars encode is_keyword_of
+alter_key = record { word = (refl, refl); utf8 = refl; same = refl }
+
+owner_key : IsKey (codes "owner") (codes "OWNER")
+unfolding begins_word in_word is_digit is_utf8 chars encode is_keyword_of
+owner_key = record { word = (refl, refl); utf8 = refl; same = refl }
+
+to_key : IsKey (codes "to") (codes "TO")
+unfolding begins_word in_word is_digit is_utf8 chars encode is_keyword_of
+to_key = record { word = (refl, refl); utf8 = refl; same = refl }
+
+select_key : IsKey (codes "select") (codes "SELECT")
+unfolding begins_word in_word is_digit is_utf8 chars encode is_keyword_of
+select_key = record { word = (refl, refl); utf8 = refl; same = refl }
+
+catalog_key : IsKey (codes "pg_catalog") (codes "pg_catalog")
+unfolding begins_word in_word is_digit is_utf8 chars encode is_keyword_of
+catalog_key = record { word = (refl, refl); utf8 = refl; same = refl }
+
+config_key : IsKey (codes "set_config") (codes "set_config")
+unfolding begins_word in_word is_digit is_utf8 chars encode is_keyword_of
+config_key = record { word = (refl, refl); utf8 = refl; same = refl }
+
+false_key : IsKey (codes "false") (codes "false")
+unfolding begins_word in_word is_digit is_utf8 chars encode is_keyword_of
+false_key = record { word = (refl, refl); utf8 = refl; same = refl }
+
+set_key : IsKey (codes "set") (codes "SET")
+unfolding begins_word in_word is_digit is_utf8 chars encode is_keyword_of
+set_key = record { word = (refl, refl); utf8 = refl; same = refl }
+
+add_key : IsKey (codes "add") (codes "ADD")
+unfolding begins_word in_word is_digit is_utf8 chars encode is_keyword_of
+add_key = record { word = (refl, refl); utf8 = refl; same = refl }
+
+constraint_key : IsKey (codes "constraint") (codes "CONSTRAINT")
+unfolding begins_word in_word is_digit is_utf8 chars encode is_keyword_of
+constraint_key = record { word = (refl, refl); utf8 = refl; same = refl }
+
+check_key : IsKey (codes "check") (codes "CHECK")
+unfolding begins_word in_word is_digit is_utf8 chars encode is_keyword_of
+check_key = record { word = (refl, refl); utf8 = refl; same = refl }
+
+pub dot_sign : IsWrittenSign 46
+unfolding is_sign_byte is_blank is_utf8 chars encode
+dot_sign = record { sign = refl; solid = refl; utf8 = refl; minus = refl; slash = refl; same = refl }
+
+pub comma_sign : IsWrittenSign 44
+unfolding is_sign_byte is_blank is_utf8 chars encode
+comma_sign = record { sign = refl; solid = refl; utf8 = refl; minus = refl; slash = refl; same = refl }
+
+pub opening_sign : IsWrittenSign 40
+unfolding is_sign_byte is_blank is_utf8 chars encode
+opening_sign = record { sign = refl; solid = refl; utf8 = refl; minus = refl; slash = refl; same = refl }
+
+pub closing_sign : IsWrittenSign 41
+unfolding is_sign_byte is_blank is_utf8 chars encode
+closing_sign = record { sign = refl; solid = refl; utf8 = refl; minus = refl; slash = refl; same = refl }
+
+equals_sign : IsWrittenSign 61
+unfolding is_sign_byte is_blank is_utf8 chars encode
+equals_sign = record { sign = refl; solid = refl; utf8 = refl; minus = refl; slash = refl; same = refl }
+
+semicolon_sign : IsWrittenSign 59
+unfolding is_sign_byte is_blank is_utf8 chars encode
+semicolon_sign = record { sign = refl; solid = refl; utf8 = refl; minus = refl; slash = refl; same = refl }
+
+-- the semicolon that ends a statement
+pub ended : IsPut (mark semicolon) tt (59 ∷ []) []
+ended = sign_put 59 [] [] semicolon_sign (inr refl) none (record { stood = tt; last = refl })
+
+-- ---- the first word
+
+pub create_put : (g : List ℕ) (s : Stmt) (b : List ℕ) → Gap g → IsPut created s b [] → begins_by parts_words b ≡ true → IsPut statement (Some s) ((g ++ codes "CREATE") ++ b) []
+unfolding statement command
+create_put g s b gap k e =
+    put_as (is_word (codes "create") ▸ created) statement s (Some s) ((g ++ codes "CREATE") ++ b) [] (word_lead (codes "create") (codes "CREATE") g created s b [] create_key gap k e)
+    (λ ts h. inr (s, refl, inl h))
+
+alter_put : (g : List ℕ) (s : Stmt) (b : List ℕ) → Gap g → IsPut altered s b [] → begins_by parts_words b ≡ true → IsPut statement (Some s) ((g ++ codes "ALTER") ++ b) []
+unfolding statement command
+alter_put g s b gap k e =
+    put_as (is_word (codes "alter") ▸ altered) statement s (Some s) ((g ++ codes "ALTER") ++ b) [] (word_lead (codes "alter") (codes "ALTER") g altered s b [] alter_key gap k e)
+    (λ ts h. inr (s, refl, inr (inl h)))
+
 -- ---- CREATE SCHEMA
 
-abbrev schema_tokens : List ℕ → List ℕ → List Lexeme
-schema_tokens g n = word_token g (codes "CREATE") ∷ word_token (32 ∷ []) (codes "SCHEMA") ∷ name_token (32 ∷ []) n ∷ sign_token [] 59 ∷ []
-
-schema_stood : (g n : List ℕ) → Gap g → IsName n → Stood (schema_tokens g n)
-unfolding is_blank in_word begins_word is_digit is_sign_byte is_utf8 chars encode
-schema_stood g n gap is = (
-  a_word g (codes "CREATE") 32 _ gap (refl, refl) refl refl refl,
-  (
-    a_word (32 ∷ []) (codes "SCHEMA") 32 _ space (refl, refl) refl refl refl,
-    (
-      a_name (32 ∷ []) n 59 _ space is.utf8 refl refl refl,
-      (
-        a_sign [] 59 _ none refl refl refl refl refl,
-        tt,
-      ),
-    ),
-  ),
-)
-
-schema_says : (g n : List ℕ) → IsName n → (at : ℕ) → statement.Spells (Some (stmt.CreateSchema n)) (placed at (schema_tokens g n))
-unfolding statement command created create_schema is_word is_sign is_keyword_of
-schema_says g n is at =
-    inr (
-      stmt.CreateSchema n,
-      refl,
-      (inl (leads (is_word (codes "create")) created _ (stmt.CreateSchema n) _ refl
-          (leads (is_word (codes "schema")) create_schema _ (stmt.CreateSchema n) _ refl (n, refl, ends semicolon name _ n (_ ∷ []) refl (_, refl, name_means n is _ refl refl))))),
-    )
-
-schema_bytes : (g n : List ℕ) → spelled (schema_tokens g n) ++ 10 ∷ [] ≡ g ++ schema_text n
-unfolding schema_text
-schema_bytes g n = simp append_assoc
-
-schema_last : (g n : List ℕ) → only_last semicolon (schema_tokens g n) ≡ true
-unfolding is_sign
-schema_last g n = rw (name_no_sign 59 n) refl
-
 pub schema_laid_out : (g n : List ℕ) → Gap g → IsName n → IsLaidOut g (stmt.CreateSchema n) (schema_text n)
-schema_laid_out g n gap is = record {
-  tokens = schema_tokens g n;
-  bytes = schema_bytes g n;
-  stood = schema_stood g n gap is;
-  says = schema_says g n is;
-  last = schema_last g n;
-}
+unfolding created create_schema schema_text
+schema_laid_out g n gap is =
+    let named = name_put n (32 ∷ []) (ended.tokens ++ []) is space (behind ended) (begun parts_words ended refl) in
+    let closed = close_put name semicolon n ((32 ∷ []) ++ written_name n) (59 ∷ []) [] ended named in
+    let made = seen_put stmt.CreateSchema (name ◂ semicolon) n (((32 ∷ []) ++ written_name n) ++ 59 ∷ []) [] closed in
+    let s = stmt.CreateSchema n in
+    let b = ((32 ∷ []) ++ codes "SCHEMA") ++ (((32 ∷ []) ++ written_name n) ++ 59 ∷ []) in
+    let branch = word_lead (codes "schema") (codes "SCHEMA") (32 ∷ []) create_schema s (((32 ∷ []) ++ written_name n) ++ 59 ∷ []) [] schema_key space made refl in
+    let k : IsPut created s b [] = put_as (is_word (codes "schema") ▸ create_schema) created s s b [] branch (λ ts h. inl h) in
+    laid_out g (schema_text n) s ((g ++ codes "CREATE") ++ b) (create_put g s b gap k refl) (simp append_assoc)
 
 -- ---- SELECT pg_catalog.set_config
 
-abbrev config_tokens : List ℕ → List ℕ → List ℕ → List Lexeme
-config_tokens g n v =
-    word_token g (codes "SELECT") ∷ word_token (32 ∷ []) (codes "pg_catalog") ∷ sign_token [] 46 ∷ word_token [] (codes "set_config") ∷ sign_token [] 40 ∷ literal_token [] n
-    ∷ sign_token [] 44 ∷ literal_token (32 ∷ []) v ∷ sign_token [] 44 ∷ word_token (32 ∷ []) (codes "false") ∷ sign_token [] 41 ∷ sign_token [] 59 ∷ []
+abbrev config_end : Part (List ℕ)
+config_end = literal ◂ is_sign 44 ◂ is_word (codes "false") ◂ is_sign 41 ◂ semicolon
 
-config_stood : (g n v : List ℕ) → Gap g → IsUtf8 n → IsUtf8 v → Stood (config_tokens g n v)
-unfolding is_blank in_word begins_word is_digit is_sign_byte is_utf8 chars encode
-config_stood g n v gap name_utf8 value_utf8 = (
-  a_word g (codes "SELECT") 32 _ gap (refl, refl) refl refl refl,
-  (
-    a_word (32 ∷ []) (codes "pg_catalog") 46 _ space (refl, refl) refl refl refl,
-    (
-      a_sign [] 46 _ none refl refl refl refl refl,
-      (
-        a_word [] (codes "set_config") 40 _ none (refl, refl) refl refl refl,
-        (
-          a_sign [] 40 _ none refl refl refl refl refl,
-          (
-            a_literal [] n 44 _ none name_utf8 refl,
-            (
-              a_sign [] 44 _ none refl refl refl refl refl,
-              (
-                a_literal (32 ∷ []) v 44 _ space value_utf8 refl,
-                (
-                  a_sign [] 44 _ none refl refl refl refl refl,
-                  (
-                    a_word (32 ∷ []) (codes "false") 41 _ space (refl, refl) refl refl refl,
-                    (
-                      a_sign [] 41 _ none refl refl refl refl refl,
-                      (
-                        a_sign [] 59 _ none refl refl refl refl refl,
-                        tt,
-                      ),
-                    ),
-                  ),
-                ),
-              ),
-            ),
-          ),
-        ),
-      ),
-    ),
-  ),
-)
+abbrev config_values : Part (List ℕ × List ℕ)
+config_values = literal then (is_sign 44 ▸ config_end)
 
-abbrev value_end : Part (List ℕ)
-value_end = literal ◂ is_sign 44 ◂ is_word (codes "false") ◂ is_sign 41 ◂ semicolon
-
-abbrev values : Part (List ℕ × List ℕ)
-values = literal then (is_sign 44 ▸ value_end)
-
-config_says : (g n v : List ℕ) → IsUtf8 n → IsUtf8 v → (at : ℕ) → statement.Spells (Some (stmt.SetConfig n v)) (placed at (config_tokens g n v))
-unfolding statement command selected is_word is_sign is_keyword_of
-config_says g n v name_utf8 value_utf8 at =
-    let value = ends semicolon (literal ◂ is_sign 44 ◂ is_word (codes "false") ◂ is_sign 41) _ v (_ ∷ _ ∷ _ ∷ _ ∷ []) refl
-    (ends (is_sign 41) (literal ◂ is_sign 44 ◂ is_word (codes "false")) _ v (_ ∷ _ ∷ _ ∷ []) refl
-    (ends (is_word (codes "false")) (literal ◂ is_sign 44) _ v (_ ∷ _ ∷ []) refl
-    (ends (is_sign 44) literal _ v (_ ∷ []) refl (_, refl, literal_means v value_utf8 _ refl refl)))) in
-    inr (
-      stmt.SetConfig n v,
-      refl,
-      (inr (inr (inl (leads (is_word (codes "select")) selected _ (stmt.SetConfig n v) _ refl (
-        (n, v),
-        refl,
-        leads (is_word (codes "pg_catalog")) (is_sign 46 ▸ (is_word (codes "set_config") ▸ (is_sign 40 ▸ values))) _ (n, v) _ refl
-            (leads (is_sign 46) (is_word (codes "set_config") ▸ (is_sign 40 ▸ values)) _ (n, v) _ refl (leads (is_word (codes "set_config")) (is_sign 40 ▸ values) _ (n, v) _ refl (leads (is_sign 40) values _ (n, v) _ refl
-            (follows literal (is_sign 44 ▸ value_end) n v (_ ∷ []) _ (_, refl, literal_means n name_utf8 _ refl refl) (leads (is_sign 44) value_end _ v _ refl value))))),
-      ))))),
-    )
-
-config_bytes : (g n v : List ℕ) → spelled (config_tokens g n v) ++ 10 ∷ [] ≡ g ++ setting_text n v
-unfolding setting_text
-config_bytes g n v = simp append_assoc
+config_regrouped : (g a s b c d o n k v f z e line : List ℕ)
+    → ((g ++ a) ++ ((s ++ b) ++ (c ++ (d ++ (o ++ (n ++ (k ++ (((((s ++ v) ++ k) ++ (s ++ f)) ++ z) ++ e)))))))) ++ line
+    ≡ g ++ ((((((((a ++ s) ++ b) ++ c) ++ d) ++ o) ++ n) ++ ((k ++ s) ++ v)) ++ ((((k ++ s) ++ f) ++ z) ++ (e ++ line)))
+config_regrouped g a s b c d o n k v f z e line = simp append_assoc
 
 pub config_laid_out : (g n v : List ℕ) → Gap g → IsUtf8 n → IsUtf8 v → IsLaidOut g (stmt.SetConfig n v) (setting_text n v)
-unfolding is_sign
-config_laid_out g n v gap name_utf8 value_utf8 = record {
-  tokens = config_tokens g n v;
-  bytes = config_bytes g n v;
-  stood = config_stood g n v gap name_utf8 value_utf8;
-  says = config_says g n v name_utf8 value_utf8;
-  last = refl;
-}
+unfolding statement command selected setting_text
+config_laid_out g n v gap name_utf8 value_utf8 =
+    let bracket = sign_put 41 [] (ended.tokens ++ []) closing_sign (inl refl) none (behind ended) in
+    let word = word_put (codes "false") (codes "false") (32 ∷ []) (bracket.tokens ++ (ended.tokens ++ [])) false_key space (behind bracket) (begun parts_words bracket refl) in
+    let comma = sign_put 44 [] (word.tokens ++ (bracket.tokens ++ (ended.tokens ++ []))) comma_sign (inl refl) none (behind word) in
+    let value = literal_put v (32 ∷ []) (comma.tokens ++ (word.tokens ++ (bracket.tokens ++ (ended.tokens ++ [])))) value_utf8 space (behind comma) (begun parts_words comma refl) in
+    let t0 = (32 ∷ []) ++ written_literal v in
+    let t1 = t0 ++ 44 ∷ [] in
+    let t2 = t1 ++ ((32 ∷ []) ++ codes "false") in
+    let t3 = t2 ++ 41 ∷ [] in
+    let t4 = t3 ++ 59 ∷ [] in
+    let k1 = close_put literal (is_sign 44) v t0 (44 ∷ []) (word.tokens ++ (bracket.tokens ++ (ended.tokens ++ []))) comma value in
+    let k2 = close_put (literal ◂ is_sign 44) (is_word (codes "false")) v t1 ((32 ∷ []) ++ codes "false") (bracket.tokens ++ (ended.tokens ++ [])) word k1 in
+    let k3 = close_put (literal ◂ is_sign 44 ◂ is_word (codes "false")) (is_sign 41) v t2 (41 ∷ []) (ended.tokens ++ []) bracket k2 in
+    let k4 : IsPut config_end v t4 [] = close_put (literal ◂ is_sign 44 ◂ is_word (codes "false") ◂ is_sign 41) semicolon v t3 (59 ∷ []) [] ended k3 in
+    let k5 = sign_lead 44 [] config_end v t4 [] comma_sign refl none k4 in
+    let t5 = (44 ∷ []) ++ t4 in
+    let first = literal_put n [] (k5.tokens ++ []) name_utf8 none (behind k5) (begun parts_words k5 refl) in
+    let t6 = written_literal n ++ t5 in
+    let k6 : IsPut config_values (n, v) t6 [] = then_put literal (is_sign 44 ▸ config_end) n v (written_literal n) t5 [] k5 first in
+    let k7 = sign_lead 40 [] config_values (n, v) t6 [] opening_sign refl none k6 in
+    let t7 = (40 ∷ []) ++ t6 in
+    let k8 = word_lead (codes "set_config") (codes "set_config") [] (is_sign 40 ▸ config_values) (n, v) t7 [] config_key none k7 refl in
+    let t8 = codes "set_config" ++ t7 in
+    let k9 = sign_lead 46 [] (is_word (codes "set_config") ▸ (is_sign 40 ▸ config_values)) (n, v) t8 [] dot_sign refl none k8 in
+    let t9 = (46 ∷ []) ++ t8 in
+    let k10 = word_lead (codes "pg_catalog") (codes "pg_catalog") (32 ∷ []) (is_sign 46 ▸ (is_word (codes "set_config") ▸ (is_sign 40 ▸ config_values))) (n, v) t9 [] catalog_key space k9 refl in
+    let t10 = ((32 ∷ []) ++ codes "pg_catalog") ++ t9 in
+    let s = stmt.SetConfig n v in
+    let made : IsPut selected s t10 [] = seen_put (λ x. stmt.SetConfig x.0 x.1) (is_word (codes "pg_catalog") ▸ (is_sign 46 ▸ (is_word (codes "set_config") ▸ (is_sign 40 ▸ config_values)))) (n, v) t10 [] k10 in
+    let whole = (g ++ codes "SELECT") ++ t10 in
+    let k : IsPut statement (Some s) whole [] =
+    put_as (is_word (codes "select") ▸ selected) statement s (Some s) whole [] (word_lead (codes "select") (codes "SELECT") g selected s t10 [] select_key gap made refl) (λ ts h. inr (s, refl, inr (inr (inl h)))) in
+    laid_out g (setting_text n v) s whole k
+    (config_regrouped g (codes "SELECT") (32 ∷ []) (codes "pg_catalog") (46 ∷ []) (codes "set_config") (40 ∷ []) (written_literal n) (44 ∷ []) (written_literal v) (codes "false") (41 ∷ []) (59 ∷ []) (10 ∷ []))
 
 -- ---- ALTER .. OWNER TO
 
-abbrev owner_end : List ℕ → List Lexeme
-owner_end r = word_token (32 ∷ []) (codes "OWNER") ∷ word_token (32 ∷ []) (codes "TO") ∷ name_token (32 ∷ []) r ∷ sign_token [] 59 ∷ []
+abbrev owner_end : List ℕ → List ℕ
+owner_end r = ((32 ∷ []) ++ codes "OWNER") ++ (((32 ∷ []) ++ codes "TO") ++ (((32 ∷ []) ++ written_name r) ++ 59 ∷ []))
 
-abbrev name_owner_tokens : List ℕ → List ℕ → List ℕ → List ℕ → List Lexeme
-name_owner_tokens g kind n r = word_token g (codes "ALTER") ∷ word_token (32 ∷ []) kind ∷ name_token (32 ∷ []) n ∷ owner_end r
+new_owner_put : (r : List ℕ) → IsName r → IsPut new_owner r (owner_end r) []
+unfolding new_owner
+new_owner_put r is =
+    let named = name_put r (32 ∷ []) (ended.tokens ++ []) is space (behind ended) (begun parts_words ended refl) in
+    let t = ((32 ∷ []) ++ written_name r) ++ 59 ∷ [] in
+    let closed = close_put name semicolon r ((32 ∷ []) ++ written_name r) (59 ∷ []) [] ended named in
+    let to = word_lead (codes "to") (codes "TO") (32 ∷ []) (name ◂ semicolon) r t [] to_key space closed refl in
+    word_lead (codes "owner") (codes "OWNER") (32 ∷ []) (is_word (codes "to") ▸ (name ◂ semicolon)) r (((32 ∷ []) ++ codes "TO") ++ t) [] owner_key space to refl
 
-abbrev path_owner_tokens : List ℕ → List ℕ → QName → List ℕ → List Lexeme
-path_owner_tokens g kind q r = word_token g (codes "ALTER") ∷ word_token (32 ∷ []) kind ∷ name_token (32 ∷ []) q.schema ∷ sign_token [] 46 ∷ name_token [] q.name ∷ owner_end r
+abbrev name_owner_end : List ℕ → List ℕ → List ℕ
+name_owner_end n r = ((32 ∷ []) ++ written_name n) ++ owner_end r
 
-owner_end_stood : (r : List ℕ) → IsName r → Stood (owner_end r)
-unfolding is_blank in_word begins_word is_digit is_sign_byte is_utf8 chars encode
-owner_end_stood r is = (
-  a_word (32 ∷ []) (codes "OWNER") 32 _ space (refl, refl) refl refl refl,
-  (
-    a_word (32 ∷ []) (codes "TO") 32 _ space (refl, refl) refl refl refl,
-    (
-      a_name (32 ∷ []) r 59 _ space is.utf8 refl refl refl,
-      (
-        a_sign [] 59 _ none refl refl refl refl refl,
-        tt,
-      ),
-    ),
-  ),
-)
+abbrev path_owner_end : QName → List ℕ → List ℕ
+path_owner_end q r = ((32 ∷ []) ++ path q) ++ owner_end r
 
-name_owner_stood : (g kind n r : List ℕ) → Gap g → IsWord kind → is_utf8 kind ≡ true → IsName n → IsName r → Stood (name_owner_tokens g kind n r)
-unfolding in_word begins_word is_digit is_utf8 chars encode
-name_owner_stood g kind n r gap word utf8 is role = (
-  a_word g (codes "ALTER") 32 _ gap (refl, refl) refl refl refl,
-  (
-    a_word (32 ∷ []) kind 32 _ space word utf8 refl refl,
-    (
-      a_name (32 ∷ []) n 32 _ space is.utf8 refl refl refl,
-      owner_end_stood r role,
-    ),
-  ),
-)
-
-path_owner_stood : (g kind : List ℕ) (q : QName) (r : List ℕ) → Gap g → IsWord kind → is_utf8 kind ≡ true → IsName q.schema → IsName q.name → IsName r → Stood (path_owner_tokens g kind q r)
-unfolding is_blank in_word begins_word is_digit is_sign_byte is_utf8 chars encode
-path_owner_stood g kind q r gap word utf8 schema is role = (
-  a_word g (codes "ALTER") 32 _ gap (refl, refl) refl refl refl,
-  (
-    a_word (32 ∷ []) kind 32 _ space word utf8 refl refl,
-    (
-      a_name (32 ∷ []) q.schema 46 _ space schema.utf8 refl refl refl,
-      (
-        a_sign [] 46 _ none refl refl refl refl refl,
-        (
-          a_name [] q.name 32 _ none is.utf8 refl refl refl,
-          owner_end_stood r role,
-        ),
-      ),
-    ),
-  ),
-)
-
-new_owner_says : (r : List ℕ) → IsName r → (at : ℕ) → new_owner.Spells r (placed at (owner_end r))
-unfolding new_owner is_word is_sign is_keyword_of
-new_owner_says r is at =
-    leads (is_word (codes "owner")) (is_word (codes "to") ▸ (name ◂ semicolon)) _ r _ refl (leads (is_word (codes "to")) (name ◂ semicolon) _ r _ refl (ends semicolon name _ r (_ ∷ []) refl (_, refl, name_means r is _ refl refl)))
-
--- the tokens behind the kind of an object
-abbrev behind_name : List ℕ → List ℕ → List Lexeme
-behind_name n r = name_token (32 ∷ []) n ∷ owner_end r
-
-abbrev behind_path : QName → List ℕ → List Lexeme
-behind_path q r = name_token (32 ∷ []) q.schema ∷ sign_token [] 46 ∷ name_token [] q.name ∷ owner_end r
-
-name_owner_says : (n r : List ℕ) → IsName n → IsName r → (at : ℕ) → name_and_owner.Spells (n, r) (placed at (behind_name n r))
+name_owner_put : (n r : List ℕ) → IsName n → IsName r → IsPut name_and_owner (n, r) (name_owner_end n r) []
 unfolding name_and_owner
-name_owner_says n r is role at = follows name new_owner n r (_ ∷ []) _ (_, refl, name_means n is _ refl refl) (new_owner_says r role _)
+name_owner_put n r is role = name_lead n (32 ∷ []) new_owner r (owner_end r) [] is space (new_owner_put r role) refl
 
-path_owner_says : (q : QName) (r : List ℕ) → IsName q.schema → IsName q.name → IsName r → (at : ℕ) → path_and_owner.Spells (q, r) (placed at (behind_path q r))
-unfolding path_and_owner is_sign
-path_owner_says q r schema is role at =
-    let pair : qualified.Spells q (_ ∷ _ ∷ _ ∷ []) =
-    ((q.schema, q.name), refl, follows name (is_sign 46 ▸ name) q.schema q.name (_ ∷ []) (_ ∷ _ ∷ []) (_, refl, name_means q.schema schema _ refl refl) (leads (is_sign 46) name _ q.name (_ ∷ []) refl (_, refl, name_means q.name is _ refl refl))) in
-    follows qualified new_owner q r (_ ∷ _ ∷ _ ∷ []) _ pair (new_owner_says r role _)
+path_owner_put : (q : QName) (r : List ℕ) → IsPath q → IsName r → IsPut path_and_owner (q, r) (path_owner_end q r) []
+unfolding path_and_owner
+path_owner_put q r is role = path_lead q (32 ∷ []) new_owner r (owner_end r) [] is space (new_owner_put r role) refl
 
--- the three tokens of a path
-path_says : (q : QName) → IsPath q → (a b c : ℕ) → qualified.Spells q (record { gap = 32 ∷ []; kind = written_kind q.schema; word = written_name q.schema; start = a } ∷ record { gap = []; kind = Sign 46; word = 46 ∷ []; start = b } ∷ record { gap = []; kind = written_kind q.name; word = written_name q.name; start = c } ∷ [])
-unfolding is_sign
-path_says q path a b c =
-    ((q.schema, q.name), refl, follows name (is_sign 46 ▸ name) q.schema q.name (_ ∷ []) (_ ∷ _ ∷ []) (_, refl, name_means q.schema path.0 _ refl refl) (leads (is_sign 46) name _ q.name (_ ∷ []) refl (_, refl, name_means q.name path.1 _ refl refl)))
+owner_regrouped : (g a s w n o t r e line : List ℕ)
+    → ((g ++ a) ++ ((s ++ w) ++ ((s ++ n) ++ ((s ++ o) ++ ((s ++ t) ++ ((s ++ r) ++ e)))))) ++ line
+    ≡ g ++ (((((a ++ s) ++ (w ++ (s ++ n))) ++ ((((s ++ o) ++ s) ++ t) ++ s)) ++ r) ++ (e ++ line))
+owner_regrouped g a s w n o t r e line = simp append_assoc
 
-domain_owner_says : (q : QName) (r : List ℕ) → IsPath q → IsName r → (at : ℕ) → (qualified then domain_change).Spells (q, its_owner r) (placed at (behind_path q r))
-unfolding domain_change
-domain_owner_says q r path role at = follows qualified domain_change q (its_owner r) (_ ∷ _ ∷ _ ∷ []) _ (path_says q path _ _ _) (inl (r, refl, new_owner_says r role _))
+abbrev owner_is : (g w n r : List ℕ) → Type 0
+owner_is g w n r =
+    ((g ++ codes "ALTER") ++ (((32 ∷ []) ++ w) ++ (((32 ∷ []) ++ n) ++ owner_end r))) ++ 10 ∷ []
+    ≡ g ++ ((((codes "ALTER " ++ (w ++ 32 ∷ n)) ++ codes " OWNER TO ") ++ written_name r) ++ ending)
 
--- what stands behind ALTER says whose owner changes
-abbrev Alters : Owned → List ℕ → List Lexeme → Type 0
-Alters object r tokens = (at : ℕ) → altered.Spells (stmt.OwnerTo object r) (placed at tokens)
+owner_text_is : (g w n r : List ℕ) → owner_is g w n r
+owner_text_is g w n r = owner_regrouped g (codes "ALTER") (32 ∷ []) w n (codes "OWNER") (codes "TO") (written_name r) (59 ∷ []) (10 ∷ [])
 
-alter_says : (g : List ℕ) (object : Owned) (r : List ℕ) (tokens : List Lexeme) → Alters object r tokens → (at : ℕ) → statement.Spells (Some (stmt.OwnerTo object r)) (placed at (word_token g (codes "ALTER") ∷ tokens))
-unfolding statement command is_word is_keyword_of
-alter_says g object r tokens says at =
-    inr (stmt.OwnerTo object r, refl, (inr (inl (leads (is_word (codes "alter")) altered _ (stmt.OwnerTo object r) _ refl (says _)))))
-
-owner_last : (r : List ℕ) → only_last semicolon (owner_end r) ≡ true
-unfolding is_sign
-owner_last r = rw (name_no_sign 59 r) refl
-
-name_owner_last : (g kind n r : List ℕ) → only_last semicolon (name_owner_tokens g kind n r) ≡ true
-unfolding is_sign
-name_owner_last g kind n r = rw (name_no_sign 59 n, name_no_sign 59 r) refl
-
-path_owner_last : (g kind : List ℕ) (q : QName) (r : List ℕ) → only_last semicolon (path_owner_tokens g kind q r) ≡ true
-unfolding is_sign
-path_owner_last g kind q r = rw (name_no_sign 59 q.schema, name_no_sign 59 q.name, name_no_sign 59 r) refl
-
-named_laid_out : (g kind n r : List ℕ) (object : Owned) → Gap g → IsWord kind → is_utf8 kind ≡ true → IsName n → IsName r → owned_object object ≡ kind ++ 32 ∷ written_name n → Alters object r (word_token (32 ∷ []) kind ∷ behind_name n r) → IsLaidOut g (stmt.OwnerTo object r) (owner_text object r)
+owned_by_name : (g key w n r : List ℕ) (kind : List ℕ → Owned) → Gap g → IsKey key w → IsName n → IsName r → owned_object (kind n) ≡ w ++ 32 ∷ written_name n
+    → ((ts : List Lexeme) → (is_word key ▸ (owned_name key kind).part).Spells (stmt.OwnerTo (kind n) r) ts → altered.Spells (stmt.OwnerTo (kind n) r) ts) → IsLaidOut g (stmt.OwnerTo (kind n) r) (owner_text (kind n) r)
 unfolding owner_text
-named_laid_out g kind n r object gap word utf8 is role e says = record {
-  tokens = name_owner_tokens g kind n r;
-  bytes = rw e (simp append_assoc);
-  stood = name_owner_stood g kind n r gap word utf8 is role;
-  says = alter_says g object r (word_token (32 ∷ []) kind ∷ behind_name n r) says;
-  last = name_owner_last g kind n r;
-}
+owned_by_name g key w n r kind gap h is role e says =
+    let s = stmt.OwnerTo (kind n) r in
+    let t = name_owner_end n r in
+    let part = seen_put (λ x. stmt.OwnerTo (kind x.0) x.1) name_and_owner (n, r) t [] (name_owner_put n r is role) in
+    let b = ((32 ∷ []) ++ w) ++ t in
+    let branch = word_lead key w (32 ∷ []) (owned_name key kind).part s t [] h space part refl in
+    let k : IsPut altered s b [] = put_as (is_word key ▸ (owned_name key kind).part) altered s s b [] branch says in
+    laid_out g (owner_text (kind n) r) s ((g ++ codes "ALTER") ++ b) (alter_put g s b gap k refl) (rw e (owner_text_is g w (written_name n) r))
 
-path_laid_out : (g kind : List ℕ) (q : QName) (r : List ℕ) (object : Owned) → Gap g → IsWord kind → is_utf8 kind ≡ true → IsName q.schema → IsName q.name → IsName r → owned_object object ≡ kind ++ 32 ∷ path q → Alters object r (word_token (32 ∷ []) kind ∷ behind_path q r) → IsLaidOut g (stmt.OwnerTo object r) (owner_text object r)
-unfolding owner_text path
-path_laid_out g kind q r object gap word utf8 schema is role e says = record {
-  tokens = path_owner_tokens g kind q r;
-  bytes = rw e (simp append_assoc);
-  stood = path_owner_stood g kind q r gap word utf8 schema is role;
-  says = alter_says g object r (word_token (32 ∷ []) kind ∷ behind_path q r) says;
-  last = path_owner_last g kind q r;
-}
+owned_by_path : (g key w : List ℕ) (q : QName) (r : List ℕ) (kind : QName → Owned) → Gap g → IsKey key w → IsPath q → IsName r → owned_object (kind q) ≡ w ++ 32 ∷ path q
+    → ((ts : List Lexeme) → (is_word key ▸ (owned_path key kind).part).Spells (stmt.OwnerTo (kind q) r) ts → altered.Spells (stmt.OwnerTo (kind q) r) ts) → IsLaidOut g (stmt.OwnerTo (kind q) r) (owner_text (kind q) r)
+unfolding owner_text
+owned_by_path g key w q r kind gap h is role e says =
+    let s = stmt.OwnerTo (kind q) r in
+    let t = path_owner_end q r in
+    let part = seen_put (λ x. stmt.OwnerTo (kind x.0) x.1) path_and_owner (q, r) t [] (path_owner_put q r is role) in
+    let b = ((32 ∷ []) ++ w) ++ t in
+    let branch = word_lead key w (32 ∷ []) (owned_path key kind).part s t [] h space part refl in
+    let k : IsPut altered s b [] = put_as (is_word key ▸ (owned_path key kind).part) altered s s b [] branch says in
+    laid_out g (owner_text (kind q) r) s ((g ++ codes "ALTER") ++ b) (alter_put g s b gap k refl) (rw e (owner_text_is g w (path q) r))
+
+-- what stands behind ALTER DOMAIN
+domain_put : (g : List ℕ) (s : Stmt) (b : List ℕ) → Gap g → IsPut altered_domain s b [] → begins_by parts_words b ≡ true → IsPut statement (Some s) ((g ++ codes "ALTER") ++ (((32 ∷ []) ++ codes "DOMAIN") ++ b)) []
+unfolding altered
+domain_put g s b gap k e =
+    let branch = word_lead (codes "domain") (codes "DOMAIN") (32 ∷ []) altered_domain s b [] domain_key space k e in
+    alter_put g s (((32 ∷ []) ++ codes "DOMAIN") ++ b) gap (put_as (is_word (codes "domain") ▸ altered_domain) altered s s (((32 ∷ []) ++ codes "DOMAIN") ++ b) [] branch (λ ts h. inr (inr (inl h)))) refl
+
+domain_owner : (g : List ℕ) (q : QName) (r : List ℕ) → Gap g → IsPath q → IsName r → IsLaidOut g (stmt.OwnerTo (owned.Domain q) r) (owner_text (owned.Domain q) r)
+unfolding altered_domain domain_change owner_text owned_object
+domain_owner g q r gap is role =
+    let s = stmt.OwnerTo (owned.Domain q) r in
+    let change : IsPut domain_change (its_owner r) (owner_end r) [] = put_as new_owner domain_change r (its_owner r) (owner_end r) [] (new_owner_put r role) (λ ts h. inl (r, refl, h)) in
+    let both = path_lead q (32 ∷ []) domain_change (its_owner r) (owner_end r) [] is space change refl in
+    let t = path_owner_end q r in
+    let k : IsPut altered_domain s t [] = seen_put (λ x. domain_changed x.0 x.1) (qualified then domain_change) (q, its_owner r) t [] both in
+    laid_out g (owner_text (owned.Domain q) r) s ((g ++ codes "ALTER") ++ (((32 ∷ []) ++ codes "DOMAIN") ++ t)) (domain_put g s t gap k refl) (owner_text_is g (codes "DOMAIN") (path q) r)
 
 pub owner_laid_out : (g : List ℕ) (object : Owned) (r : List ℕ) → Gap g → IsOwnedName object → IsName r → IsLaidOut g (stmt.OwnerTo object r) (owner_text object r)
-unfolding altered altered_domain owned_object is_word is_keyword_of begins_word in_word is_digit is_utf8 chars encode
-owner_laid_out g (owned.Schema n) r gap is role =
-    named_laid_out g (codes "SCHEMA") n r (owned.Schema n) gap (refl, refl) refl is role refl
-    (λ at. inl (leads (is_word (codes "schema")) (owned_name (codes "schema") owned.Schema).part _ _ _ refl ((n, r), refl, name_owner_says n r is role _)))
-owner_laid_out g (owned.Type q) r gap is role =
-    path_laid_out g (codes "TYPE") q r (owned.Type q) gap (refl, refl) refl is.0 is.1 role refl
-    (λ at. inr (inl (leads (is_word (codes "type")) (owned_path (codes "type") owned.Type).part _ _ _ refl ((q, r), refl, path_owner_says q r is.0 is.1 role _))))
-owner_laid_out g (owned.Domain q) r gap is role =
-    path_laid_out g (codes "DOMAIN") q r (owned.Domain q) gap (refl, refl) refl is.0 is.1 role refl
-    (λ at. inr (inr (inl (leads (is_word (codes "domain")) altered_domain _ _ _ refl ((q, its_owner r), refl, domain_owner_says q r is role _)))))
-owner_laid_out g (owned.Table q) r gap is role =
-    path_laid_out g (codes "TABLE") q r (owned.Table q) gap (refl, refl) refl is.0 is.1 role refl
-    (λ at. inr (inr (inr (inl (leads (is_word (codes "table")) (owned_path (codes "table") owned.Table).part _ _ _ refl ((q, r), refl, path_owner_says q r is.0 is.1 role _))))))
-owner_laid_out g (owned.Sequence q) r gap is role =
-    path_laid_out g (codes "SEQUENCE") q r (owned.Sequence q) gap (refl, refl) refl is.0 is.1 role refl
-    (λ at. inr (inr (inr (inr (inl (leads (is_word (codes "sequence")) (owned_path (codes "sequence") owned.Sequence).part _ _ _ refl ((q, r), refl, path_owner_says q r is.0 is.1 role _)))))))
-owner_laid_out g (owned.View q) r gap is role =
-    path_laid_out g (codes "VIEW") q r (owned.View q) gap (refl, refl) refl is.0 is.1 role refl
-    (λ at. inr (inr (inr (inr (inr (inl (leads (is_word (codes "view")) (owned_path (codes "view") owned.View).part _ _ _ refl ((q, r), refl, path_owner_says q r is.0 is.1 role _))))))))
-owner_laid_out g (owned.Database n) r gap is role =
-    named_laid_out g (codes "DATABASE") n r (owned.Database n) gap (refl, refl) refl is role refl
-    (λ at. inr (inr (inr (inr (inr (inr (leads (is_word (codes "database")) (owned_name (codes "database") owned.Database).part _ _ _ refl ((n, r), refl, name_owner_says n r is role _))))))))
+unfolding altered owned_object
+owner_laid_out g (owned.Schema n) r gap is role = owned_by_name g (codes "schema") (codes "SCHEMA") n r owned.Schema gap schema_key is role refl (λ ts h. inl h)
+owner_laid_out g (owned.Type q) r gap is role = owned_by_path g (codes "type") (codes "TYPE") q r owned.Type gap type_key is role refl (λ ts h. inr (inl h))
+owner_laid_out g (owned.Domain q) r gap is role = domain_owner g q r gap is role
+owner_laid_out g (owned.Table q) r gap is role = owned_by_path g (codes "table") (codes "TABLE") q r owned.Table gap table_key is role refl (λ ts h. inr (inr (inr (inl h))))
+owner_laid_out g (owned.Sequence q) r gap is role = owned_by_path g (codes "sequence") (codes "SEQUENCE") q r owned.Sequence gap sequence_key is role refl (λ ts h. inr (inr (inr (inr (inl h)))))
+owner_laid_out g (owned.View q) r gap is role = owned_by_path g (codes "view") (codes "VIEW") q r owned.View gap view_key is role refl (λ ts h. inr (inr (inr (inr (inr (inl h))))))
+owner_laid_out g (owned.Database n) r gap is role = owned_by_name g (codes "database") (codes "DATABASE") n r owned.Database gap database_key is role refl (λ ts h. inr (inr (inr (inr (inr (inr h))))))
 
 -- ---- SET
 
-abbrev ended : List Lexeme
-ended = sign_token [] 59 ∷ []
-
-ended_stood : Stood ended
-unfolding is_blank is_sign_byte is_utf8 chars encode
-ended_stood = (a_sign [] 59 [] none refl refl refl refl refl, tt)
-
-ended_safe : IsSafe ended
-ended_safe after e = refl
-
--- a token of one byte behind an expression closes it
-closed_spells : (test : Lexeme → Bool) (g v : List ℕ) (b : ℕ) (others : List Lexeme) (k : IsKept g v (sign_token [] b ∷ others)) (at : ℕ) → ((start : ℕ) → test (record { gap = []; kind = Sign b; word = b ∷ []; start = start }) ≡ true) → (expression ◂ test).Spells v (placed at (k.tokens ++ sign_token [] b ∷ []))
-closed_spells test g v b others k at is =
-    subst (λ (ts : List Lexeme). (expression ◂ test).Spells v ts) (sym (placed-append at k.tokens (sign_token [] b ∷ [])))
-    (ends test expression _ v (placed at k.tokens) (is _) (k.spells at))
-
-abbrev set_tokens : List ℕ → List ℕ → List Lexeme → List Lexeme
-set_tokens g n value = word_token g (codes "SET") ∷ name_token (32 ∷ []) n ∷ sign_token (32 ∷ []) 61 ∷ (value ++ ended)
-
-set_stood : (g n v : List ℕ) → (k : IsKept (32 ∷ []) v ended) → Gap g → IsName n → Stood (set_tokens g n k.tokens)
-unfolding is_blank in_word begins_word is_digit is_sign_byte is_utf8 chars encode
-set_stood g n v k gap is = (
-  a_word g (codes "SET") 32 _ gap (refl, refl) refl refl refl,
-  (
-    a_name (32 ∷ []) n 32 _ space is.utf8 refl refl refl,
-    (
-      a_sign (32 ∷ []) 61 _ space refl refl refl refl refl,
-      k.stood,
-    ),
-  ),
-)
-
-set_says : (g n v : List ℕ) → (k : IsKept (32 ∷ []) v ended) → IsName n → (at : ℕ) → statement.Spells (Some (stmt.Set n v)) (placed at (set_tokens g n k.tokens))
-unfolding statement command setting equals_or_to is_word is_sign is_keyword_of
-set_says g n v k is at =
-    inr (
-      stmt.Set n v,
-      refl,
-      (inr (inr (inr (leads (is_word (codes "set")) setting _ (stmt.Set n v) _ refl (
-        (n, (tt, v)),
-        refl,
-        follows name (equals_or_to then (expression ◂ semicolon)) n (tt, v) (_ ∷ []) _ (_, refl, name_means n is _ refl refl)
-            (follows equals_or_to (expression ◂ semicolon) tt v (_ ∷ []) _ (inl (marks (is_sign 61) _ refl)) (closed_spells semicolon (32 ∷ []) v 59 [] k _ (λ start. refl))),
-      ))))),
-    )
-
-set_bytes : (g n v : List ℕ) → (k : IsKept (32 ∷ []) v ended) → spelled (set_tokens g n k.tokens) ++ 10 ∷ [] ≡ g ++ set_text n v
-unfolding set_text
-set_bytes g n v k = rw (spelled-append k.tokens ended, k.bytes) (simp append_assoc)
-
-set_last : (g n v : List ℕ) → (k : IsKept (32 ∷ []) v ended) → only_last semicolon (set_tokens g n k.tokens) ≡ true
-unfolding is_sign
-set_last g n v k =
-    let rest = k.tokens ++ ended in
-    last_more semicolon (word_token g (codes "SET")) (name_token (32 ∷ []) n ∷ sign_token (32 ∷ []) 61 ∷ rest) refl
-    (last_more semicolon (name_token (32 ∷ []) n) (sign_token (32 ∷ []) 61 ∷ rest) (name_no_sign 59 n)
-    (last_more semicolon (sign_token (32 ∷ []) 61) rest refl (plain_last k.tokens ended k.plain refl)))
+set_regrouped : (g a s n q v e line : List ℕ) → ((g ++ a) ++ ((s ++ n) ++ ((s ++ q) ++ ((s ++ v) ++ e)))) ++ line ≡ g ++ (((((a ++ s) ++ n) ++ ((s ++ q) ++ s)) ++ v) ++ (e ++ line))
+set_regrouped g a s n q v e line = simp append_assoc
 
 pub set_laid_out : (g n v : List ℕ) → Gap g → IsName n → IsExpressionText v → IsLaidOut g (stmt.Set n v) (set_text n v)
+unfolding statement command setting equals_or_to set_text
 set_laid_out g n v gap is value =
-    let k = kept (32 ∷ []) v ended space value ended_stood ended_safe in
-    record {
-      tokens = set_tokens g n k.tokens;
-      bytes = set_bytes g n v k;
-      stood = set_stood g n v k gap is;
-      says = set_says g n v k is;
-      last = set_last g n v k;
-    }
+    let t0 = (32 ∷ []) ++ v in
+    let kept = expression_put v (32 ∷ []) (ended.tokens ++ []) value space (behind ended) (begun is_safe_byte ended refl) in
+    let t1 = t0 ++ 59 ∷ [] in
+    let closed = close_put expression semicolon v t0 (59 ∷ []) [] ended kept in
+    let sign = sign_put 61 (32 ∷ []) (closed.tokens ++ []) equals_sign (inl refl) space (behind closed) in
+    let equals : IsPut equals_or_to tt ((32 ∷ []) ++ 61 ∷ []) (closed.tokens ++ []) = put_as (mark (is_sign 61)) equals_or_to tt tt ((32 ∷ []) ++ 61 ∷ []) (closed.tokens ++ []) sign (λ ts h. inl h) in
+    let both = then_put equals_or_to (expression ◂ semicolon) tt v ((32 ∷ []) ++ 61 ∷ []) t1 [] closed equals in
+    let t2 = ((32 ∷ []) ++ 61 ∷ []) ++ t1 in
+    let named = name_lead n (32 ∷ []) (equals_or_to then (expression ◂ semicolon)) (tt, v) t2 [] is space both refl in
+    let t3 = ((32 ∷ []) ++ written_name n) ++ t2 in
+    let s = stmt.Set n v in
+    let made : IsPut setting s t3 [] = seen_put (λ x. stmt.Set x.0 x.1.1) (name then (equals_or_to then (expression ◂ semicolon))) (n, (tt, v)) t3 [] named in
+    let whole = (g ++ codes "SET") ++ t3 in
+    let k : IsPut statement (Some s) whole [] =
+    put_as (is_word (codes "set") ▸ setting) statement s (Some s) whole [] (word_lead (codes "set") (codes "SET") g setting s t3 [] set_key gap made refl) (λ ts h. inr (s, refl, inr (inr (inr h)))) in
+    laid_out g (set_text n v) s whole k (set_regrouped g (codes "SET") (32 ∷ []) (written_name n) (61 ∷ []) v (59 ∷ []) (10 ∷ []))
+
+-- ---- checks
+
+abbrev closing : Part (List ℕ)
+closing = expression ◂ is_sign 41
+
+abbrev checked : Part (List ℕ)
+checked = is_word (codes "check") ▸ (is_sign 40 ▸ closing)
+
+pub named_check_put : (c : CheckDef) (g : List ℕ) (others : List Lexeme) → IsName c.name → IsExpressionText c.text → Gap g → Follows others → IsPut named_check c (g ++ check_text c.name c.text) others
+unfolding named_check check_text
+named_check_put c g others is value gap follows =
+    let n = c.name in
+    let v = c.text in
+    let bracket = sign_put 41 [] others closing_sign (inl refl) none follows in
+    let kept = expression_put v [] (bracket.tokens ++ others) value none (behind bracket) (begun is_safe_byte bracket refl) in
+    let t1 = v ++ 41 ∷ [] in
+    let k1 : IsPut closing v t1 others = close_put expression (is_sign 41) v v (41 ∷ []) others bracket kept in
+    let t2 = ((32 ∷ []) ++ 40 ∷ []) ++ t1 in
+    let k2 = sign_lead 40 (32 ∷ []) closing v t1 others opening_sign refl space k1 in
+    let t3 = ((32 ∷ []) ++ codes "CHECK") ++ t2 in
+    let k3 : IsPut checked v t3 others = word_lead (codes "check") (codes "CHECK") (32 ∷ []) (is_sign 40 ▸ closing) v t2 others check_key space k2 refl in
+    let t4 = ((32 ∷ []) ++ written_name n) ++ t3 in
+    let k4 = name_lead n (32 ∷ []) checked v t3 others is space k3 refl in
+    let t5 = (g ++ codes "CONSTRAINT") ++ t4 in
+    let k5 = word_lead (codes "constraint") (codes "CONSTRAINT") g (name then checked) (n, v) t4 others constraint_key gap k4 refl in
+    same_text t5 (g ++ check_text n v) (simp append_assoc) (seen_put check_of (is_word (codes "constraint") ▸ (name then checked)) (n, v) t5 others k5)
 
 -- ---- ALTER DOMAIN .. ADD CONSTRAINT
 
-abbrev check_ended : List Lexeme
-check_ended = sign_token [] 41 ∷ ended
-
-check_ended_stood : Stood check_ended
-unfolding is_blank is_sign_byte is_utf8 chars encode
-check_ended_stood = (a_sign [] 41 (59 ∷ []) none refl refl refl refl refl, ended_stood)
-
-check_ended_safe : IsSafe check_ended
-check_ended_safe after e = refl
-
--- from ADD on
-abbrev check_tokens : List ℕ → List Lexeme → List Lexeme
-check_tokens n text =
-    word_token indent (codes "ADD") ∷ word_token (32 ∷ []) (codes "CONSTRAINT") ∷ name_token (32 ∷ []) n ∷ word_token (32 ∷ []) (codes "CHECK") ∷ sign_token (32 ∷ []) 40 ∷ (text ++ check_ended)
-
-abbrev domain_check_tokens : List ℕ → QName → List ℕ → List Lexeme → List Lexeme
-domain_check_tokens g q n text =
-    word_token g (codes "ALTER") ∷ word_token (32 ∷ []) (codes "DOMAIN") ∷ name_token (32 ∷ []) q.schema ∷ sign_token [] 46 ∷ name_token [] q.name ∷ check_tokens n text
-
-check_stood : (n v : List ℕ) → (k : IsKept [] v check_ended) → IsName n → Stood (check_tokens n k.tokens)
-unfolding is_blank in_word begins_word is_digit is_sign_byte is_utf8 chars encode
-check_stood n v k is = (
-  a_word indent (codes "ADD") 32 _ indented (refl, refl) refl refl refl,
-  (
-    a_word (32 ∷ []) (codes "CONSTRAINT") 32 _ space (refl, refl) refl refl refl,
-    (
-      a_name (32 ∷ []) n 32 _ space is.utf8 refl refl refl,
-      (
-        a_word (32 ∷ []) (codes "CHECK") 32 _ space (refl, refl) refl refl refl,
-        (
-          a_sign (32 ∷ []) 40 _ space refl refl refl refl refl,
-          k.stood,
-        ),
-      ),
-    ),
-  ),
-)
-
-domain_check_stood : (g : List ℕ) (q : QName) (n v : List ℕ) → (k : IsKept [] v check_ended) → Gap g → IsPath q → IsName n → Stood (domain_check_tokens g q n k.tokens)
-unfolding is_blank in_word begins_word is_digit is_sign_byte is_utf8 chars encode
-domain_check_stood g q n v k gap path is = (
-  a_word g (codes "ALTER") 32 _ gap (refl, refl) refl refl refl,
-  (
-    a_word (32 ∷ []) (codes "DOMAIN") 32 _ space (refl, refl) refl refl refl,
-    (
-      a_name (32 ∷ []) q.schema 46 _ space path.0.utf8 refl refl refl,
-      (
-        a_sign [] 46 _ none refl refl refl refl refl,
-        (
-          a_name [] q.name 10 _ none path.1.utf8 refl refl refl,
-          check_stood n v k is,
-        ),
-      ),
-    ),
-  ),
-)
-
-abbrev check_part : Part (List ℕ)
-check_part = is_word (codes "check") ▸ (is_sign 40 ▸ (expression ◂ is_sign 41 ◂ semicolon))
-
--- an expression, its closing bracket and the semicolon
-bracket_spells : (v : List ℕ) → (k : IsKept [] v check_ended) → (at : ℕ) → (expression ◂ is_sign 41 ◂ semicolon).Spells v (placed at (k.tokens ++ check_ended))
-unfolding is_sign
-bracket_spells v k at =
-    let closed = closed_spells (is_sign 41) [] v 41 ended k at (λ start. refl) in
-    let ended_at = at + length (spelled (k.tokens ++ sign_token [] 41 ∷ [])) in
-    let both : (expression ◂ is_sign 41 ◂ semicolon).Spells v (placed at (k.tokens ++ sign_token [] 41 ∷ []) ++ placed ended_at ended) =
-    ends semicolon (expression ◂ is_sign 41) _ v (placed at (k.tokens ++ sign_token [] 41 ∷ [])) refl closed in
-    subst (λ (ts : List Lexeme). (expression ◂ is_sign 41 ◂ semicolon).Spells v ts)
-    (sym (placed-append at (k.tokens ++ sign_token [] 41 ∷ []) ended) ∙ ap (placed at) (append_assoc k.tokens (sign_token [] 41 ∷ []) ended)) both
-
-check_says : (n v : List ℕ) → (k : IsKept [] v check_ended) → IsName n → (at : ℕ) → new_check.Spells (n, v) (placed at (check_tokens n k.tokens))
-unfolding new_check is_word is_sign is_keyword_of
-check_says n v k is at =
-    leads (is_word (codes "add")) (is_word (codes "constraint") ▸ (name then check_part)) _ (n, v) _ refl
-    (leads (is_word (codes "constraint")) (name then check_part) _ (n, v) _ refl
-    (follows name check_part n v (_ ∷ []) _ (_, refl, name_means n is _ refl refl)
-    (leads (is_word (codes "check")) (is_sign 40 ▸ (expression ◂ is_sign 41 ◂ semicolon)) _ v _ refl
-    (leads (is_sign 40) (expression ◂ is_sign 41 ◂ semicolon) _ v _ refl (bracket_spells v k _)))))
-
-domain_check_says : (g : List ℕ) (q : QName) (n v : List ℕ) → (k : IsKept [] v check_ended) → IsPath q → IsName n → (at : ℕ) → statement.Spells (Some (stmt.AddDomainCheck q n v)) (placed at (domain_check_tokens g q n k.tokens))
-unfolding statement command altered altered_domain domain_change is_word is_sign is_keyword_of
-domain_check_says g q n v k path is at =
-    let s = stmt.AddDomainCheck q n v in
-    inr (
-      s,
-      refl,
-      (inr (inl (leads (is_word (codes "alter")) altered _ s _ refl
-          (inr (inr (inl (leads (is_word (codes "domain")) altered_domain _ s _ refl (
-            (q, one_more_check n v),
-            refl,
-            follows qualified domain_change q (one_more_check n v) (_ ∷ _ ∷ _ ∷ []) _ (path_says q path _ _ _) (inr ((n, v), refl, check_says n v k is _)),
-          )))))))),
-    )
-
-domain_check_bytes : (g : List ℕ) (q : QName) (n v : List ℕ) → (k : IsKept [] v check_ended) → spelled (domain_check_tokens g q n k.tokens) ++ 10 ∷ [] ≡ g ++ domain_check_text q n v
-unfolding domain_check_text check_text path
-domain_check_bytes g q n v k = rw (spelled-append k.tokens check_ended, k.bytes) (simp append_assoc)
-
-check_last : (n v : List ℕ) → (k : IsKept [] v check_ended) → only_last semicolon (check_tokens n k.tokens) ≡ true
-unfolding is_sign
-check_last n v k =
-    let rest = k.tokens ++ check_ended in
-    last_more semicolon (word_token indent (codes "ADD")) (word_token (32 ∷ []) (codes "CONSTRAINT") ∷ name_token (32 ∷ []) n ∷ word_token (32 ∷ []) (codes "CHECK") ∷ sign_token (32 ∷ []) 40 ∷ rest) refl
-    (last_more semicolon (word_token (32 ∷ []) (codes "CONSTRAINT")) (name_token (32 ∷ []) n ∷ word_token (32 ∷ []) (codes "CHECK") ∷ sign_token (32 ∷ []) 40 ∷ rest) refl
-    (last_more semicolon (name_token (32 ∷ []) n) (word_token (32 ∷ []) (codes "CHECK") ∷ sign_token (32 ∷ []) 40 ∷ rest) (name_no_sign 59 n)
-    (last_more semicolon (word_token (32 ∷ []) (codes "CHECK")) (sign_token (32 ∷ []) 40 ∷ rest) refl
-    (last_more semicolon (sign_token (32 ∷ []) 40) rest refl (plain_last k.tokens check_ended k.plain refl)))))
-
-domain_check_last : (g : List ℕ) (q : QName) (n v : List ℕ) → (k : IsKept [] v check_ended) → only_last semicolon (domain_check_tokens g q n k.tokens) ≡ true
-unfolding is_sign
-domain_check_last g q n v k =
-    let rest = check_tokens n k.tokens in
-    last_more semicolon (word_token g (codes "ALTER")) (word_token (32 ∷ []) (codes "DOMAIN") ∷ name_token (32 ∷ []) q.schema ∷ sign_token [] 46 ∷ name_token [] q.name ∷ rest) refl
-    (last_more semicolon (word_token (32 ∷ []) (codes "DOMAIN")) (name_token (32 ∷ []) q.schema ∷ sign_token [] 46 ∷ name_token [] q.name ∷ rest) refl
-    (last_more semicolon (name_token (32 ∷ []) q.schema) (sign_token [] 46 ∷ name_token [] q.name ∷ rest) (name_no_sign 59 q.schema)
-    (last_more semicolon (sign_token [] 46) (name_token [] q.name ∷ rest) refl
-    (last_more semicolon (name_token [] q.name) rest (name_no_sign 59 q.name) (check_last n v k)))))
+domain_check_regrouped : (g a s d p i x c e line : List ℕ)
+    → ((g ++ a) ++ ((s ++ d) ++ ((s ++ p) ++ ((i ++ x) ++ ((s ++ c) ++ e))))) ++ line ≡ g ++ (((((((a ++ s) ++ d) ++ s) ++ p) ++ ((i ++ x) ++ s)) ++ c) ++ (e ++ line))
+domain_check_regrouped g a s d p i x c e line = simp append_assoc
 
 pub domain_check_laid_out : (g : List ℕ) (q : QName) (n v : List ℕ) → Gap g → IsPath q → IsName n → IsExpressionText v → IsLaidOut g (stmt.AddDomainCheck q n v) (domain_check_text q n v)
-domain_check_laid_out g q n v gap path is value =
-    let k = kept [] v check_ended none value check_ended_stood check_ended_safe in
-    record {
-      tokens = domain_check_tokens g q n k.tokens;
-      bytes = domain_check_bytes g q n v k;
-      stood = domain_check_stood g q n v k gap path is;
-      says = domain_check_says g q n v k path is;
-      last = domain_check_last g q n v k;
-    }
+unfolding altered_domain domain_change new_check domain_check_text
+domain_check_laid_out g q n v gap path_is is value =
+    let c : CheckDef = record { name = n; text = v } in
+    let s = stmt.AddDomainCheck q n v in
+    let t0 = (32 ∷ []) ++ check_text n v in
+    let k0 = named_check_put c (32 ∷ []) (ended.tokens ++ []) is value space (behind ended) in
+    let t1 = t0 ++ 59 ∷ [] in
+    let k1 = close_put named_check semicolon c t0 (59 ∷ []) [] ended k0 in
+    let t2 = (indent ++ codes "ADD") ++ t1 in
+    let k2 : IsPut new_check c t2 [] = word_lead (codes "add") (codes "ADD") indent (named_check ◂ semicolon) c t1 [] add_key indented k1 refl in
+    let k3 : IsPut domain_change (one_more_check c) t2 [] = put_as new_check domain_change c (one_more_check c) t2 [] k2 (λ ts h. inr (c, refl, h)) in
+    let t3 = ((32 ∷ []) ++ path q) ++ t2 in
+    let k4 = path_lead q (32 ∷ []) domain_change (one_more_check c) t2 [] path_is space k3 refl in
+    let k5 : IsPut altered_domain s t3 [] = seen_put (λ x. domain_changed x.0 x.1) (qualified then domain_change) (q, one_more_check c) t3 [] k4 in
+    laid_out g (domain_check_text q n v) s ((g ++ codes "ALTER") ++ (((32 ∷ []) ++ codes "DOMAIN") ++ t3)) (domain_put g s t3 gap k5 refl)
+    (domain_check_regrouped g (codes "ALTER") (32 ∷ []) (codes "DOMAIN") (path q) indent (codes "ADD") (check_text n v) (59 ∷ []) (10 ∷ []))

@@ -1,5 +1,5 @@
 -- Written texts are laid out in tokens that stand wherever they are put, part by part as the grammar is built.
-use Rattle.std.proofs.Common.{◌≡◌, ℕ, zero, suc, ◌+◌, Bool, true, false, not, cond, ◌&&◌, ◌||◌, List, [], ◌∷◌, ◌++◌, length, length-append, append_assoc, append-nil, Option, Some, None, Result, Ok, Err, refl, sym, ap, subst, ◌∙◌, ◌⊎◌, inl, inr, codes}
+use Rattle.std.proofs.Common.{◌≡◌, ℕ, ◌+◌, Bool, true, false, cond, ◌||◌, List, [], ◌∷◌, ◌++◌, length, append_assoc, append-nil, Ok, Err, refl, sym, ap, subst, ◌∙◌, arith, ◌⊎◌, inl, inr}
 use Rattle.std.specs.Prelude.{◌==◌}
 use Rattle.std.specs.Str.{IsUtf8, is_utf8, chars}
 use Rattle.std.proofs.Math.Utf8.{encode}
@@ -11,8 +11,8 @@ use Rattle.sql_lex.specs.Spelling.{IsWord}
 use Rattle.sql_lex.specs.Written.{written_name, written_literal}
 use Rattle.copy_text.specs.Texts.{IsName}
 use Rattle.cat_model.specs.declared.object.QName.{QName}
-use Rattle.ddl_parts.specs.Lexemes.{Lexeme, is_word, is_sign, is_sign_kind, spelled}
-use Rattle.ddl_parts.specs.Parts.{Part, Items, Many, no_more, one_more, many, mark, seen, choose, nothing, ◌then◌, ◌▸◌, ◌◂◌}
+use Rattle.ddl_parts.specs.Lexemes.{Lexeme, is_word, is_sign, spelled}
+use Rattle.ddl_parts.specs.Parts.{Part, Items, Many, no_more, one_more, many, mark, seen, nothing, ◌then◌, ◌▸◌, ◌◂◌}
 use Rattle.ddl_parts.specs.Leaves.{name, literal, qualified}
 use Rattle.ddl_write.specs.Paths.{path}
 use Rattle.ddl_parts.specs.Expressions.{expression}
@@ -20,7 +20,8 @@ use Rattle.ddl_read.specs.Clauses.{semicolon}
 use Rattle.ddl_read.specs.Respelling.{IsPath, IsExpressionText}
 use Rattle.ddl_read.proofs.Closed.{only_last}
 use Rattle.ddl_read.proofs.Kept.{spelled-append}
-use Rattle.ddl_read.proofs.Expressions.{IsKept, IsSafe, kept, placed-append, last_more, plain_last}
+use Rattle.ddl_read.proofs.RunTexts.{IsSafe, placed-append, last_more, plain_last}
+use Rattle.ddl_read.proofs.Expressions.{kept}
 use Rattle.ddl_read.proofs.Standing.{is_safe, is_safe_byte, Stands, Stood, placed}
 use Rattle.ddl_read.proofs.Tokens.{word_token, sign_token, name_token, literal_token, Gap, none, a_word, a_sign, a_name, a_literal, name_means, literal_means, name_no_sign}
 
@@ -102,9 +103,9 @@ one_put p v t others stands plain says follows = record {
 }
   where
     by : (us : List Lexeme) → semicolon t ≡ false ⊎ (us ≡ []) → only_last semicolon us ≡ true → only_last semicolon (t ∷ us) ≡ true
-    by us (inl no) last = last_more semicolon t us no last
-    by [] (inr no) last = refl
-    by (u ∷ us) (inr no) last = absurd cc
+    by us (inl isnt) last = last_more semicolon t us isnt last
+    by [] (inr is) last = refl
+    by (u ∷ us) (inr is) last = absurd cc
 
 -- how a key word is written
 pub record IsKey (key w : List ℕ) : Type 0 where
@@ -171,11 +172,9 @@ lead_put test p v a b others k j = seen_put (λ x. x.1) (mark test then p) (tt, 
 pub close_put : {A : Type 0} (p : Part A) (test : Lexeme → Bool) (v : A) (a b : List ℕ) (others : List Lexeme) → (k : IsPut (mark test) tt b others) → IsPut p v a (k.tokens ++ others) → IsPut (p ◂ test) v (a ++ b) others
 close_put p test v a b others k j = seen_put (λ x. x.0) (p then mark test) (v, tt) (a ++ b) others (then_put p (mark test) v tt a b others k j)
 
-pub first_put : {A : Type 0} (test : Lexeme → Bool) (p q : Part A) (v : A) (a : List ℕ) (others : List Lexeme) → IsPut p v a others → IsPut (choose test p q) v a others
-first_put test p q v a others k = record { tokens = k.tokens; bytes = k.bytes; stood = k.stood; spells = λ at. inl (k.spells at); last = k.last }
-
-pub second_put : {A : Type 0} (test : Lexeme → Bool) (p q : Part A) (v : A) (a : List ℕ) (others : List Lexeme) → IsPut q v a others → IsPut (choose test p q) v a others
-second_put test p q v a others k = record { tokens = k.tokens; bytes = k.bytes; stood = k.stood; spells = λ at. inr (k.spells at); last = k.last }
+-- what spells a value of one part spells one of another
+pub put_as : {A B : Type 0} (p : Part A) (q : Part B) (v : A) (w : B) (a : List ℕ) (others : List Lexeme) → IsPut p v a others → ((ts : List Lexeme) → p.Spells v ts → q.Spells w ts) → IsPut q w a others
+put_as p q v w a others k too = record { tokens = k.tokens; bytes = k.bytes; stood = k.stood; spells = λ at. too (placed at k.tokens) (k.spells at); last = k.last }
 
 pub nothing_put : {A : Type 0} (test : Lexeme → Bool) (v : A) (others : List Lexeme) → Follows others → IsPut (nothing test v) v [] others
 nothing_put test v others follows = record { tokens = []; bytes = refl; stood = follows.stood; spells = λ at. (refl, refl); last = follows.last }

@@ -1,5 +1,5 @@
 -- Written statements, joined, read as the same statements.
-use Rattle.std.proofs.Common.{◌≡◌, ℕ, zero, suc, ◌+◌, ◌-◌, ◌<◌, ◌≤◌, Bool, true, false, List, [], ◌∷◌, ◌++◌, map, length, length-append, append_assoc, append-nil, Option, Some, None, Result, Ok, Err, refl, sym, ap, subst, ◌∙◌, arith, inl, inr}
+use Rattle.std.proofs.Common.{◌≡◌, ℕ, suc, ◌+◌, ◌<◌, Bool, true, List, [], ◌∷◌, ◌++◌, length, length-append, append_assoc, append-nil, Option, Some, None, Ok, refl, sym, ap, subst, ◌∙◌, arith, inl}
 use Rattle.std.specs.List.{list_all}
 use Rattle.std.specs.Str.{is_utf8, chars}
 use Rattle.std.proofs.Math.Utf8.{encode}
@@ -17,11 +17,11 @@ use Rattle.ddl_write.specs.Spelling.{spelling}
 use Rattle.ddl_read.specs.declared.located.Located.{Located}
 use Rattle.ddl_read.specs.Grammar.{semicolon, statement}
 use Rattle.ddl_read.specs.Reading.{first_start, listed, statements_of}
-use Rattle.ddl_read.specs.Readings.{IsStatement, Reads, all_read, one_read}
+use Rattle.ddl_read.specs.Readings.{Reads, all_read, one_read}
 use Rattle.ddl_read.specs.Respelling.{IsWritable, AllWritable, joined, spellings, said}
-use Rattle.ddl_read.proofs.Closed.{ends_with, only_last, statement_closes}
+use Rattle.ddl_read.proofs.Closed.{ends_with, statement_closes}
 use Rattle.ddl_read.proofs.ReadingLaws.{only}
-use Rattle.ddl_read.proofs.Standing.{Stood, placed, IsCollected, collects}
+use Rattle.ddl_read.proofs.Standing.{placed, collects}
 use Rattle.ddl_read.proofs.Tokens.{Gap, none, space, newline, indented, indent}
 use Rattle.ddl_read.proofs.Layouts.{IsLaidOut, schema_laid_out, set_laid_out, config_laid_out, owner_laid_out, domain_check_laid_out}
 

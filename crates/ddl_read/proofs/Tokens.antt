@@ -1,30 +1,29 @@
 -- The tokens of which written statements are made, and that each stands wherever it is put.
-use Rattle.std.proofs.Common.{◌≡◌, ◌≢◌, ℕ, zero, suc, ◌+◌, ◌-◌, ◌<◌, ◌≤◌, Bool, true, false, not, cond, ◌&&◌, ◌||◌, List, [], ◌∷◌, ◌++◌, length, length-append, append_assoc, Option, Some, None, Result, Ok, Err, refl, sym, ap, subst, ◌∙◌, arith, inl, inr, codes, eq-eqb, ltb}
+use Rattle.std.proofs.Common.{◌≡◌, ◌≢◌, ℕ, ◌+◌, ◌<◌, Bool, true, false, not, cond, ◌&&◌, List, [], ◌∷◌, ◌++◌, length, Some, Ok, Err, refl, sym, ap, subst, ◌∙◌, arith, inl, inr}
 use Rattle.std.specs.Prelude.{◌==◌, nat_lt, All}
 use Rattle.std.specs.List.{list_all, list_any}
 use Rattle.std.specs.Str.{is_utf8, IsUtf8, chars}
 use Rattle.std.proofs.Math.Utf8.{encode}
-use Rattle.std.proofs.lemmas.Bool.{cases_Bool, and_parts, and_from, or_left, ne_eqb}
+use Rattle.std.proofs.lemmas.Bool.{cases_Bool, and_parts, ne_eqb}
 use Rattle.std.proofs.lemmas.Bool.Decides.{nat_tests}
 use Rattle.std.specs.List.{AllByRecursion as ByRecursion}
 use Rattle.std.proofs.lemmas.List.Elements.{recursion_from_All}
 use Rattle.std.proofs.lemmas.Str.{is_utf8-from_IsUtf8}
 use Rattle.sql_lex.specs.declared.token.TokenKind.{TokenKind}
-use Rattle.sql_lex.specs.declared.token.TokenKind.TheVariants.{Word, QuotedName, Literal, Number, Sign, MetaLine}
+use Rattle.sql_lex.specs.declared.token.TokenKind.TheVariants.{Word, Literal, Sign}
 use Rattle.sql_lex.specs.Bytes.{is_blank, is_digit, begins_word, in_word, is_sign, marks_escapes, next_is}
-use Rattle.sql_lex.specs.Pieces.{begins_line}
 use Rattle.sql_lex.specs.Next.{next_token_of}
-use Rattle.sql_lex.specs.Spelling.{Spells, IsWord, goes_on}
+use Rattle.sql_lex.specs.Spelling.{IsWord, goes_on}
 use Rattle.sql_lex.specs.Meaning.{name_of, literal_of}
 use Rattle.sql_lex.specs.Reserved.{is_reserved}
 use Rattle.sql_lex.specs.Written.{begins_bare, in_bare, is_bare, quoted, written_name, written_literal}
-use Rattle.sql_lex.specs.ReadBack.{IsTokenAt, written_kind}
+use Rattle.sql_lex.specs.ReadBack.{written_kind}
 use Rattle.sql_lex.proofs.PieceLaws.{word_free}
 use Rattle.sql_lex.proofs.WriteLaws.{spelling_is_read, gap_is_passed, name_is_read, literal_is_read}
 use Rattle.copy_text.specs.Texts.{IsName}
-use Rattle.ddl_parts.specs.Lexemes.{Lexeme, spelled, is_sign as sign_of, is_sign_kind}
+use Rattle.ddl_parts.specs.Lexemes.{Lexeme, is_sign_kind}
 use Rattle.ddl_parts.specs.Leaves.{name_in, name_value, text_in, literal_value}
-use Rattle.ddl_read.proofs.Standing.{is_safe, GapStands, TokenStands, Stands}
+use Rattle.ddl_read.proofs.Standing.{GapStands, TokenStands, Stands}
 
 -- ---- the tokens
 
