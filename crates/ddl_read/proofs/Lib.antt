@@ -7,6 +7,7 @@ pub mod Tokens
 pub mod Kept
 pub mod RunTexts
 pub mod Expressions
+pub mod Types
 pub mod Layouts
 pub mod Respelled
 pub mod Made
