@@ -8,6 +8,7 @@ pub mod Kept
 pub mod RunTexts
 pub mod Expressions
 pub mod Types
+pub mod Defaults
 pub mod Layouts
 pub mod Respelled
 pub mod Made
