@@ -163,7 +163,7 @@ and_false true = refl
 and_false false = refl
 
 -- nothing that is safe goes on with a token
-safe_ends : (kind : TokenKind) (word after : List ℕ) → (kind ≡ MetaLine → ⊥) → is_safe after ≡ true → goes_on kind word after ≡ false
+pub safe_ends : (kind : TokenKind) (word after : List ℕ) → (kind ≡ MetaLine → ⊥) → is_safe after ≡ true → goes_on kind word after ≡ false
 unfolding goes_on next_is goes_on_behind_dot
 safe_ends Word word [] line e = and_false _
 safe_ends QuotedName word [] line e = refl

@@ -8,7 +8,10 @@ pub mod Tokens
 pub mod Kept
 pub mod RunTexts
 pub mod Expressions
+pub mod Types
+pub mod Defaults
 pub mod Putting
 pub mod Layouts
+pub mod TableLayouts
 pub mod Respelled
 pub mod Made

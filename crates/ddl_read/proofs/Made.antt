@@ -28,6 +28,7 @@ use Rattle.ddl_read.specs.Readings.{IsStatement, Reads, all_read, one_read}
 use Rattle.ddl_read.specs.Respelling.{IsPath, IsOwnedName, IsExpressionText, IsWritable, AllWritable, joined, spellings, said}
 use Rattle.ddl_read.proofs.Kept.{AllCame, came_front, came_behind, have_come}
 use Rattle.ddl_read.proofs.Expressions.{expression_text}
+use Rattle.ddl_read.proofs.Types.{name_in_is}
 use Rattle.ddl_read.proofs.ReadingLaws.{found, bounds}
 use Rattle.ddl_read.proofs.Tokens.{none}
 use Rattle.ddl_read.proofs.Respelled.{can_be_written, joined_read}
@@ -80,29 +81,6 @@ one_of_yields P b (c ∷ rest) h = choose_yields P (is_word b.key) (branch b) (o
 
 abbrev named : List ℕ → Result (List ℕ) Bool
 named n = Ok n
-
-no_zero : (bytes : List ℕ) → list_any (λ b. b == 0) bytes ≡ false → ByRecursion (λ b. b ≢ 0) bytes
-no_zero [] e = tt
-no_zero (b ∷ bytes) e = let h = or_parts (b == 0) (list_any (λ b. b == 0) bytes) e in ((λ (is : b ≡ 0). grind (arith, nat_tests)), no_zero bytes h.1)
-
-name_in_is : (o : Option (List ℕ)) (n : List ℕ) → name_in o ≡ Ok n → IsName n
-unfolding name_in
-name_in_is None n e = absurd cc
-name_in_is (Some bytes) n e = by_start (cases_Bool (length bytes == 0 || list_any (λ b. b == 0) bytes))
-  where
-    by_utf8 : (length bytes == 0) ≡ false → list_any (λ b. b == 0) bytes ≡ false → nat_lt 63 (length bytes) ≡ false → (b : Bool) → is_utf8 bytes ≡ b → cond b (named bytes) (Err false) ≡ Ok n → IsName n
-    by_utf8 some zeros short true utf8 f =
-        let same : bytes ≡ n = cc in
-        subst IsName same (record { some = grind (arith, nat_tests); short = grind (arith, nat_tests); utf8 = IsUtf8-from_is_utf8 bytes utf8; no_zero = All-from_recursion (λ b. b ≢ 0) bytes (no_zero bytes zeros) })
-    by_utf8 some zeros short false utf8 f = absurd cc
-
-    by_length : (length bytes == 0) ≡ false → list_any (λ b. b == 0) bytes ≡ false → (b : Bool) → nat_lt 63 (length bytes) ≡ b → cond b (Err true) (cond (is_utf8 bytes) (named bytes) (Err false)) ≡ Ok n → IsName n
-    by_length some zeros true is f = absurd cc
-    by_length some zeros false is f = by_utf8 some zeros is (is_utf8 bytes) refl f
-
-    by_start : ((length bytes == 0 || list_any (λ b. b == 0) bytes) ≡ true) ⊎ ((length bytes == 0 || list_any (λ b. b == 0) bytes) ≡ false) → IsName n
-    by_start (inl is) = absurd (let f = rw is at e in cc)
-    by_start (inr is) = let h = or_parts (length bytes == 0) (list_any (λ b. b == 0) bytes) is in by_length h.0 h.1 (nat_lt 63 (length bytes)) refl (rw is at e)
 
 name_yields : Yields IsName name
 unfolding name_value

@@ -1,13 +1,19 @@
 -- The text of a run of a machine is written with the tokens that it has: behind a gap and before other tokens, and what
 -- was read of a text is such a text.
-use Rattle.std.proofs.Common.{◌≡◌, ℕ, ◌+◌, ◌-◌, ◌≤◌, Bool, true, false, not, List, [], ◌∷◌, ◌++◌, length, length-append, append-nil, take, drop, Option, Some, None, refl, sym, ap, subst, ◌∙◌, arith, inl, inr, option_and_then}
+use Rattle.std.proofs.Common.{◌≡◌, ℕ, ◌+◌, ◌-◌, ◌≤◌, Bool, true, false, not, cond, ◌&&◌, List, [], ◌∷◌, ◌++◌, length, length-append, append-nil, take, drop, Option, Some, None, refl, sym, ap, subst, ◌∙◌, arith, inl, inr, option_and_then}
 use Rattle.std.proofs.Math.Seq.{drop-length}
 use Rattle.std.proofs.lemmas.Bool.{and_parts, and_from}
 use Rattle.std.proofs.lemmas.Bool.Decides.{nat_tests}
 use Rattle.sql_lex.specs.declared.token.TokenKind.{TokenKind}
 use Rattle.sql_lex.specs.declared.token.TokenKind.TheVariants.{Word, QuotedName, Literal, Number, Sign, MetaLine}
 use Rattle.sql_lex.specs.Bytes.{is_blank, is_sign as is_sign_byte, marks_escapes}
-use Rattle.sql_lex.specs.Spelling.{Spells, AreDigits}
+use Rattle.sql_lex.specs.Spelling.{Spells, IsWord, AreDigits}
+use Rattle.sql_lex.specs.Reserved.{is_reserved}
+use Rattle.sql_lex.specs.Written.{is_bare, written_name}
+use Rattle.sql_lex.specs.ReadBack.{written_kind}
+use Rattle.sql_lex.proofs.WriteLaws.{name_is_read, spelling_is_read}
+use Rattle.copy_text.specs.Texts.{IsName}
+use Rattle.std.specs.Str.{is_utf8}
 use Rattle.sql_lex.proofs.PieceLaws.{quoted_is, word_free, digit_free}
 use Rattle.ddl_parts.specs.declared.pieces.Piece.{Piece}
 use Rattle.ddl_parts.specs.Lexemes.{Lexeme, spelled, source, is_sign, start_of}
@@ -19,8 +25,8 @@ use Rattle.ddl_read.specs.Reading.{first_start}
 use Rattle.ddl_read.specs.Respelling.{IsRunText}
 use Rattle.ddl_read.proofs.Closed.{only_last}
 use Rattle.ddl_read.proofs.Standing.{is_safe, Stands, Stood, placed, NoSemicolon, collects_all}
-use Rattle.ddl_read.proofs.Kept.{AllCame, NoLine, have_come, whole_text, stands_again, all_stand_again, spelled-append}
-use Rattle.ddl_read.proofs.Tokens.{Gap, none as none_before, Begun, gap_stands, begun_some}
+use Rattle.ddl_read.proofs.Kept.{AllCame, NoLine, safe_ends, have_come, whole_text, stands_again, all_stand_again, spelled-append}
+use Rattle.ddl_read.proofs.Tokens.{word_token, name_token, Gap, none as none_before, Begun, gap_stands, begun_some, word_begun, name_begun}
 
 -- ---- machines
 
@@ -38,6 +44,10 @@ not_some x o e f = absurd (cc (e, f))
 pub run_none : (m : Machine) (ts : List Lexeme) → run m None ts ≡ None
 run_none m [] = refl
 run_none m (t ∷ ts) = run_none m ts
+
+pub run-append : (m : Machine) (s : Option m.State) (a b : List Lexeme) → run m s (a ++ b) ≡ run m (run m s a) b
+run-append m s [] b = refl
+run-append m s (t ∷ a) b = run-append m (option_and_then (λ x. m.step x t) s) a b
 
 -- none of the tokens is a semicolon, or a line that begins with a backslash
 pub record Plain (t : Lexeme) : Type 0 where
@@ -148,6 +158,38 @@ token_begun Number word line (inr h) = by h.0 h.2 h.4
 token_begun (Sign b) word line h = solid b word [] h.1 (sign_byte_solid b h.0)
 token_begun MetaLine word line h = absurd (line refl)
 
+-- ---- before what is safe
+
+-- whatever is safe behind them, they begin with what is safe
+abbrev pub IsSafe : List Lexeme → Type 0
+IsSafe others = (after : List ℕ) → is_safe after ≡ true → is_safe (spelled others ++ after) ≡ true
+
+pub name_no_line : (n : List ℕ) → written_kind n ≡ MetaLine → ⊥
+unfolding written_kind
+name_no_line n = by (is_bare n && not (is_reserved n))
+  where
+    by : (b : Bool) → cond b Word QuotedName ≡ MetaLine → ⊥
+    by true e = absurd cc
+    by false e = absurd cc
+
+-- a written name before what is safe
+pub safe_name : (g n : List ℕ) (others : List Lexeme) → Gap g → IsName n → IsSafe others → Stands (name_token g n) (spelled others)
+safe_name g n others gap is safe = record {
+  gap = gap_stands g (written_name n) (spelled others) gap (name_begun n);
+  token = λ front after e. (name_is_read front n (spelled others ++ after) is.utf8 (safe_ends (written_kind n) (written_name n) (spelled others ++ after) (name_no_line n) (safe after e))).0;
+  some = begun_some (written_name n) (name_begun n);
+}
+
+-- a word before what is safe
+pub safe_word : (g w : List ℕ) (others : List Lexeme) → Gap g → IsWord w → is_utf8 w ≡ true → IsSafe others → Stands (word_token g w) (spelled others)
+safe_word g w others gap word utf8 safe =
+    let first = word_begun w word in
+    record {
+      gap = gap_stands g w (spelled others) gap first;
+      token = λ front after e. spelling_is_read front w (spelled others ++ after) Word word (safe_ends Word w (spelled others ++ after) (λ f. absurd cc) (safe after e)) utf8 (λ f. absurd cc);
+      some = begun_some w first;
+    }
+
 -- ---- a run's text
 
 -- tokens for the text of a run behind a gap, before others
@@ -159,10 +201,6 @@ pub record IsRunKept (m : Machine) (g v : List ℕ) (others : List Lexeme) : Typ
   pub runs : (at : ℕ) → Runs m (placed at tokens)
   pub whole : (at : ℕ) → source (placed at tokens) ≡ v
   pub same : (at : ℕ) → kinds (placed at tokens) ≡ kinds (lexemes v (collected v 0).pieces)
-
--- whatever is safe behind them, they begin with what is safe
-abbrev pub IsSafe : List Lexeme → Type 0
-IsSafe others = (after : List ℕ) → is_safe after ≡ true → is_safe (spelled others ++ after) ≡ true
 
 kept_by : (m : Machine) → IsPlainMachine m → (g v : List ℕ) (t : Lexeme) (ts others : List Lexeme) (r : List ℕ) → Gap g → v ≡ t.word ++ spelled ts → Runs m (t ∷ ts) → AllCame (t ∷ ts) r
     → kinds (t ∷ ts) ≡ kinds (lexemes v (collected v 0).pieces) → Stood others → IsSafe others → IsRunKept m g v others

@@ -112,7 +112,7 @@ no_blank_39 : is_blank 39 ≡ false
 unfolding is_blank
 no_blank_39 = refl
 
-name_begun : (n : List ℕ) → Begun (written_name n)
+pub name_begun : (n : List ℕ) → Begun (written_name n)
 unfolding written_name
 name_begun n =
     elim (cases_Bool (is_bare n && not (is_reserved n))) [
@@ -150,7 +150,7 @@ gap_stands _ word rest space h = gap_begun (32 ∷ []) word rest (omega arith) r
 gap_stands _ word rest newline h = gap_begun (10 ∷ []) word rest (omega arith) refl refl h
 gap_stands _ word rest indented h = gap_begun indent word rest (omega arith) refl refl h
 
-word_begun : (w : List ℕ) → IsWord w → Begun w
+pub word_begun : (w : List ℕ) → IsWord w → Begun w
 word_begun [] h = absurd h
 word_begun (b ∷ rest) h = record { first = b; rest = rest; bytes = refl; solid = word_solid b h.0 }
   where
