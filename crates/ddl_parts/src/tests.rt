@@ -49,15 +49,21 @@ fn stopped(alloc: Global, error: ReadError) -> Result<String, AllocError> {
     }
 }
 
+fn spelled(alloc: Global, type_name: &TypeName) -> Result<String, AllocError> {
+    match type_name {
+        TypeName::Words(words) => format!(in alloc; "{}", words.as_str()),
+        TypeName::Path(path) => {
+            format!(in alloc; "{} . {}", path.schema.as_str(), path.name.as_str())
+        }
+    }
+}
+
 fn type_told(
     alloc: Global,
     read: Result<(TypeName, usize), ReadError>,
 ) -> Result<String, AllocError> {
     match read {
-        Ok((TypeName::Words(words), at)) => format!(in alloc; "{at} {}", words.as_str()),
-        Ok((TypeName::Path(path), at)) => {
-            format!(in alloc; "{at} {} . {}", path.schema.as_str(), path.name.as_str())
-        }
+        Ok((type_name, at)) => format!(in alloc; "{at} {}", spelled(alloc, &type_name)?.as_str()),
         Err(error) => stopped(alloc, error),
     }
 }
@@ -77,9 +83,7 @@ fn both_told(
     read: Result<((Text, bool), usize), ReadError>,
 ) -> Result<String, AllocError> {
     match read {
-        Ok(((text, not_null), at)) => {
-            format!(in alloc; "{at} {}, not null: {not_null}", text.as_str())
-        }
+        Ok((given, at)) => { format!(in alloc; "{at} {}, not null: {}", given.0.as_str(), given.1) }
         Err(error) => stopped(alloc, error),
     }
 }
