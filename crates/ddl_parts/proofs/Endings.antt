@@ -1,5 +1,5 @@
 -- The last two tokens of a run.
-use Rattle.std.proofs.Common.{◌≡◌, ◌+◌, ◌-◌, ◌≤◌, ℕ, Bool, List, [], ◌∷◌, ◌&&◌, length, take, drop, codes, refl, ap, ◌∙◌, arith}
+use Rattle.std.proofs.Common.{◌≡◌, ◌+◌, ◌-◌, ◌≤◌, ℕ, List, [], ◌∷◌, ◌&&◌, length, take, drop, codes, refl, ap, ◌∙◌, arith}
 use Rattle.std.proofs.lemmas.List.{drop-take, length-drop}
 use Rattle.ddl_parts.specs.Lexemes.{Lexeme, is_word, starts}
 use Rattle.ddl_parts.specs.Expressions.{are_not_null}

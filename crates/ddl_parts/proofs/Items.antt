@@ -1,10 +1,9 @@
 -- Items that a loop reads, one after another: those so far and those behind the place are the whole.
-use Rattle.std.proofs.Common.{◌≡◌, ℕ, zero, suc, ◌-◌, ◌<◌, ◌≤◌, Bool, true, false, List, [], ◌∷◌, ◌++◌, length, drop, Result, Ok, Err, refl, sym, ap, ◌∙◌, append_assoc, append-nil, length-append, arith}
+use Rattle.std.proofs.Common.{◌≡◌, ℕ, zero, suc, ◌-◌, ◌<◌, ◌≤◌, Bool, true, false, List, [], ◌∷◌, ◌++◌, length, drop, Ok, Err, refl, sym, ap, ◌∙◌, append_assoc, append-nil, length-append, arith}
 use Rattle.ddl_parts.specs.declared.fault.ReadError.{ReadError}
 use Rattle.ddl_parts.specs.declared.fault.ReadError.TheVariants.{Halted, Memory}
 use Rattle.ddl_parts.specs.Lexemes.{Lexeme, starts}
 use Rattle.ddl_parts.specs.Parts.{Stop, Reading, ◌>>=◌, Items, many_at}
-use Rattle.ddl_parts.specs.Laws.{Found}
 use Rattle.ddl_parts.specs.Pieces.{GivesPart, Fails, halted}
 use Rattle.ddl_parts.proofs.Steps.{gives}
 use Rattle.ddl_parts.proofs.Repeated.{AreApart, begun_long, some_left, shorter, none_read, one_read, one_refused}

@@ -12,7 +12,7 @@ use Rattle.ddl_parts.specs.Lexemes.{Lexeme, is_sign, starts, source}
 use Rattle.ddl_parts.specs.Leaves.{name_value}
 use Rattle.ddl_parts.specs.Parts.{Reading, Runs, run, scan, first_by, one_at, seen_at}
 use Rattle.ddl_parts.specs.Pieces.{Fails}
-use Rattle.ddl_parts.specs.Types.{typing, type_step, is_type_word, if_name, named, type_of, type_part}
+use Rattle.ddl_parts.specs.Types.{typing, type_step, is_type_word, if_name, type_of, type_part}
 use Rattle.ddl_parts.proofs.Steps.{gives}
 use Rattle.ddl_parts.proofs.Slices.{drop_twice}
 use Rattle.ddl_parts.proofs.Machines.{run_none, machine_laws}

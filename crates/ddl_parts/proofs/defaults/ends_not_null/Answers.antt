@@ -1,4 +1,4 @@
-use Rattle.std.proofs.Common.{◌-◌, Bool, ◌&&◌, length, drop, codes, sym, ap, ◌∙◌, arith}
+use Rattle.std.proofs.Common.{◌-◌, Bool, ◌&&◌, drop, codes, sym, ap, ◌∙◌, arith}
 use Rattle.std.proofs.lemmas.List.{length-map}
 use Rattle.ddl_parts.specs.Lexemes.{is_word, starts}
 use Rattle.ddl_parts.specs.Pieces.{lexeme_of, lexemes}

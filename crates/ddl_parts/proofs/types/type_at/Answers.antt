@@ -1,12 +1,10 @@
-use Rattle.std.proofs.Common.{◌≡◌, ℕ, ◌+◌, ◌-◌, ◌≤◌, List, length, drop, take, true, false, sym, ap, ◌∙◌, arith}
-use Rattle.std.proofs.lemmas.List.{length-map, length-drop}
+use Rattle.std.proofs.Common.{◌≡◌, ℕ, ◌+◌, ◌-◌, ◌≤◌, List, drop, take, false, sym, ap, ◌∙◌, arith}
 use Rattle.std.proofs.lemmas.Result.{err_from_is_err_and}
-use Rattle.cat_model.specs.declared.object.QName.{QName}
 use Rattle.cat_model.specs.declared.type_name.TypeName.TheVariants as type_name
-use Rattle.ddl_parts.specs.Lexemes.{Lexeme, is_sign, starts, source}
+use Rattle.ddl_parts.specs.Lexemes.{is_sign, starts}
 use Rattle.ddl_parts.specs.Leaves.{name_value}
 use Rattle.ddl_parts.specs.Parts.{one_at}
-use Rattle.ddl_parts.specs.Pieces.{lexeme_of, lexemes}
+use Rattle.ddl_parts.specs.Pieces.{lexemes}
 use Rattle.ddl_parts.specs.Types.{type_part}
 use Rattle.ddl_parts.proofs.Steps.{value_is}
 use Rattle.ddl_parts.proofs.Slices.{drop_twice}

@@ -1,8 +1,8 @@
-use Rattle.std.proofs.Common.{◌≡◌, sym, refl, ap, ◌∙◌, false, Some, None, drop, arith}
+use Rattle.std.proofs.Common.{◌≡◌, sym, refl, false, drop, arith}
 use Rattle.std.proofs.lemmas.List.{length-map}
 use Rattle.ddl_parts.specs.declared.types.TypeSpot.TheVariants.{Begin}
 use Rattle.ddl_parts.specs.Parts.{scan}
-use Rattle.ddl_parts.specs.Pieces.{lexeme_of, lexemes, GivesRun, ended}
+use Rattle.ddl_parts.specs.Pieces.{lexeme_of, lexemes}
 use Rattle.ddl_parts.specs.Types.{typing, type_step, type_long, type_done}
 use Rattle.ddl_parts.proofs.Scanning.{at_token, at_end, at_stop, none_left}
 use Rattle.ddl_parts.proofs.TypeRuns.{goes, stays}
