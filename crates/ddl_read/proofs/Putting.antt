@@ -35,20 +35,20 @@ begins_by test (b ∷ rest) = test b
 abbrev pub parts_words : ℕ → Bool
 parts_words b = is_safe_byte b || (b == 40 || b == 46)
 
-record Parted (bytes : List ℕ) : Type 0 where
-  first : ℕ
-  rest : List ℕ
-  same : bytes ≡ first ∷ rest
-  no_word : in_word first ≡ false
-  no_quotes : (first == 34) ≡ false
-  no_quote : (first == 39) ≡ false
+pub record Parted (bytes : List ℕ) : Type 0 where
+  pub first : ℕ
+  pub rest : List ℕ
+  pub same : bytes ≡ first ∷ rest
+  pub no_word : in_word first ≡ false
+  pub no_quotes : (first == 34) ≡ false
+  pub no_quote : (first == 39) ≡ false
 
-parted : (bytes : List ℕ) → begins_by parts_words bytes ≡ true → Parted bytes
+pub parted : (bytes : List ℕ) → begins_by parts_words bytes ≡ true → Parted bytes
 unfolding in_word begins_word is_digit
 parted [] e = absurd cc
 parted (b ∷ rest) e = record { first = b; rest = rest; same = refl; no_word = grind (arith, nat_tests); no_quotes = grind (arith, nat_tests); no_quote = grind (arith, nat_tests) }
 
-safe_behind : (others : List Lexeme) → begins_by is_safe_byte (spelled others) ≡ true → IsSafe others
+pub safe_behind : (others : List Lexeme) → begins_by is_safe_byte (spelled others) ≡ true → IsSafe others
 safe_behind others e after safe = by (spelled others) e
   where
     by : (bytes : List ℕ) → begins_by is_safe_byte bytes ≡ true → is_safe (bytes ++ after) ≡ true
@@ -85,15 +85,18 @@ behind k = record { stood = k.stood; last = k.last }
 pub begun : {A : Type 0} {p : Part A} {v : A} {text : List ℕ} {others : List Lexeme} (test : ℕ → Bool) (k : IsPut p v text others) → begins_by test text ≡ true → begins_by test (spelled (k.tokens ++ others)) ≡ true
 begun {others = others} test k e = ap (begins_by test) (spelled-append k.tokens others) ∙ begins-append test (spelled k.tokens) (spelled others) (ap (begins_by test) k.bytes ∙ e)
 
+pub begun_whole : {A : Type 0} {p : Part A} {v : A} {text : List ℕ} {others : List Lexeme} (test : ℕ → Bool) (k : IsPut p v text others) → begins_by test (text ++ spelled others) ≡ true → begins_by test (spelled (k.tokens ++ others)) ≡ true
+begun_whole {others = others} test k e = ap (begins_by test) (spelled-append k.tokens others ∙ ap (λ (x : List ℕ). x ++ spelled others) k.bytes) ∙ e
+
 pub same_text : {A : Type 0} {p : Part A} {v : A} {others : List Lexeme} (a b : List ℕ) → a ≡ b → IsPut p v a others → IsPut p v b others
 same_text {p = p} {v = v} {others = others} a b e k = subst (λ (x : List ℕ). IsPut p v x others) e k
 
 -- ---- one token
 
-abbrev one_token : {A : Type 0} → Part A → A → Lexeme → Type 0
+abbrev pub one_token : {A : Type 0} → Part A → A → Lexeme → Type 0
 one_token p v t = (at : ℕ) → p.Spells v (placed at (t ∷ []))
 
-one_put : {A : Type 0} (p : Part A) (v : A) (t : Lexeme) (others : List Lexeme) → Stands t (spelled others) → semicolon t ≡ false ⊎ (others ≡ []) → one_token p v t → Follows others → IsPut p v (t.gap ++ t.word) others
+pub one_put : {A : Type 0} (p : Part A) (v : A) (t : Lexeme) (others : List Lexeme) → Stands t (spelled others) → semicolon t ≡ false ⊎ (others ≡ []) → one_token p v t → Follows others → IsPut p v (t.gap ++ t.word) others
 one_put p v t others stands plain says follows = record {
   tokens = t ∷ [];
   bytes = ap (λ (x : List ℕ). t.gap ++ x) (append-nil t.word);

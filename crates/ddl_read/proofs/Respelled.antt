@@ -22,7 +22,8 @@ use Rattle.ddl_read.specs.Respelling.{IsWritable, AllWritable, joined, spellings
 use Rattle.ddl_read.proofs.Closed.{ends_with, statement_closes}
 use Rattle.ddl_read.proofs.ReadingLaws.{only}
 use Rattle.ddl_read.proofs.Standing.{placed, collects}
-use Rattle.ddl_read.proofs.Tokens.{Gap, none, space, newline, indented, indent}
+use Rattle.ddl_read.proofs.Tokens.{Gap, none, space, newline, indented, tabbed, indent}
+use Rattle.ddl_read.proofs.TableLayouts.{enum_laid_out, domain_laid_out, table_laid_out}
 use Rattle.ddl_read.proofs.Layouts.{IsLaidOut, schema_laid_out, set_laid_out, config_laid_out, owner_laid_out, domain_check_laid_out}
 
 -- ---- one statement
@@ -35,6 +36,9 @@ pub record CanBeWritten (g : List ℕ) (s : Stmt) : Type 0 where
 pub can_be_written : (g : List ℕ) (s : Stmt) → Gap g → IsWritable s → CanBeWritten g s
 unfolding spelling
 can_be_written g (stmt.CreateSchema n) gap is = record { text = _; spells = refl; laid_out = schema_laid_out g n gap is }
+can_be_written g (stmt.CreateEnum q labels) gap is = record { text = _; spells = refl; laid_out = enum_laid_out g q labels gap is.0 is.1 }
+can_be_written g (stmt.CreateDomain q base not_null default checks) gap is = record { text = _; spells = refl; laid_out = domain_laid_out g q base not_null default checks gap is.0 is.1 is.2 is.3 }
+can_be_written g (stmt.CreateTable q columns checks) gap is = record { text = _; spells = refl; laid_out = table_laid_out g q columns checks gap is.0 is.1 is.2 }
 can_be_written g (stmt.Set n v) gap is = record { text = _; spells = refl; laid_out = set_laid_out g n v gap is.0 is.1 }
 can_be_written g (stmt.SetConfig n v) gap is = record { text = _; spells = refl; laid_out = config_laid_out g n v gap is.0 is.1 }
 can_be_written g (stmt.AddDomainCheck q n v) gap is = record { text = _; spells = refl; laid_out = domain_check_laid_out g q n v gap is.0 is.1 is.2 }
@@ -62,6 +66,7 @@ unfolding is_blank next_is is_utf8 chars encode
 no_token front _ none = next_at_end (front ++ []) (length front) (ap length (sym (append-nil front)))
 no_token front _ newline = blank_passed front (10 ∷ []) (let e : 0 < 1 = omega arith in e) refl refl
 no_token front _ indented = blank_passed front indent (let e : 0 < 5 = omega arith in e) refl refl
+no_token front _ tabbed = blank_passed front (10 ∷ 9 ∷ []) (let e : 0 < 2 = omega arith in e) refl refl
 no_token front _ space = blank_passed front (32 ∷ []) (let e : 0 < 1 = omega arith in e) refl refl
 
 -- ---- one after another

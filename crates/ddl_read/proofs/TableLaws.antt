@@ -370,7 +370,7 @@ create_domain_laws =
 abbrev is_no_constraint : Lexeme → Bool
 is_no_constraint t = not (is_word (codes "constraint") t)
 
-column_name_is : (t : Lexeme) (v : List ℕ) → column_name_value t ≡ Ok v → (is_word (codes "constraint") t ≡ false) × (name_value t ≡ Ok v)
+pub column_name_is : (t : Lexeme) (v : List ℕ) → column_name_value t ≡ Ok v → (is_word (codes "constraint") t ≡ false) × (name_value t ≡ Ok v)
 unfolding column_name_value
 column_name_is t v e = by (is_word (codes "constraint") t) refl e
   where

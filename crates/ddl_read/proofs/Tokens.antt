@@ -2,7 +2,8 @@
 use Rattle.std.proofs.Common.{◌≡◌, ◌≢◌, ℕ, ◌+◌, ◌<◌, Bool, true, false, not, cond, ◌&&◌, List, [], ◌∷◌, ◌++◌, length, Some, Ok, Err, refl, sym, ap, subst, ◌∙◌, arith, inl, inr}
 use Rattle.std.specs.Prelude.{◌==◌, nat_lt, All}
 use Rattle.std.specs.List.{list_all, list_any}
-use Rattle.std.specs.Str.{is_utf8, IsUtf8, chars}
+use Rattle.std.specs.Str.{is_utf8, IsUtf8, chars, str_to_ascii_lowercase, str_eq_ignore_ascii_case}
+use Rattle.std.proofs.lemmas.Slice.Eq.{bytes_eq-Decides}
 use Rattle.std.proofs.Math.Utf8.{encode}
 use Rattle.std.proofs.lemmas.Bool.{cases_Bool, and_parts, ne_eqb}
 use Rattle.std.proofs.lemmas.Bool.Decides.{nat_tests}
@@ -14,7 +15,7 @@ use Rattle.sql_lex.specs.declared.token.TokenKind.TheVariants.{Word, Literal, Si
 use Rattle.sql_lex.specs.Bytes.{is_blank, is_digit, begins_word, in_word, is_sign, marks_escapes, next_is}
 use Rattle.sql_lex.specs.Next.{next_token_of}
 use Rattle.sql_lex.specs.Spelling.{IsWord, goes_on}
-use Rattle.sql_lex.specs.Meaning.{name_of, literal_of}
+use Rattle.sql_lex.specs.Meaning.{name_of, literal_of, is_keyword_of}
 use Rattle.sql_lex.specs.Reserved.{is_reserved}
 use Rattle.sql_lex.specs.Written.{begins_bare, in_bare, is_bare, quoted, written_name, written_literal}
 use Rattle.sql_lex.specs.ReadBack.{written_kind}
@@ -142,6 +143,7 @@ pub data Gap : List ℕ → Type 0 where
   space : Gap (32 ∷ [])
   newline : Gap (10 ∷ [])
   indented : Gap indent
+  tabbed : Gap (10 ∷ 9 ∷ [])
 
 pub gap_stands : (g word rest : List ℕ) → Gap g → Begun word → GapStands g (word ++ rest)
 unfolding is_blank is_utf8 chars encode
@@ -149,6 +151,7 @@ gap_stands _ word rest none h = gap_none (word ++ rest)
 gap_stands _ word rest space h = gap_begun (32 ∷ []) word rest (omega arith) refl refl h
 gap_stands _ word rest newline h = gap_begun (10 ∷ []) word rest (omega arith) refl refl h
 gap_stands _ word rest indented h = gap_begun indent word rest (omega arith) refl refl h
+gap_stands _ word rest tabbed h = gap_begun (10 ∷ 9 ∷ []) word rest (omega arith) refl refl h
 
 pub word_begun : (w : List ℕ) → IsWord w → Begun w
 word_begun [] h = absurd h
@@ -233,3 +236,29 @@ name_no_sign b n =
       | inl is ↦ rw is refl
       | inr isnt ↦ rw isnt refl
     ]
+
+bare_is_small : (n : List ℕ) → IsUtf8 n → (is_bare n && not (is_reserved n)) ≡ true → str_to_ascii_lowercase n ≡ n
+unfolding written_kind written_name name_of
+bare_is_small n utf8 is =
+    let r = (name_is_read [] n (10 ∷ []) utf8 (name_ends n 10 [] in_10 refl refl)).1 in
+    let e : name_of Word n ≡ Some n = rw is at r in
+    cc
+
+-- a written name is no reserved word
+pub name_no_word : (key n : List ℕ) → IsUtf8 n → is_reserved (str_to_ascii_lowercase key) ≡ true → is_keyword_of (written_kind n) (written_name n) key ≡ false
+unfolding written_kind written_name is_keyword_of
+name_no_word key n utf8 reserved =
+    elim (cases_Bool (is_bare n && not (is_reserved n))) [
+      | inl is ↦ rw is (bare is)
+      | inr isnt ↦ rw isnt refl
+    ]
+  where
+    same : (is_bare n && not (is_reserved n)) ≡ true → str_eq_ignore_ascii_case n key ≡ true → is_reserved n ≡ true
+    same is e = ap is_reserved (sym (bare_is_small n utf8 is) ∙ (bytes_eq-Decides (str_to_ascii_lowercase n) (str_to_ascii_lowercase key)).0 e) ∙ reserved
+
+    bare : (is_bare n && not (is_reserved n)) ≡ true → str_eq_ignore_ascii_case n key ≡ false
+    bare is = by (str_eq_ignore_ascii_case n key) refl
+      where
+        by : (b : Bool) → str_eq_ignore_ascii_case n key ≡ b → b ≡ false
+        by false e = refl
+        by true e = absurd (let r = (and_parts (is_bare n) (not (is_reserved n)) is).1 in let t = same is e in cc)

@@ -23,7 +23,9 @@ use Rattle.ddl_parts.specs.Parts.{run, Runs}
 use Rattle.ddl_parts.specs.Pieces.{lexemes}
 use Rattle.ddl_parts.specs.Collecting.{collected}
 use Rattle.ddl_parts.specs.Leaves.{name_in, name_value}
-use Rattle.ddl_parts.specs.Types.{TypeSpot, begin, first_word, schema, dotted, path, words, bracket, number, comma, behind, array, closed, typing, type_step, type_done, is_type_word, is_number, if_name, only_if, named, type_of, type_part}
+use Rattle.ddl_parts.specs.declared.types.TypeSpot.{TypeSpot}
+use Rattle.ddl_parts.specs.declared.types.TypeSpot.TheVariants.{Begin, FirstWord, Schema, Dotted, Path, Words, Opened, Counted, Further, Behind, Array, Ended}
+use Rattle.ddl_parts.specs.Types.{typing, type_step, type_done, is_type_word, is_number, if_name, only_if, named, type_of, type_part}
 use Rattle.ddl_write.specs.Paths.{path as path_text}
 use Rattle.ddl_read.specs.Grammar.{semicolon}
 use Rattle.ddl_read.specs.Respelling.{IsPath, IsTypeText, IsType}
@@ -36,18 +38,18 @@ use Rattle.ddl_read.proofs.RunTexts.{IsPlainMachine, AllPlain, IsSafe, not_some,
 
 same_type_step : (s : TypeSpot) (gap : List ℕ) (start : ℕ) (t : Lexeme) → type_step s (record { gap = gap; kind = t.kind; word = t.word; start = start }) ≡ type_step s t
 unfolding type_step is_type_word is_number is_word is_sign name_value
-same_type_step begin gap start t = refl
-same_type_step (first_word short) gap start t = refl
-same_type_step schema gap start t = refl
-same_type_step dotted gap start t = refl
-same_type_step path gap start t = refl
-same_type_step words gap start t = refl
-same_type_step bracket gap start t = refl
-same_type_step number gap start t = refl
-same_type_step comma gap start t = refl
-same_type_step behind gap start t = refl
-same_type_step array gap start t = refl
-same_type_step closed gap start t = refl
+same_type_step Begin gap start t = refl
+same_type_step (FirstWord short) gap start t = refl
+same_type_step Schema gap start t = refl
+same_type_step Dotted gap start t = refl
+same_type_step Path gap start t = refl
+same_type_step Words gap start t = refl
+same_type_step Opened gap start t = refl
+same_type_step Counted gap start t = refl
+same_type_step Further gap start t = refl
+same_type_step Behind gap start t = refl
+same_type_step Array gap start t = refl
+same_type_step Ended gap start t = refl
 
 -- the step by the kind and the bytes of a token
 abbrev step_of : TypeSpot → TokenKind → List ℕ → Option TypeSpot
@@ -55,33 +57,33 @@ step_of s kind word = type_step s (record { gap = []; kind = kind; word = word; 
 
 semicolon_none : (s : TypeSpot) (word : List ℕ) → step_of s (Sign 59) word ≡ None
 unfolding type_step is_type_word is_number is_word is_sign name_value name_in name_of is_keyword_of
-semicolon_none begin word = refl
-semicolon_none (first_word short) word = refl
-semicolon_none schema word = refl
-semicolon_none dotted word = refl
-semicolon_none path word = refl
-semicolon_none words word = refl
-semicolon_none bracket word = refl
-semicolon_none number word = refl
-semicolon_none comma word = refl
-semicolon_none behind word = refl
-semicolon_none array word = refl
-semicolon_none closed word = refl
+semicolon_none Begin word = refl
+semicolon_none (FirstWord short) word = refl
+semicolon_none Schema word = refl
+semicolon_none Dotted word = refl
+semicolon_none Path word = refl
+semicolon_none Words word = refl
+semicolon_none Opened word = refl
+semicolon_none Counted word = refl
+semicolon_none Further word = refl
+semicolon_none Behind word = refl
+semicolon_none Array word = refl
+semicolon_none Ended word = refl
 
 line_none : (s : TypeSpot) (word : List ℕ) → step_of s MetaLine word ≡ None
 unfolding type_step is_type_word is_number is_word is_sign name_value name_in name_of is_keyword_of
-line_none begin word = refl
-line_none (first_word short) word = refl
-line_none schema word = refl
-line_none dotted word = refl
-line_none path word = refl
-line_none words word = refl
-line_none bracket word = refl
-line_none number word = refl
-line_none comma word = refl
-line_none behind word = refl
-line_none array word = refl
-line_none closed word = refl
+line_none Begin word = refl
+line_none (FirstWord short) word = refl
+line_none Schema word = refl
+line_none Dotted word = refl
+line_none Path word = refl
+line_none Words word = refl
+line_none Opened word = refl
+line_none Counted word = refl
+line_none Further word = refl
+line_none Behind word = refl
+line_none Array word = refl
+line_none Ended word = refl
 
 kind_is : (b : ℕ) (k : TokenKind) → is_sign_kind b k ≡ true → k ≡ Sign b
 kind_is b (Sign c) e = ap Sign (sym (eqb-true b c e))
@@ -177,9 +179,9 @@ words_by ts v isnt whole = type_by ts ∙ ap (by_dot ts) isnt ∙ ap type_name.W
 -- ---- the three tokens of a path
 
 abbrev first_spot : Bool → Result (List ℕ) Bool → Option TypeSpot
-first_spot is_word r = cond is_word (Some (first_word (is_ok r))) (if_name r schema)
+first_spot is_word r = cond is_word (Some (FirstWord (is_ok r))) (if_name r Schema)
 
-dot_step : (dot : Lexeme) → is_sign 46 dot ≡ true → (b : Bool) (r : Result (List ℕ) Bool) → option_and_then (λ s. type_step s dot) (first_spot b r) ≡ only_if (is_ok r) dotted
+dot_step : (dot : Lexeme) → is_sign 46 dot ≡ true → (b : Bool) (r : Result (List ℕ) Bool) → option_and_then (λ s. type_step s dot) (first_spot b r) ≡ only_if (is_ok r) Dotted
 unfolding type_step
 dot_step dot e true (Ok n) = rw e refl
 dot_step dot e true (Err long) = rw e refl
@@ -187,14 +189,14 @@ dot_step dot e false (Ok n) = rw e refl
 dot_step dot e false (Err long) = refl
 
 abbrev name_spot : Bool → Result (List ℕ) Bool → Option TypeSpot
-name_spot ok r = cond ok (if_name r path) None
+name_spot ok r = cond ok (if_name r Path) None
 
-name_step : (b : Lexeme) (ok : Bool) → option_and_then (λ s. type_step s b) (only_if ok dotted) ≡ name_spot ok (name_value b)
+name_step : (b : Lexeme) (ok : Bool) → option_and_then (λ s. type_step s b) (only_if ok Dotted) ≡ name_spot ok (name_value b)
 unfolding type_step
 name_step b true = refl
 name_step b false = refl
 
-three_steps : (a dot b : Lexeme) (rest : List Lexeme) → is_sign 46 dot ≡ true → run typing (Some begin) (a ∷ dot ∷ b ∷ rest) ≡ run typing (name_spot (is_ok (name_value a)) (name_value b)) rest
+three_steps : (a dot b : Lexeme) (rest : List Lexeme) → is_sign 46 dot ≡ true → run typing (Some Begin) (a ∷ dot ∷ b ∷ rest) ≡ run typing (name_spot (is_ok (name_value a)) (name_value b)) rest
 unfolding type_step
 three_steps a dot b rest e =
     ap (λ o. run typing o (b ∷ rest)) (dot_step dot e (is_type_word a) (name_value a)) ∙ ap (λ o. run typing o rest) (name_step b (is_ok (name_value a)))
@@ -202,7 +204,7 @@ three_steps a dot b rest e =
 path_runs : (a dot b : Lexeme) (q : QName) → is_sign 46 dot ≡ true → name_value a ≡ Ok q.schema → name_value b ≡ Ok q.name → Runs typing (a ∷ dot ∷ b ∷ [])
 unfolding type_done
 path_runs a dot b q e f g = record {
-  last = path;
+  last = Path;
   runs = three_steps a dot b [] e ∙ ap (λ (r : Result (List ℕ) Bool). name_spot (is_ok r) (name_value b)) f ∙ ap (λ (r : Result (List ℕ) Bool). name_spot true r) g;
   done = refl;
 }
@@ -211,7 +213,7 @@ path_type : (a dot b : Lexeme) (q : QName) → is_sign 46 dot ≡ true → name_
 unfolding type_of
 path_type a dot b q e f g = rw (e, f, g) refl
 
-path_names : (ts : List Lexeme) (last : TypeSpot) → run typing (Some begin) ts ≡ Some last → has_dot (kinds ts) ≡ true → IsPath (path_of ts)
+path_names : (ts : List Lexeme) (last : TypeSpot) → run typing (Some Begin) ts ≡ Some last → has_dot (kinds ts) ≡ true → IsPath (path_of ts)
 unfolding is_sign
 path_names [] last e is = absurd cc
 path_names (a ∷ []) last e is = absurd cc

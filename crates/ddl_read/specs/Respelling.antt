@@ -1,7 +1,10 @@
 -- Statements that can be written, and the spellings of several joined.
 use Rattle.std.specs.Prelude.{◌≡◌, ℕ, true, false, List, [], ◌∷◌, ◌++◌, map, length, Option, Some, None}
 use Rattle.copy_text.specs.Texts.{IsName, IsText}
+use Rattle.std.specs.List.{AllByRecursion}
 use Rattle.cat_model.specs.declared.object.QName.{QName}
+use Rattle.cat_model.specs.declared.table.ColumnDef.{ColumnDef}
+use Rattle.cat_model.specs.declared.table.CheckDef.{CheckDef}
 use Rattle.cat_model.specs.declared.grant.Owned.{Owned}
 use Rattle.cat_model.specs.declared.grant.Owned.TheVariants as owned
 use Rattle.cat_model.specs.declared.stmt.Stmt.{Stmt}
@@ -54,10 +57,24 @@ abbrev pub IsType : TypeName → Type 0
 IsType (type_name.Words v) = IsTypeText v
 IsType (type_name.Path q) = IsPath q
 
+-- a default, if there is one
+abbrev pub IsDefault : Option (List ℕ) → Type 0
+IsDefault None = Unit {0}
+IsDefault (Some v) = IsDefaultText v
+
+abbrev pub IsCheck : CheckDef → Type 0
+IsCheck c = IsName c.name × IsExpressionText c.text
+
+abbrev pub IsColumn : ColumnDef → Type 0
+IsColumn c = IsName c.name × IsType c.type_name × IsDefault c.default
+
 -- What a statement is made of is what it should be: names are names, texts are texts, expressions are expressions. It
 -- says so for the kinds that are written.
 abbrev pub IsWritable : Stmt → Type 0
 IsWritable (stmt.CreateSchema n) = IsName n
+IsWritable (stmt.CreateEnum q labels) = IsPath q × AllByRecursion IsText labels
+IsWritable (stmt.CreateDomain q base not_null default checks) = IsPath q × IsType base × IsDefault default × AllByRecursion IsCheck checks
+IsWritable (stmt.CreateTable q columns checks) = IsPath q × AllByRecursion IsColumn columns × AllByRecursion IsCheck checks
 IsWritable (stmt.Set n v) = IsName n × IsExpressionText v
 IsWritable (stmt.SetConfig n v) = IsText n × IsText v
 IsWritable (stmt.AddDomainCheck q n v) = IsPath q × IsName n × IsExpressionText v
