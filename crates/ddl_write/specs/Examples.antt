@@ -1,8 +1,9 @@
 -- Worked examples: statements with their texts, as PostgreSQL's dumps have them.
-use Rattle.std.specs.Prelude.{◌≡◌, ℕ, ℤ, pos, negsuc, Bool, true, false, List, [], ◌∷◌, Option, Some, None, codes}
+use Rattle.std.specs.Prelude.{◌≡◌, ℕ, pos, negsuc, true, false, List, [], ◌∷◌, Some, None, codes}
 use Rattle.cat_model.specs.declared.object.QName.{QName}
 use Rattle.cat_model.specs.declared.constraint.SequenceKind.TheVariants as sequences
 use Rattle.cat_model.specs.declared.constraint.Encoding.TheVariants as encodings
+use Rattle.cat_model.specs.declared.type_name.TypeName.TheVariants as types
 use Rattle.cat_model.specs.declared.grant.Rights.{Rights}
 use Rattle.cat_model.specs.declared.grant.Granted.TheVariants as on
 use Rattle.cat_model.specs.declared.grant.Grantee.TheVariants as grantee
@@ -60,3 +61,17 @@ pub record WorkedExamples : Type 0 where
   pub plain_member : IsWritten (stmt.GrantRole (codes "a") (codes "b") None true None false) (codes "GRANT a TO b WITH ADMIN TRUE, SET FALSE;\n")
   pub database : IsWritten (stmt.CreateDatabase (codes "d") (Some encodings.Utf8)) (codes "CREATE DATABASE d WITH TEMPLATE = template0 ENCODING = 'UTF8';\n")
   pub connect : IsWritten (stmt.Connect (codes "d")) (codes "\\connect d\n")
+  pub enum : IsWritten (stmt.CreateEnum (public (codes "e")) (codes "m" ∷ codes "it's" ∷ [])) (codes "CREATE TYPE public.e AS ENUM (\n    'm',\n    'it''s'\n);\n")
+  pub no_labels : IsWritten (stmt.CreateEnum (public (codes "e")) []) (codes "CREATE TYPE public.e AS ENUM (\n);\n")
+  pub domain : IsWritten (stmt.CreateDomain (public (codes "d")) (types.Words (codes "integer")) true (Some (codes "1")) (record { name = codes "c"; text = codes "VALUE > 0" } ∷ []))
+      (codes "CREATE DOMAIN public.d AS integer NOT NULL DEFAULT 1\n\tCONSTRAINT c CHECK (VALUE > 0);\n")
+  pub plain_domain : IsWritten (stmt.CreateDomain (public (codes "d")) (types.Path (public (codes "e"))) false None []) (codes "CREATE DOMAIN public.d AS public.e;\n")
+  pub table : IsWritten (stmt.CreateTable (public (codes "t"))
+      (record { name = codes "a"; type_name = types.Words (codes "integer"); default = Some (codes "1"); not_null = true }
+      ∷ record { name = codes "b"; type_name = types.Path (public (codes "e")); default = None; not_null = false } ∷ [])
+      (record { name = codes "c"; text = codes "a > 0" } ∷ []))
+      (codes "CREATE TABLE public.t (\n    a integer DEFAULT 1 NOT NULL,\n    b public.e,\n    CONSTRAINT c CHECK (a > 0)\n);\n")
+  pub no_columns : IsWritten (stmt.CreateTable (public (codes "t")) [] []) (codes "CREATE TABLE public.t (\n);\n")
+  -- checks alone
+  pub only_checks : IsWritten (stmt.CreateTable (public (codes "t")) [] (record { name = codes "c"; text = codes "true" } ∷ record { name = codes "d"; text = codes "1 > 0" } ∷ []))
+      (codes "CREATE TABLE public.t (\n    CONSTRAINT c CHECK (true),\n    CONSTRAINT d CHECK (1 > 0)\n);\n")

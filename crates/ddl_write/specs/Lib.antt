@@ -5,8 +5,8 @@ pub mod Keys
 pub mod RowsText
 pub mod RightsText
 pub mod Roles
-pub mod Pieces
 pub mod Tables
+pub mod Pieces
 pub mod Spelling
 pub mod Outcome
 pub mod Examples

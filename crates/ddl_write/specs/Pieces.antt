@@ -1,5 +1,6 @@
 -- What a piece of a statement's text stands for.
-use Rattle.std.specs.Prelude.{ℕ, List, ◌++◌}
+use Rattle.std.specs.Prelude.{ℕ, List, ◌++◌, map}
+use Rattle.std.specs.List.{flat_map}
 use Rattle.std.specs.Fmt.{signed_decimal}
 use Rattle.sql_lex.specs.Written.{written_name, written_literal}
 use Rattle.ddl_write.specs.declared.words.Piece.{Piece}
@@ -10,6 +11,7 @@ use Rattle.ddl_write.specs.Keys.{rest_text}
 use Rattle.ddl_write.specs.RightsText.{remark_text, granted_words, granted_name, grantee_text}
 use Rattle.ddl_write.specs.Roles.{flag_text, limit_text, given_literal, given_name, truth, inherit_text, encoding_text}
 use Rattle.ddl_write.specs.Views.{space_before}
+use Rattle.ddl_write.specs.Tables.{type_text, given_default, check_text, lines}
 
 abbrev pub text_of : Piece → List ℕ
 text_of (pieces.Words words) = words.now
@@ -35,3 +37,7 @@ text_of (pieces.Encoding encoding) = encoding_text encoding
 text_of (pieces.Body body) = space_before body.now ++ body.now
 text_of (pieces.On object) = granted_words object.now ++ granted_name object.now
 text_of (pieces.Whom grantee) = grantee_text grantee.now
+text_of (pieces.TypeName type_name) = type_text type_name.now
+text_of (pieces.Default default) = given_default default.now
+text_of (pieces.Checks words checks) = flat_map (λ c. words.now ++ check_text c.name c.text) checks.now
+text_of (pieces.Labels labels) = lines (map written_literal labels.now)

@@ -1,5 +1,5 @@
 -- The spelling of GRANT and REVOKE of rights, and of COMMENT.
-use Rattle.std.specs.Prelude.{ℕ, Bool, true, false, ◌&&◌, ◌||◌, not, List, [], ◌∷◌, ◌++◌, Option, Some, None, if◌then◌else◌, codes}
+use Rattle.std.specs.Prelude.{ℕ, Bool, false, ◌&&◌, ◌||◌, not, List, [], ◌∷◌, ◌++◌, Option, Some, None, if◌then◌else◌, codes}
 use Rattle.sql_lex.specs.Written.{written_name, written_literal}
 use Rattle.cat_model.specs.declared.grant.Rights.{Rights}
 use Rattle.cat_model.specs.declared.grant.Granted.{Granted}

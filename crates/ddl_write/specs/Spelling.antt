@@ -1,6 +1,6 @@
 -- The one written spelling of each statement.
 -- Each ends with a semicolon and a newline.
-use Rattle.std.specs.Prelude.{ℕ, List, [], ◌∷◌, ◌++◌, Option, Some, None, codes}
+use Rattle.std.specs.Prelude.{ℕ, List, ◌∷◌, ◌++◌, Option, Some, codes}
 use Rattle.sql_lex.specs.Written.{written_name, written_literal}
 use Rattle.cat_model.specs.declared.object.QName.{QName}
 use Rattle.cat_model.specs.declared.grant.Owned.{Owned}

@@ -8,9 +8,6 @@ use thiserror::Error;
 /// Why a statement was not written.
 #[derive(Debug, Drop, Error)]
 pub enum WriteStmtError {
-    /// Statements of this kind aren't written yet.
-    #[error("statements of this kind aren't written yet")]
-    Unbuilt,
     /// Memory ran out.
     #[error("out of memory")]
     Memory,

@@ -8,6 +8,7 @@ mod rights;
 mod roles;
 mod rows;
 mod sequences;
+mod tables;
 mod views;
 mod words;
 mod writing;

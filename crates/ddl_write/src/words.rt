@@ -14,8 +14,9 @@ ghost use Rattle.ddl_write.specs.Outcome.{Extends};
 use crate::rights::{put_granted, put_grantee};
 use crate::roles::{encoding_words, inherit_words, truth};
 use crate::sequences::{called_words, type_words};
+use crate::tables::{put_checks, put_given_default, put_labels, put_type};
 use crate::views::put_body;
-use cat_model::{Encoding, Granted, Grantee, QName, SequenceKind};
+use cat_model::{CheckDef, Encoding, Granted, Grantee, QName, SequenceKind, TypeName};
 use copy_text::{Name, Text};
 use itoa::Buffer;
 use sql_lex::{write_literal, write_name};
@@ -70,6 +71,14 @@ pub(crate) enum Piece<'a> {
     On(&'a Granted),
     /// Whom they are granted to.
     Whom(&'a Grantee),
+    /// A type.
+    TypeName(&'a TypeName),
+    /// DEFAULT and an expression, where there is one.
+    Default(&'a Option<Text>),
+    /// Checks, each behind the same words.
+    Checks(&'a [u8], &'a [CheckDef]),
+    /// The labels of an enum, each in a line.
+    Labels(&'a [Text]),
 }
 
 /// Words and a name.
@@ -237,6 +246,10 @@ fn put_piece(piece: &Piece<'_>, out: &mut Vec<u8>) -> Result<(), AllocError>
         Piece::Body(body) => put_body(body, out),
         Piece::On(object) => put_granted(object, out),
         Piece::Whom(grantee) => put_grantee(grantee, out),
+        Piece::TypeName(type_name) => put_type(type_name, out),
+        Piece::Default(default) => put_given_default(default, out),
+        Piece::Checks(words, checks) => put_checks(words, checks, out),
+        Piece::Labels(labels) => put_labels(labels, out),
     }
 }
 

@@ -1,6 +1,6 @@
 //! Statements as texts.
 ghost use Rattle.std.specs.Prelude.{◌≡◌, ◌++◌, take, vec_len, OnOk, OnErr, Some};
-ghost use Rattle.ddl_write.specs.Spelling.{path, owned_object, schema_text, set_text, setting_text, owner_text, check_text, domain_check_text, spelling};
+ghost use Rattle.ddl_write.specs.Spelling.{path, owned_object, schema_text, set_text, setting_text, owner_text, domain_check_text, spelling};
 ghost use Rattle.sql_lex.specs.Written.{written_name};
 ghost use Rattle.ddl_write.specs.Outcome.{Writes, Extends};
 
@@ -10,6 +10,7 @@ use crate::rights::{put_comment, put_grant, put_revoke};
 use crate::roles::{put_changes, put_connect, put_database, put_member, put_role};
 use crate::rows::put_copy;
 use crate::sequences::{put_owned_by, put_sequence, put_value};
+use crate::tables::{put_domain, put_enum, put_named_check, put_table};
 use crate::views::{put_default, put_view};
 use crate::words::{put_literal, put_named, put_path};
 use cat_model::{Owned, QName, Stmt};
@@ -19,7 +20,7 @@ use std::alloc::AllocError;
 
 /// Appends the one written spelling of a statement, with its semicolon and a newline.
 ///
-/// `Unbuilt` comes exactly where statements of its kind aren't written yet, `Memory` where there was none for the text.
+/// `Memory` comes where there was none for the text.
 /// After an error `out` is as it was.
 /// <https://www.postgresql.org/docs/16/sql-commands.html>
 pub fn write_stmt(stmt: &Stmt, out: &mut Vec<u8>) -> Result<(), WriteStmtError>
@@ -42,6 +43,17 @@ fn put_stmt(stmt: &Stmt, out: &mut Vec<u8>) -> Result<(), WriteStmtError>
 {
     match stmt {
         Stmt::CreateSchema { name } => put_schema(name, out)?,
+        Stmt::CreateEnum { q, labels } => put_enum(q, labels.as_slice(), out)?,
+        Stmt::CreateDomain {
+            q,
+            base,
+            not_null,
+            default,
+            checks,
+        } => put_domain(q, base, *not_null, default, checks.as_slice(), out)?,
+        Stmt::CreateTable { q, columns, checks } => {
+            put_table(q, columns.as_slice(), checks.as_slice(), out)?
+        }
         Stmt::SetConfig { name, value } => put_setting(name, value, out)?,
         Stmt::CreateSequence {
             q,
@@ -129,7 +141,6 @@ fn put_stmt(stmt: &Stmt, out: &mut Vec<u8>) -> Result<(), WriteStmtError>
         } => put_member(role, member, grantor, *admin, *inherit, *set, out)?,
         Stmt::CreateDatabase { name, encoding } => put_database(name, *encoding, out)?,
         Stmt::Connect { name } => put_connect(name, out)?,
-        _ => return Err(WriteStmtError::Memory),
     }
     Ok(())
 }
@@ -195,20 +206,6 @@ fn put_owned(object: &Owned, out: &mut Vec<u8>) -> Result<(), AllocError>
     }
 }
 
-/// A name for a check, and its expression in brackets.
-#[tactic(auto, unfolding(crate::specs::Spelling::check_text))]
-fn put_named_check(name: &Name, text: &Text, out: &mut Vec<u8>) -> Result<(), AllocError>
-    ensures ok { OnOk result (out.new.items ≡ out.old.items ++ check_text name.now text.now) }
-    ensures kept { Extends out.old.items out.new.items }
-{
-    out.extend_from_slice(b"CONSTRAINT ")?;
-    write_name(name.as_bytes(), out)?;
-    out.extend_from_slice(b" CHECK (")?;
-    out.extend_from_slice(text.as_bytes())?;
-    out.extend_from_slice(b")")?;
-    Ok(())
-}
-
 #[tactic(auto, unfolding(crate::specs::Spelling::domain_check_text))]
 fn put_domain_check(
     q: &QName,
@@ -220,8 +217,7 @@ fn put_domain_check(
     ensures kept { Extends out.old.items out.new.items }
 {
     put_path(b"ALTER DOMAIN ", q, out)?;
-    out.extend_from_slice(b"\n    ADD ")?;
-    put_named_check(name, text, out)?;
+    put_named_check(b"\n    ADD ", name, text, out)?;
     out.extend_from_slice(b";\n")?;
     Ok(())
 }

@@ -1,8 +1,8 @@
-use Rattle.std.proofs.Common.{◌++◌, append_assoc}
+use Rattle.std.proofs.Common.{append_assoc}
 use Rattle.ddl_write.specs.Spelling.{domain_check_text}
 use Rattle.ddl_write.proofs.writing.put_domain_check.Goals as goal
 
 pub returns-clause-ok : goal.returns-clause-ok
 unfolding domain_check_text
 returns-clause-ok c =
-    rw (c.in_ok-extend_from_slice-2.ensures.items, c.in_ok-put_named_check.ensures.ok, c.in_ok-extend_from_slice.ensures.items, c.in_ok-put_path.ensures.ok) (simp append_assoc)
+    rw (c.in_ok-extend_from_slice.ensures.items, c.in_ok-put_named_check.ensures.ok, c.in_ok-put_path.ensures.ok) (simp append_assoc)

@@ -1,4 +1,4 @@
-use Rattle.std.proofs.Common.{◌++◌, append_assoc}
+use Rattle.std.proofs.Common.{append_assoc}
 use Rattle.ddl_write.specs.Spelling.{setting_text}
 use Rattle.ddl_write.proofs.writing.put_setting.Goals as goal
 
