@@ -1,12 +1,13 @@
 -- The laws of lists with commas between their items.
-use Rattle.std.proofs.Common.{◌≡◌, Bool, true, false, ◌||◌}
+use Rattle.std.proofs.Common.{◌≡◌, Bool, true, false, ◌||◌, refl}
 use Rattle.std.proofs.lemmas.Bool.{or_parts}
 use Rattle.ddl_parts.specs.Lexemes.{Lexeme}
 use Rattle.ddl_parts.specs.Parts.{Part}
 use Rattle.ddl_parts.specs.Laws.{Lawful, Begins, Apart}
+use Rattle.ddl_parts.specs.Leaves.{name, is_name}
 use Rattle.ddl_parts.specs.Lists.{comma, item_begins, item_of, listing, listed}
 use Rattle.ddl_parts.proofs.Sequence.{lead_begins}
-use Rattle.ddl_parts.proofs.Leads.{sign_laws}
+use Rattle.ddl_parts.proofs.Leads.{sign_laws, name_laws, name_begins}
 use Rattle.ddl_parts.proofs.Repeated.{AreApart, many_laws}
 
 -- a comma can't go on with an item, so that items are told apart
@@ -31,3 +32,7 @@ listing_apart {A} first p lp begins apart = record { laws = laws; begins = begun
 
 pub listed_laws : {A : Type 0} (first : Lexeme → Bool) (p : Part A) → Lawful p → Begins first p → Apart comma p.goes_on → Lawful (listed first p)
 listed_laws first p lp begins apart = many_laws (λ t. first t || (comma t || p.goes_on t)) (listing first p) (listing_apart first p lp begins apart)
+
+-- names with commas between them: a name takes no comma
+pub names_laws : Lawful (listed is_name name)
+names_laws = listed_laws is_name name name_laws name_begins (λ t is. refl)

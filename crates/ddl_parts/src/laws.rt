@@ -1,6 +1,7 @@
 //! Laws of the definitions, each the contract of a function that does nothing.
 ghost use Rattle.ddl_parts.specs.Laws.{Lawful};
-ghost use Rattle.ddl_parts.specs.Leaves.{name, literal, qualified};
+ghost use Rattle.ddl_parts.specs.Leaves.{name, is_name, literal, qualified};
+ghost use Rattle.ddl_parts.specs.Lists.{listed};
 ghost use Rattle.ddl_parts.specs.Expressions.{expression, default_text, default_and_null};
 ghost use Rattle.ddl_parts.specs.Types.{type_part};
 
@@ -14,4 +15,5 @@ pub fn parts_have_their_laws()
     ensures default_text { Lawful default_text }
     ensures default_and_null { Lawful default_and_null }
     ensures type_part { Lawful type_part }
+    ensures names { Lawful (listed is_name name) }
 {}

@@ -1,5 +1,6 @@
 use Rattle.ddl_parts.proofs.Leads.{name_laws, literal_laws, qualified_laws}
 use Rattle.ddl_parts.proofs.RunLaws.{expression_laws, default_text_laws, default_and_null_laws, type_laws}
+use Rattle.ddl_parts.proofs.Listing.{names_laws}
 use Rattle.ddl_parts.proofs.laws.parts_have_their_laws.Goals as goal
 
 pub returns : goal.returns
@@ -11,4 +12,5 @@ returns c = record {
   default_text = default_text_laws;
   default_and_null = default_and_null_laws;
   type_part = type_laws;
+  names = names_laws;
 }
