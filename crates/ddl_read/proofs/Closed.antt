@@ -1,5 +1,5 @@
 -- A statement takes all of its tokens: it ends with a semicolon, and no semicolon stands before the last token.
-use Rattle.std.proofs.Common.{◌≡◌, ℕ, zero, suc, ◌+◌, Bool, true, false, not, cond, ◌&&◌, List, [], ◌∷◌, ◌++◌, Option, Some, None, Result, Ok, Err, refl, sym, ap, ◌∙◌, ◌⊎◌, inl, inr, codes, length}
+use Rattle.std.proofs.Common.{◌≡◌, ℕ, zero, suc, ◌+◌, Bool, true, false, not, cond, ◌&&◌, List, [], ◌∷◌, ◌++◌, Option, Some, None, Result, Ok, Err, refl, sym, ap, ◌∙◌, codes, length}
 use Rattle.std.proofs.lemmas.Bool.{and_parts, and_from}
 use Rattle.sql_lex.specs.declared.token.Token.{Token}
 use Rattle.sql_lex.specs.declared.fault.LexFault.{LexFault}
@@ -10,7 +10,7 @@ use Rattle.cat_model.specs.declared.grant.Owned.TheVariants as owned
 use Rattle.cat_model.specs.declared.stmt.Stmt.{Stmt}
 use Rattle.ddl_parts.specs.declared.pieces.Piece.{Piece}
 use Rattle.ddl_parts.specs.Lexemes.{Lexeme, is_word, is_sign, is_sign_kind}
-use Rattle.ddl_parts.specs.Parts.{Part, Branch, branch, one_of, mark, seen, choose, many, ◌then◌, ◌▸◌, ◌◂◌}
+use Rattle.ddl_parts.specs.Parts.{Part, mark, seen, many, ◌then◌, ◌▸◌, ◌◂◌}
 use Rattle.ddl_parts.specs.Pieces.{lexeme_of, lexemes}
 use Rattle.ddl_parts.specs.Collecting.{Collected, collected, collected_within, collected_by, nothing_more, preceded}
 use Rattle.cat_model.specs.declared.table.ColumnDef.{ColumnDef}
@@ -21,62 +21,7 @@ use Rattle.ddl_parts.specs.Expressions.{expression}
 use Rattle.ddl_read.specs.Clauses.{named_check}
 use Rattle.ddl_read.specs.TableGrammar.{create_enum, enum_of, checking, typed, domain_of, create_domain, table_elements, table_of, create_table}
 use Rattle.ddl_read.specs.Grammar.{semicolon, create_schema, created, new_owner, new_check, its_owner, one_more_check, domain_changed, domain_change, altered_domain, name_and_owner, path_and_owner, owned_name, owned_path, altered, selected, equals_or_to, setting, command, statement}
-
--- ---- the last token
-
-abbrev pub ends_with : (Lexeme → Bool) → List Lexeme → Bool
-ends_with test [] = false
-ends_with test (t ∷ []) = test t
-ends_with test (t ∷ u ∷ ts) = ends_with test (u ∷ ts)
-
-ends_cons : (test : Lexeme → Bool) (t : Lexeme) (ts : List Lexeme) → ends_with test ts ≡ true → ends_with test (t ∷ ts) ≡ true
-ends_cons test t [] e = absurd cc
-ends_cons test t (u ∷ ts) e = e
-
-ends_append : (test : Lexeme → Bool) (a b : List Lexeme) → ends_with test b ≡ true → ends_with test (a ++ b) ≡ true
-ends_append test [] b e = e
-ends_append test (t ∷ a) b e = ends_cons test t (a ++ b) (ends_append test a b e)
-
-abbrev Closes : {A : Type 0} → (Lexeme → Bool) → Part A → Type 0
-Closes {A} test p = (v : A) (ts : List Lexeme) → p.Spells v ts → ends_with test ts ≡ true
-
-abbrev passes_by : Bool → Result (Unit {0}) Bool
-passes_by b = cond b (Ok tt) (Err false)
-
-passed : (v : Unit {0}) (b : Bool) → passes_by b ≡ Ok v → b ≡ true
-passed v true e = refl
-passed v false e = absurd cc
-
-mark_closes : (test : Lexeme → Bool) → Closes test (mark test)
-mark_closes test v ts spells = ap (ends_with test) spells.1 ∙ passed v (test spells.0) spells.2
-
-then_closes : {A B : Type 0} (test : Lexeme → Bool) (p : Part A) (q : Part B) → Closes test q → Closes test (p then q)
-then_closes test p q closes v ts spells = ap (ends_with test) spells.2 ∙ ends_append test spells.0 spells.1 (closes v.1 spells.1 spells.4)
-
-seen_closes : {A B : Type 0} (test : Lexeme → Bool) (f : A → B) (p : Part A) → Closes test p → Closes test (seen f p)
-seen_closes test f p closes w ts spells = closes spells.0 ts spells.2
-
-choose_closes : {A : Type 0} (test which : Lexeme → Bool) (p q : Part A) → Closes test p → Closes test q → Closes test (choose which p q)
-choose_closes {A} test which p q a b v ts spells = by_part spells
-  where
-    by_part : p.Spells v ts ⊎ q.Spells v ts → ends_with test ts ≡ true
-    by_part (inl h) = a v ts h
-    by_part (inr h) = b v ts h
-
-lead_closes : {A : Type 0} (test which : Lexeme → Bool) (p : Part A) → Closes test p → Closes test (which ▸ p)
-lead_closes test which p closes = seen_closes test (λ x. x.1) (mark which then p) (then_closes test (mark which) p closes)
-
-end_closes : {A : Type 0} (test : Lexeme → Bool) (p : Part A) → Closes test (p ◂ test)
-end_closes test p = seen_closes test (λ x. x.0) (p then mark test) (then_closes test p (mark test) (mark_closes test))
-
-abbrev AllClose : {A : Type 0} → (Lexeme → Bool) → Branch A → List (Branch A) → Type 0
-AllClose test b [] = Closes test b.part
-AllClose test b (c ∷ rest) = Closes test b.part × AllClose test c rest
-
-one_of_closes : {A : Type 0} (test : Lexeme → Bool) (b : Branch A) (rest : List (Branch A)) → AllClose test b rest → Closes test (one_of b rest)
-one_of_closes test b [] closes = lead_closes test (is_word b.key) b.part closes
-one_of_closes test b (c ∷ rest) closes =
-    choose_closes test (is_word b.key) (branch b) (one_of c rest) (lead_closes test (is_word b.key) b.part closes.0) (one_of_closes test c rest closes.1)
+pub use Rattle.ddl_read.proofs.Closing.{ends_with, ends_cons, ends_append, Closes, passes_by, passed, mark_closes, then_closes, seen_closes, choose_closes, lead_closes, end_closes, AllClose, one_of_closes}
 
 -- ---- the kinds
 

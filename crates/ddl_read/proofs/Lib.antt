@@ -1,6 +1,8 @@
 pub mod Statements
+pub mod Telling
 pub mod TableLaws
 pub mod GrammarLaws
+pub mod Closing
 pub mod Closed
 pub mod ReadingLaws
 pub mod Standing
@@ -14,4 +16,6 @@ pub mod Putting
 pub mod Layouts
 pub mod TableLayouts
 pub mod Respelled
+pub mod Yielding
+pub mod TableMade
 pub mod Made

@@ -1,29 +1,27 @@
 -- The grammar of CREATE TYPE, CREATE DOMAIN and CREATE TABLE has the laws of a part.
-use Rattle.std.proofs.Common.{◌≡◌, ℕ, Bool, true, false, not, cond, ◌||◌, ◌&&◌, List, [], ◌∷◌, ◌++◌, Option, None, Result, Ok, Err, refl, ap, subst, ◌∙◌, codes, bytes_eq, eqb-true}
+use Rattle.std.proofs.Common.{◌≡◌, ℕ, Bool, true, false, not, cond, ◌||◌, List, [], ◌∷◌, ◌++◌, Option, None, Result, Ok, Err, refl, ap, subst, ◌∙◌, codes, eqb-true}
 use Rattle.std.specs.Prelude.{◌==◌}
-use Rattle.std.specs.List.{list_any}
-use Rattle.std.specs.Str.{str_eq_ignore_ascii_case, str_to_ascii_lowercase, is_utf8, chars}
+use Rattle.std.specs.Str.{is_utf8, chars}
 use Rattle.std.proofs.Math.Utf8.{encode}
 use Rattle.std.proofs.lemmas.Bool.{or_parts}
-use Rattle.std.proofs.lemmas.Slice.Eq.{bytes_eq-Decides}
 use Rattle.sql_lex.specs.declared.token.TokenKind.{TokenKind}
 use Rattle.sql_lex.specs.declared.token.TokenKind.TheVariants.{Word, QuotedName, Literal, Number, Sign, MetaLine}
 use Rattle.sql_lex.specs.Meaning.{is_keyword_of, name_of}
 use Rattle.cat_model.specs.declared.table.CheckDef.{CheckDef}
-use Rattle.ddl_parts.specs.Lexemes.{Lexeme, is_word, is_sign, is_sign_kind, never, starts}
+use Rattle.ddl_parts.specs.Lexemes.{Lexeme, is_word, is_sign, is_sign_kind, starts}
 use Rattle.ddl_parts.specs.Parts.{Part, Many, no_more, one_more, one, seen, choose, nothing, optional, many, passes, ◌then◌, ◌▸◌, ◌◂◌}
 use Rattle.ddl_parts.specs.Laws.{Lawful, Apart, Avoids, Begins}
 use Rattle.ddl_parts.specs.Lists.{comma, listing, listed}
-use Rattle.ddl_parts.specs.Leaves.{name, name_in, name_value, is_name, is_name_kind, literal, is_literal, is_literal_kind, qualified}
+use Rattle.ddl_parts.specs.Leaves.{name, name_in, name_value, is_name, literal, is_literal, qualified}
 use Rattle.ddl_parts.specs.Expressions.{expression, default_text, default_and_null, ends_run, is_end_kind}
-use Rattle.ddl_parts.specs.Types.{type_goes_on, type_part, is_type_word, is_word_kind, stop_words}
+use Rattle.ddl_parts.specs.Types.{type_goes_on, type_part}
 use Rattle.ddl_parts.proofs.Steps.{avoids_never, avoids_begun, starts-append}
 use Rattle.ddl_parts.proofs.Simple.{seen_laws, seen_begins, seen_avoids, one_laws, one_begins, nothing_laws}
 use Rattle.ddl_parts.proofs.Sequence.{then_laws, then_begins, lead_begins}
 use Rattle.ddl_parts.proofs.Choice.{choose_laws, choose_begins, optional_laws}
 use Rattle.ddl_parts.proofs.Repeated.{AreApart, many_laws}
 use Rattle.ddl_parts.proofs.Listing.{listing_apart, listed_laws}
-use Rattle.ddl_parts.proofs.Leads.{a_word, name_laws, name_begins, literal_laws, literal_begins, qualified_laws, word_laws, sign_laws, ended_laws, word_no_sign, words_apart, word_avoids, choose_avoids}
+use Rattle.ddl_parts.proofs.Leads.{a_word, name_laws, name_begins, literal_laws, literal_begins, qualified_laws, word_laws, sign_laws, ended_laws, words_apart, word_avoids, choose_avoids}
 use Rattle.ddl_parts.proofs.RunLaws.{expression_laws, expression_ends_bracket, default_text_laws, default_and_null_laws, type_laws}
 use Rattle.cat_model.specs.declared.table.ColumnDef.{ColumnDef}
 use Rattle.ddl_read.specs.declared.tables.TableElement.{TableElement}
@@ -32,112 +30,7 @@ use Rattle.ddl_read.specs.declared.tables.Spot.{Spot}
 use Rattle.ddl_read.specs.declared.tables.Spot.TheVariants.{Opening, BehindColumn, BehindCheck}
 use Rattle.ddl_read.specs.Clauses.{semicolon, check_of, named_check}
 use Rattle.ddl_read.specs.TableGrammar.{create_enum, enum_of, more_attributes, Attributes, not_null, given, null_first, default_first, attributes, typed, checking, domain_of, create_domain, column_name_value, column_name, column_of, column, element, last_element, element_begins, element_at, spot_behind, elements, more_elements, parted, table_elements, table_of, create_table}
-
--- what goes on with no token is followed by anything
-free : (test : Lexeme → Bool) → Apart test never
-free test t e = refl
-
--- ---- tokens that are told apart
-
--- whether a token that is one word is another
-same_by : (k : TokenKind) (w a b : List ℕ) → is_keyword_of k w a ≡ true → is_keyword_of k w b ≡ str_eq_ignore_ascii_case a b
-unfolding is_keyword_of
-same_by Word w a b e = let same = (bytes_eq-Decides (str_to_ascii_lowercase w) (str_to_ascii_lowercase a)).0 e in ap (λ (x : List ℕ). bytes_eq x (str_to_ascii_lowercase b)) same
-same_by QuotedName w a b e = absurd cc
-same_by Literal w a b e = absurd cc
-same_by Number w a b e = absurd cc
-same_by (Sign c) w a b e = absurd cc
-same_by MetaLine w a b e = absurd cc
-
-same_word : (a b : List ℕ) (t : Lexeme) → is_word a t ≡ true → is_word b t ≡ str_eq_ignore_ascii_case a b
-unfolding is_word
-same_word a b t e = same_by t.kind t.word a b e
-
-one_of_words : (key : List ℕ) (t : Lexeme) → is_word key t ≡ true → (ws : List (List ℕ)) → list_any (λ w. is_word w t) ws ≡ list_any (λ w. str_eq_ignore_ascii_case key w) ws
-one_of_words key t e [] = refl
-one_of_words key t e (w ∷ ws) = ap (λ (b : Bool). b || list_any (λ w. is_word w t) ws) (same_word key w t e) ∙ ap (λ (b : Bool). str_eq_ignore_ascii_case key w || b) (one_of_words key t e ws)
-
-and_false : (x : Bool) → (x && false) ≡ false
-and_false true = refl
-and_false false = refl
-
--- a word that ends a type
-stop_no_type : (key : List ℕ) → list_any (λ w. str_eq_ignore_ascii_case key w) stop_words ≡ true → Apart (is_word key) type_goes_on
-unfolding type_goes_on is_type_word
-stop_no_type key stops t e =
-    rw (one_of_words key t e stop_words ∙ stops, word_no_sign key 46 t e, word_no_sign key 40 t e, word_no_sign key 91 t e) (let n = and_false (is_word_kind t.kind) in rw n refl)
-
-sign_no_word_by : (k : TokenKind) (w key : List ℕ) (b : ℕ) → is_sign_kind b k ≡ true → is_keyword_of k w key ≡ false
-unfolding is_keyword_of
-sign_no_word_by (Sign c) w key b e = refl
-sign_no_word_by Word w key b e = absurd cc
-sign_no_word_by QuotedName w key b e = absurd cc
-sign_no_word_by Literal w key b e = absurd cc
-sign_no_word_by Number w key b e = absurd cc
-sign_no_word_by MetaLine w key b e = absurd cc
-
-sign_no_word : (b : ℕ) (key : List ℕ) → Apart (is_sign b) (is_word key)
-unfolding is_sign is_word
-sign_no_word b key t e = sign_no_word_by t.kind t.word key b e
-
-signs_by : (k : TokenKind) (a b : ℕ) → (b == a) ≡ false → is_sign_kind a k ≡ true → is_sign_kind b k ≡ false
-signs_by (Sign c) a b differ e = let same : a ≡ c = eqb-true a c e in subst (λ (x : ℕ). (b == x) ≡ false) same differ
-signs_by Word a b differ e = refl
-signs_by QuotedName a b differ e = refl
-signs_by Literal a b differ e = refl
-signs_by Number a b differ e = refl
-signs_by MetaLine a b differ e = refl
-
-signs_apart : (a b : ℕ) → (b == a) ≡ false → Apart (is_sign a) (is_sign b)
-unfolding is_sign
-signs_apart a b differ t e = signs_by t.kind a b differ e
-
-sign_kind_by : (k : TokenKind) (b : ℕ) → is_sign_kind b k ≡ true → (is_name_kind k ≡ false) × (is_literal_kind k ≡ false) × (is_word_kind k ≡ false)
-sign_kind_by (Sign c) b e = (refl, refl, refl)
-sign_kind_by Word b e = absurd cc
-sign_kind_by QuotedName b e = absurd cc
-sign_kind_by Literal b e = absurd cc
-sign_kind_by Number b e = absurd cc
-sign_kind_by MetaLine b e = absurd cc
-
-sign_no_name : (b : ℕ) → Apart (is_sign b) is_name
-unfolding is_sign is_name
-sign_no_name b t e = (sign_kind_by t.kind b e).0
-
-sign_no_literal : (b : ℕ) → Apart (is_sign b) is_literal
-unfolding is_sign is_literal
-sign_no_literal b t e = (sign_kind_by t.kind b e).1
-
-sign_no_type : (b : ℕ) → (46 == b) ≡ false → (40 == b) ≡ false → (91 == b) ≡ false → Apart (is_sign b) type_goes_on
-unfolding type_goes_on is_type_word is_sign
-sign_no_type b dot round square t e =
-    rw ((sign_kind_by t.kind b e).2, signs_by t.kind b 46 dot e, signs_by t.kind b 40 round e, signs_by t.kind b 91 square e) refl
-
-word_is_name : (key : List ℕ) (t : Lexeme) → is_word key t ≡ true → is_name t ≡ true
-unfolding is_word is_name is_keyword_of
-word_is_name key t e = by t.kind e
-  where
-    by : (k : TokenKind) → is_keyword_of k t.word key ≡ true → is_name_kind k ≡ true
-    by Word e = refl
-    by QuotedName e = refl
-    by Literal e = absurd cc
-    by Number e = absurd cc
-    by (Sign c) e = absurd cc
-    by MetaLine e = absurd cc
-
-begins_more : {A : Type 0} (test other : Lexeme → Bool) (p : Part A) → ((t : Lexeme) → test t ≡ true → other t ≡ true) → Begins test p → Begins other p
-begins_more test other p more begins v ts spells = by ts (begins v ts spells)
-  where
-    by : (us : List Lexeme) → starts test us ≡ true → starts other us ≡ true
-    by [] e = absurd cc
-    by (u ∷ us) e = more u e
-
-nothing_avoids_some : {A : Type 0} (more test : Lexeme → Bool) (v : A) → ((t : Lexeme) → more t ≡ false → test t ≡ false) → Avoids test (nothing more v)
-nothing_avoids_some more test v none w ts rest spells free = ap (λ (f : List Lexeme). starts test (f ++ rest)) spells.1 ∙ by rest free
-  where
-    by : (us : List Lexeme) → starts more us ≡ false → starts test us ≡ false
-    by [] e = refl
-    by (u ∷ us) e = none u e
+use Rattle.ddl_read.proofs.Telling.{free, stop_no_type, sign_no_word, signs_apart, sign_no_name, sign_no_literal, sign_no_type, word_is_name, begins_more, nothing_avoids_some}
 
 -- ---- checks
 
