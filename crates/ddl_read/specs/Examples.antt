@@ -1,13 +1,18 @@
 -- Worked examples: texts with their statements, or their first fault.
 -- 34 is `"`, 39 is a single quote.
-use Rattle.std.specs.Prelude.{◌≡◌, ℕ, [], ◌∷◌, ◌++◌, Ok, Err, codes}
+use Rattle.std.specs.Prelude.{◌≡◌, ℕ, true, List, [], ◌∷◌, ◌++◌, Some, Ok, Err, codes}
 use Rattle.sql_lex.specs.declared.fault.LexFault.TheVariants.{Unclosed}
+use Rattle.cat_model.specs.declared.object.QName.{QName}
+use Rattle.cat_model.specs.declared.type_name.TypeName.TheVariants as type_name
 use Rattle.cat_model.specs.declared.grant.Owned.TheVariants as owned
 use Rattle.cat_model.specs.declared.stmt.Stmt.{Stmt}
 use Rattle.cat_model.specs.declared.stmt.Stmt.TheVariants as stmt
 use Rattle.ddl_read.specs.declared.located.Located.{Located}
 use Rattle.ddl_read.specs.declared.fault.DdlFault.TheVariants.{Lex, Unknown, LongName, Incomplete}
 use Rattle.ddl_read.specs.Reading.{statements_of}
+
+abbrev pub in_a : List ℕ → QName
+in_a name = record { schema = codes "a"; name = name }
 
 abbrev pub located : Stmt → ℕ → ℕ → Located
 located s start end = record { stmt = s; start = start; end = end }
@@ -33,3 +38,18 @@ pub record WorkedExamples : Type 0 where
   -- a bracket is closed by its own
   pub other_bracket : statements_of (codes "SET a = (1];") ≡ Err (Unknown 10)
   pub check : statements_of (codes "ALTER DOMAIN a.d ADD CONSTRAINT c CHECK (VALUE > 0);") ≡ Ok (located (stmt.AddDomainCheck (record { schema = codes "a"; name = codes "d" }) (codes "c") (codes "VALUE > 0")) 0 52 ∷ [])
+  pub labels : statements_of (codes "create type a.e as enum ('x', 'y');") ≡ Ok (located (stmt.CreateEnum (in_a (codes "e")) (codes "x" ∷ codes "y" ∷ [])) 0 35 ∷ [])
+  -- no comma stands behind the last
+  pub last_comma : statements_of (codes "CREATE TYPE a.e AS ENUM ('x', );") ≡ Err (Unknown 30)
+  -- a default ends before NOT NULL, and a type may have several words, one with a bracket
+  pub column : statements_of (codes "CREATE TABLE a.t (c character varying(9) DEFAULT 1 NOT NULL);")
+      ≡ Ok (located (stmt.CreateTable (in_a (codes "t")) (record { name = codes "c"; type_name = type_name.Words (codes "character varying(9)"); default = Some (codes "1"); not_null = true } ∷ []) []) 0 61 ∷ [])
+  -- in the other order, with the type's name as a path, and a check behind the column
+  pub table : statements_of (codes "CREATE TABLE a.t (c a.e NOT NULL DEFAULT (1), CONSTRAINT k CHECK (c));")
+      ≡ Ok (located (stmt.CreateTable (in_a (codes "t")) (record { name = codes "c"; type_name = type_name.Path (in_a (codes "e")); default = Some (codes "(1)"); not_null = true } ∷ []) (record { name = codes "k"; text = codes "c" } ∷ [])) 0 70 ∷ [])
+  -- NULL goes on with no default
+  pub null : statements_of (codes "CREATE TABLE a.t (c int NOT NULL DEFAULT 1 NOT NULL);") ≡ Err (Unknown 47)
+  -- no column stands behind a check
+  pub late_column : statements_of (codes "CREATE TABLE a.t (CONSTRAINT k CHECK (1), c int);") ≡ Err (Unknown 42)
+  pub domain : statements_of (codes "CREATE DOMAIN a.d AS int DEFAULT 1 NOT NULL CONSTRAINT k CHECK (1);")
+      ≡ Ok (located (stmt.CreateDomain (in_a (codes "d")) (type_name.Words (codes "int")) true (Some (codes "1")) (record { name = codes "k"; text = codes "1" } ∷ [])) 0 67 ∷ [])

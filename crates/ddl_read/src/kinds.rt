@@ -84,11 +84,7 @@ fn owner_to(object: Owned, role: Name) -> Stmt
 }
 
 #[tactic(auto, unfolding(crate::specs::Grammar::new_check))]
-fn new_check(
-    alloc: Global,
-    pieces: &Pieces<'_>,
-    at: usize,
-) -> Result<(CheckDef, usize), ReadError>
+fn new_check(alloc: Global, pieces: &Pieces<'_>, at: usize) -> Result<(CheckDef, usize), ReadError>
     ensures { GivesPart pieces.now (λ c. c) result (new_check.read (drop at pieces.now)) }
 {
     let at = pieces.word(at, "add")?;

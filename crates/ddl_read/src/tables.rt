@@ -79,11 +79,7 @@ fn label_at(
 }
 
 /// Labels with commas between them, or none.
-fn labels(
-    alloc: Global,
-    pieces: &Pieces<'_>,
-    from: usize,
-) -> Result<(Vec<Text>, usize), ReadError>
+fn labels(alloc: Global, pieces: &Pieces<'_>, from: usize) -> Result<(Vec<Text>, usize), ReadError>
     ensures { GivesPart pieces.now (λ v. v.items) result ((listed is_literal literal).read (drop from pieces.now)) }
 {
     let mut labels = Vec::new(alloc);
@@ -238,11 +234,7 @@ pub(crate) fn create_domain(
 
 /// The name of a column, which isn't the bare word CONSTRAINT.
 #[tactic(auto, unfolding(crate::specs::TableGrammar::column_name_value))]
-fn column_name(
-    alloc: Global,
-    pieces: &Pieces<'_>,
-    at: usize,
-) -> Result<(Name, usize), ReadError>
+fn column_name(alloc: Global, pieces: &Pieces<'_>, at: usize) -> Result<(Name, usize), ReadError>
     ensures { GivesPart pieces.now (λ n. n) result (column_name.read (drop at pieces.now)) }
 {
     if pieces.is_word(at, "constraint") {
@@ -253,11 +245,7 @@ fn column_name(
 
 /// A column.
 #[tactic(auto, unfolding(crate::specs::TableGrammar::column))]
-fn column(
-    alloc: Global,
-    pieces: &Pieces<'_>,
-    at: usize,
-) -> Result<(ColumnDef, usize), ReadError>
+fn column(alloc: Global, pieces: &Pieces<'_>, at: usize) -> Result<(ColumnDef, usize), ReadError>
     ensures { GivesPart pieces.now (λ c. c) result (column.read (drop at pieces.now)) }
 {
     let (name, at) = column_name(alloc, pieces, at)?;

@@ -86,6 +86,199 @@ const CASES: &[(&str, &str)] = &[
     ("ALTER DOMAIN public.n OW,NER TO bob;", "Unknown(22)"),
     ("ALTER SCHEMA 'x", "Lex(Unclosed(13))"),
     ("ALTER x 'y", "Unknown(6)"),
+    (
+        "CREATE DOMAIN public.k AS text CONSTRAINT t CHECK ('m'::public.u);",
+        "0..66 CREATE DOMAIN public.k AS text\n\tCONSTRAINT t CHECK ('m'::public.u);\n",
+    ),
+    (
+        "CREATE DOMAIN public.k AS text CONSTRAINT t CHEC",
+        "Unknown(44)",
+    ),
+    (
+        "ALTER DOMAIN public.n OWNER TO bob;",
+        "0..35 ALTER DOMAIN public.n OWNER TO bob;\n",
+    ),
+    (
+        "CREATE TABLE a.m (y integer,  CONSTRAINT m CHECK ((VALUE > 0)));",
+        "0..64 CREATE TABLE a.m (\n    y integer,\n    CONSTRAINT m CHECK ((VALUE > 0))\n);\n",
+    ),
+    (
+        "CREATE TABLE a.m (y integer,  CONSTRAINT m CHECK ((VALUE > 0))) x;",
+        "Unknown(64)",
+    ),
+    (
+        "CREATE DOMAIN a.m AS text CONSTRAINT v CHECK (1);",
+        "0..49 CREATE DOMAIN a.m AS text\n\tCONSTRAINT v CHECK (1);\n",
+    ),
+    ("CREATE DOMAIN a.m A", "Unknown(18)"),
+    (
+        "CREATE TYPE a.k AS ENUM ('m', '1');",
+        "0..35 CREATE TYPE a.k AS ENUM (\n    'm',\n    '1'\n);\n",
+    ),
+    ("CREATE TYPE a.k AS ENUM ('m', ;'1');", "Unknown(30)"),
+    (
+        "CREATE TABLE public.n (z text DEFAULT 1, y text DEFAULT nextval('public.n'::regclass));",
+        "0..87 CREATE TABLE public.n (\n    z text DEFAULT 1,\n    y text DEFAULT nextval('public.n'::regclass)\n);\n",
+    ),
+    (
+        "CREATE TABLE a.v (x public.t);",
+        "0..30 CREATE TABLE a.v (\n    x public.t\n);\n",
+    ),
+    (
+        "CREATE TABLE public.k (x text DEFAULT 'm'::public.t);",
+        "0..53 CREATE TABLE public.k (\n    x text DEFAULT 'm'::public.t\n);\n",
+    ),
+    (
+        "CREATE TABLE public.n (x character(2) DEFAULT E'a\\'b', y public.u,  CONSTRAINT n CHECK (1));",
+        "0..92 CREATE TABLE public.n (\n    x character(2) DEFAULT E'a\\'b',\n    y public.u,\n    CONSTRAINT n CHECK (1)\n);\n",
+    ),
+    (
+        "CREATE TABLE public.n (x character(2) DEFAULT E'a\\'",
+        "Lex(Unclosed(46))",
+    ),
+    (
+        "CREATE TABLE a.t (x pg_catalog.int4, y text DEFAULT 'm'::public.u, z integer DEFAULT E'a\\'b',  CONSTRAINT u CHECK (nextval('public.u'::regclass)));",
+        "0..147 CREATE TABLE a.t (\n    x pg_catalog.int4,\n    y text DEFAULT 'm'::public.u,\n    z integer DEFAULT E'a\\'b',\n    CONSTRAINT u CHECK (nextval('public.u'::regclass))\n);\n",
+    ),
+    (
+        "CREATE TABLE a.t (x pg_catalog.int4, y text DEFAULT 'm'::public.u, z integer DEFAULT E'a\\'b',  CONSTRAINT u CHECK (next 7val('public.u'::regclass)));",
+        "0..149 CREATE TABLE a.t (\n    x pg_catalog.int4,\n    y text DEFAULT 'm'::public.u,\n    z integer DEFAULT E'a\\'b',\n    CONSTRAINT u CHECK (next 7val('public.u'::regclass))\n);\n",
+    ),
+    (
+        "CREATE TABLE public.m (x text,  CONSTRAINT n CHECK ('m'::public.k));",
+        "0..68 CREATE TABLE public.m (\n    x text,\n    CONSTRAINT n CHECK ('m'::public.k)\n);\n",
+    ),
+    (
+        "CREATE TABLE public.m (x text,  CONSTRAINT n CHECK ) ('m'::public.k));",
+        "Unknown(51)",
+    ),
+    (
+        "CREATE TYPE public.v AS ENUM ('m', '1');",
+        "0..40 CREATE TYPE public.v AS ENUM (\n    'm',\n    '1'\n);\n",
+    ),
+    ("CREATE TYPE public.v AS ENUM ('m', '1')", "Incomplete(39)"),
+    (
+        "CREATE TABLE public.m (z a.n DEFAULT nextval('a.m'::regclass), x integer, y public.t DEFAULT (VALUE > 0) NOT NULL,  CONSTRAINT k CHECK (E'a\\'b'),  CONSTRAINT m CHECK ((VALUE > 0)));",
+        "0..181 CREATE TABLE public.m (\n    z a.n DEFAULT nextval('a.m'::regclass),\n    x integer,\n    y public.t DEFAULT (VALUE > 0) NOT NULL,\n    CONSTRAINT k CHECK (E'a\\'b'),\n    CONSTRAINT m CHECK ((VALUE > 0))\n);\n",
+    ),
+    (
+        "CREATE TABLE pub )lic.m (z a.n DEFAULT nextval('a.m'::regclass), x integer, y public.t DEFAULT (VALUE > 0) NOT NULL,  CONSTRAINT k CHECK (E'a\\'b'),  CONSTRAINT m CHECK ((VALUE > 0)));",
+        "Unknown(17)",
+    ),
+    (
+        "CREATE TABLE a.m (x integer DEFAULT 1 NOT NULL, y text, z pg_catalog.int4 DEFAULT (VALUE > 0));",
+        "0..95 CREATE TABLE a.m (\n    x integer DEFAULT 1 NOT NULL,\n    y text,\n    z pg_catalog.int4 DEFAULT (VALUE > 0)\n);\n",
+    ),
+    (
+        "CREATE TYPE a.n AS ENUM ('m', 'm');",
+        "0..35 CREATE TYPE a.n AS ENUM (\n    'm',\n    'm'\n);\n",
+    ),
+    ("CREATE TYPE a.n AS ENUM ('m', 'm'", "Incomplete(33)"),
+    (
+        "CREATE DOMAIN a.m AS integer CONSTRAINT k CHECK ('m'::a.n);",
+        "0..59 CREATE DOMAIN a.m AS integer\n\tCONSTRAINT k CHECK ('m'::a.n);\n",
+    ),
+    ("CREATE DOMAIN a.m AS integer CONSTRAINT ", "Incomplete(40)"),
+    (
+        "CREATE TYPE public.u AS ENUM ('m', '1');",
+        "0..40 CREATE TYPE public.u AS ENUM (\n    'm',\n    '1'\n);\n",
+    ),
+    (
+        "CREATE TABLE a.m (x pg_catalog.int4, z text DEFAULT 1);",
+        "0..55 CREATE TABLE a.m (\n    x pg_catalog.int4,\n    z text DEFAULT 1\n);\n",
+    ),
+    (
+        "CREATE TABLE a.m (x pg_cata 7log.int4, z text DEFAULT 1);",
+        "Unknown(28)",
+    ),
+    (
+        "CREATE TABLE a.u (y integer DEFAULT E'a\\'b' NOT NULL,  CONSTRAINT k CHECK (E'a\\'b'),  CONSTRAINT m CHECK (nextval('public.t'::regclass)));",
+        "0..138 CREATE TABLE a.u (\n    y integer DEFAULT E'a\\'b' NOT NULL,\n    CONSTRAINT k CHECK (E'a\\'b'),\n    CONSTRAINT m CHECK (nextval('public.t'::regclass))\n);\n",
+    ),
+    (
+        "CREATE TABLE a.u (y integer DEFAULT E'a\\'b' NOT NULL,  CONS;TRAINT k CHECK (E'a\\'b'),  CONSTRAINT m CHECK (nextval('public.t'::regclass)));",
+        "Unknown(59)",
+    ),
+    (
+        "CREATE TABLE public.n (x integer DEFAULT (VALUE > 0));",
+        "0..54 CREATE TABLE public.n (\n    x integer DEFAULT (VALUE > 0)\n);\n",
+    ),
+    ("CREATE TABLE public.n (x ", "Incomplete(25)"),
+    (
+        "CREATE TABLE a.n (z integer, y text NOT NULL,  CONSTRAINT v CHECK (E'a\\'b'),  CONSTRAINT v CHECK ((VALUE > 0)));",
+        "0..112 CREATE TABLE a.n (\n    z integer,\n    y text NOT NULL,\n    CONSTRAINT v CHECK (E'a\\'b'),\n    CONSTRAINT v CHECK ((VALUE > 0))\n);\n",
+    ),
+    ("CREATE TABLE a.n (z integer, y te", "Incomplete(33)"),
+    (
+        "ALTER DOMAIN public.t OWNER TO postgres;",
+        "0..40 ALTER DOMAIN public.t OWNER TO postgres;\n",
+    ),
+    (
+        "CREATE TABLE public.v (z text DEFAULT E'a\\'b' NOT NULL, x integer,  CONSTRAINT v CHECK (1),  CONSTRAINT u CHECK (1));",
+        "0..117 CREATE TABLE public.v (\n    z text DEFAULT E'a\\'b' NOT NULL,\n    x integer,\n    CONSTRAINT v CHECK (1),\n    CONSTRAINT u CHECK (1)\n);\n",
+    ),
+    ("CREATE TABLE publi", "Incomplete(18)"),
+    (
+        "CREATE TABLE public.v (x text,  CONSTRAINT k CHECK ('m'::public.k),  CONSTRAINT k CHECK (E'a\\'b'));",
+        "0..99 CREATE TABLE public.v (\n    x text,\n    CONSTRAINT k CHECK ('m'::public.k),\n    CONSTRAINT k CHECK (E'a\\'b')\n);\n",
+    ),
+    ("CREATE TABLE public.v ", "Incomplete(22)"),
+    (
+        "CREATE TABLE a.n (y text DEFAULT 'm'::a.t, z public.v DEFAULT (VALUE > 0),  CONSTRAINT n CHECK (1),  CONSTRAINT t CHECK (nextval('a.t'::regclass)));",
+        "0..148 CREATE TABLE a.n (\n    y text DEFAULT 'm'::a.t,\n    z public.v DEFAULT (VALUE > 0),\n    CONSTRAINT n CHECK (1),\n    CONSTRAINT t CHECK (nextval('a.t'::regclass))\n);\n",
+    ),
+    (
+        "CREATE TABLE a.n (y text DEFAULT 'm'::a.t, z public.v DEFAULT (VALUE > 0),  CONSTRAINT n CHECK (1),  CONSTRAINT t CHECK (nextval('a.t'",
+        "Incomplete(134)",
+    ),
+    (
+        "CREATE TABLE a.u (z integer,  CONSTRAINT u CHECK ('m'::a.v),  CONSTRAINT n CHECK (nextval('a.m'::regclass)));",
+        "0..109 CREATE TABLE a.u (\n    z integer,\n    CONSTRAINT u CHECK ('m'::a.v),\n    CONSTRAINT n CHECK (nextval('a.m'::regclass))\n);\n",
+    ),
+    (
+        "CREATE TABLE a.u (z integer,  CONSTRAINT u CHECK ('m'::a.v),  CONSTRAINT ",
+        "Incomplete(73)",
+    ),
+    (
+        "CREATE TABLE a.u (x integer, z text DEFAULT 'm'::a.t, y integer DEFAULT (VALUE > 0) NOT NULL);",
+        "0..94 CREATE TABLE a.u (\n    x integer,\n    z text DEFAULT 'm'::a.t,\n    y integer DEFAULT (VALUE > 0) NOT NULL\n);\n",
+    ),
+    (
+        "CREATE TABLE a.u (x integer, z text DEFAULT  'q''m'::a.t, y integer DEFAULT (VALUE > 0) NOT NULL);",
+        "0..98 CREATE TABLE a.u (\n    x integer,\n    z text DEFAULT 'q''m'::a.t,\n    y integer DEFAULT (VALUE > 0) NOT NULL\n);\n",
+    ),
+    (
+        "CREATE DOMAIN a.u AS public.n NOT NULL DEFAULT E'a\\'b' CONSTRAINT m CHECK (1);",
+        "0..78 CREATE DOMAIN a.u AS public.n NOT NULL DEFAULT E'a\\'b'\n\tCONSTRAINT m CHECK (1);\n",
+    ),
+    (
+        "CREATE DOMAIN public.n AS public.m CONSTRAINT m CHECK ('m'::a.u) CONSTRAINT m CHECK (1);",
+        "0..88 CREATE DOMAIN public.n AS public.m\n\tCONSTRAINT m CHECK ('m'::a.u)\n\tCONSTRAINT m CHECK (1);\n",
+    ),
+    (
+        "CREATE TABLE a.n (z character(2), x pg_catalog.int4 DEFAULT nextval('a.t'::regclass) NOT NULL, y integer DEFAULT (VALUE > 0) NOT NULL,  CONSTRAINT v CHECK (E'a\\'b'),  CONSTRAINT t CHECK ('m'::a.v));",
+        "0..198 CREATE TABLE a.n (\n    z character(2),\n    x pg_catalog.int4 DEFAULT nextval('a.t'::regclass) NOT NULL,\n    y integer DEFAULT (VALUE > 0) NOT NULL,\n    CONSTRAINT v CHECK (E'a\\'b'),\n    CONSTRAINT t CHECK ('m'::a.v)\n);\n",
+    ),
+    (
+        "CREATE TABLE a.n (z character(2), x pg_catalog.int4 DEFAULT nextval('a.t'::regclass",
+        "Incomplete(83)",
+    ),
+    (
+        "CREATE TYPE a.n AS ENUM ('m', '1');",
+        "0..35 CREATE TYPE a.n AS ENUM (\n    'm',\n    '1'\n);\n",
+    ),
+    (
+        "CREATE TYPE a.n AS ENUM ('m', '1' NOT NULL);",
+        "Unknown(34)",
+    ),
+    (
+        "CREATE TABLE a.k (z character(2),  CONSTRAINT v CHECK ('m'::public.v));",
+        "0..71 CREATE TABLE a.k (\n    z character(2),\n    CONSTRAINT v CHECK ('m'::public.v)\n);\n",
+    ),
+    (
+        "CREATE TABLE a.k (z character(2),  CONSTRAINT v CHE )CK ('m'::public.v));",
+        "Unknown(48)",
+    ),
 ];
 
 fn told(alloc: Global, text: &str) -> Result<String, AllocError> {

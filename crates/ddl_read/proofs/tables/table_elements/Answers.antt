@@ -59,8 +59,7 @@ elements-preserved c =
     let i = c.elements.invariant in
     let e = c.in_ok-element.element in
     let begins : starts (element_begins c.elements.spot) (drop c.elements.at ts) ≡ true = cc in
-    let left = one_more more_elements elements elements_apart (λ x. x) (items_from elements Opening (drop c.args.from ts)) ts i.0 c.elements.spot c.elements.at (e, c.in_ok-element.next) i.1 begins c.in_ok-element.ensures in
-    (
+    let left = one_more more_elements elements elements_apart (λ x. x) (items_from elements Opening (drop c.args.from ts)) ts i.0 c.elements.spot c.elements.at (e, c.in_ok-element.next) i.1 begins c.in_ok-element.ensures in (
       i.0 ++ e ∷ [],
       rw c.in_ok-spot.ensures.spot left,
       c.in_ok-spot.ensures.columns ∙ ap (λ (x : List ColumnDef). x ++ columns_of (e ∷ [])) i.2 ∙ sym (columns-append i.0 (e ∷ [])),
