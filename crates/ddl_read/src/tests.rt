@@ -5,7 +5,7 @@ use std::process::Abort;
 use std::test::*;
 
 /// Texts, and each statement with its span and its one spelling, or the fault.
-const CASES: &[(&str, &str)] = &[
+const OTHERS: &[(&str, &str)] = &[
     ("CREATE SCHEMA a;", "0..16 CREATE SCHEMA a;\n"),
     ("CREATE SCHEMA public;", "0..21 CREATE SCHEMA public;\n"),
     ("create schema \"a\" ;", "0..19 CREATE SCHEMA a;\n"),
@@ -87,24 +87,24 @@ const CASES: &[(&str, &str)] = &[
     ("ALTER SCHEMA 'x", "Lex(Unclosed(13))"),
     ("ALTER x 'y", "Unknown(6)"),
     (
+        "ALTER DOMAIN public.n OWNER TO bob;",
+        "0..35 ALTER DOMAIN public.n OWNER TO bob;\n",
+    ),
+    (
+        "ALTER DOMAIN public.t OWNER TO postgres;",
+        "0..40 ALTER DOMAIN public.t OWNER TO postgres;\n",
+    ),
+];
+
+/// The same of new types and domains.
+const TYPES: &[(&str, &str)] = &[
+    (
         "CREATE DOMAIN public.k AS text CONSTRAINT t CHECK ('m'::public.u);",
         "0..66 CREATE DOMAIN public.k AS text\n\tCONSTRAINT t CHECK ('m'::public.u);\n",
     ),
     (
         "CREATE DOMAIN public.k AS text CONSTRAINT t CHEC",
         "Unknown(44)",
-    ),
-    (
-        "ALTER DOMAIN public.n OWNER TO bob;",
-        "0..35 ALTER DOMAIN public.n OWNER TO bob;\n",
-    ),
-    (
-        "CREATE TABLE a.m (y integer,  CONSTRAINT m CHECK ((VALUE > 0)));",
-        "0..64 CREATE TABLE a.m (\n    y integer,\n    CONSTRAINT m CHECK ((VALUE > 0))\n);\n",
-    ),
-    (
-        "CREATE TABLE a.m (y integer,  CONSTRAINT m CHECK ((VALUE > 0))) x;",
-        "Unknown(64)",
     ),
     (
         "CREATE DOMAIN a.m AS text CONSTRAINT v CHECK (1);",
@@ -116,6 +116,53 @@ const CASES: &[(&str, &str)] = &[
         "0..35 CREATE TYPE a.k AS ENUM (\n    'm',\n    '1'\n);\n",
     ),
     ("CREATE TYPE a.k AS ENUM ('m', ;'1');", "Unknown(30)"),
+    (
+        "CREATE TYPE public.v AS ENUM ('m', '1');",
+        "0..40 CREATE TYPE public.v AS ENUM (\n    'm',\n    '1'\n);\n",
+    ),
+    ("CREATE TYPE public.v AS ENUM ('m', '1')", "Incomplete(39)"),
+    (
+        "CREATE TYPE a.n AS ENUM ('m', 'm');",
+        "0..35 CREATE TYPE a.n AS ENUM (\n    'm',\n    'm'\n);\n",
+    ),
+    ("CREATE TYPE a.n AS ENUM ('m', 'm'", "Incomplete(33)"),
+    (
+        "CREATE DOMAIN a.m AS integer CONSTRAINT k CHECK ('m'::a.n);",
+        "0..59 CREATE DOMAIN a.m AS integer\n\tCONSTRAINT k CHECK ('m'::a.n);\n",
+    ),
+    ("CREATE DOMAIN a.m AS integer CONSTRAINT ", "Incomplete(40)"),
+    (
+        "CREATE TYPE public.u AS ENUM ('m', '1');",
+        "0..40 CREATE TYPE public.u AS ENUM (\n    'm',\n    '1'\n);\n",
+    ),
+    (
+        "CREATE DOMAIN a.u AS public.n NOT NULL DEFAULT E'a\\'b' CONSTRAINT m CHECK (1);",
+        "0..78 CREATE DOMAIN a.u AS public.n NOT NULL DEFAULT E'a\\'b'\n\tCONSTRAINT m CHECK (1);\n",
+    ),
+    (
+        "CREATE DOMAIN public.n AS public.m CONSTRAINT m CHECK ('m'::a.u) CONSTRAINT m CHECK (1);",
+        "0..88 CREATE DOMAIN public.n AS public.m\n\tCONSTRAINT m CHECK ('m'::a.u)\n\tCONSTRAINT m CHECK (1);\n",
+    ),
+    (
+        "CREATE TYPE a.n AS ENUM ('m', '1');",
+        "0..35 CREATE TYPE a.n AS ENUM (\n    'm',\n    '1'\n);\n",
+    ),
+    (
+        "CREATE TYPE a.n AS ENUM ('m', '1' NOT NULL);",
+        "Unknown(34)",
+    ),
+];
+
+/// The same of new tables.
+const TABLES: &[(&str, &str)] = &[
+    (
+        "CREATE TABLE a.m (y integer,  CONSTRAINT m CHECK ((VALUE > 0)));",
+        "0..64 CREATE TABLE a.m (\n    y integer,\n    CONSTRAINT m CHECK ((VALUE > 0))\n);\n",
+    ),
+    (
+        "CREATE TABLE a.m (y integer,  CONSTRAINT m CHECK ((VALUE > 0))) x;",
+        "Unknown(64)",
+    ),
     (
         "CREATE TABLE public.n (z text DEFAULT 1, y text DEFAULT nextval('public.n'::regclass));",
         "0..87 CREATE TABLE public.n (\n    z text DEFAULT 1,\n    y text DEFAULT nextval('public.n'::regclass)\n);\n",
@@ -153,11 +200,6 @@ const CASES: &[(&str, &str)] = &[
         "Unknown(51)",
     ),
     (
-        "CREATE TYPE public.v AS ENUM ('m', '1');",
-        "0..40 CREATE TYPE public.v AS ENUM (\n    'm',\n    '1'\n);\n",
-    ),
-    ("CREATE TYPE public.v AS ENUM ('m', '1')", "Incomplete(39)"),
-    (
         "CREATE TABLE public.m (z a.n DEFAULT nextval('a.m'::regclass), x integer, y public.t DEFAULT (VALUE > 0) NOT NULL,  CONSTRAINT k CHECK (E'a\\'b'),  CONSTRAINT m CHECK ((VALUE > 0)));",
         "0..181 CREATE TABLE public.m (\n    z a.n DEFAULT nextval('a.m'::regclass),\n    x integer,\n    y public.t DEFAULT (VALUE > 0) NOT NULL,\n    CONSTRAINT k CHECK (E'a\\'b'),\n    CONSTRAINT m CHECK ((VALUE > 0))\n);\n",
     ),
@@ -168,20 +210,6 @@ const CASES: &[(&str, &str)] = &[
     (
         "CREATE TABLE a.m (x integer DEFAULT 1 NOT NULL, y text, z pg_catalog.int4 DEFAULT (VALUE > 0));",
         "0..95 CREATE TABLE a.m (\n    x integer DEFAULT 1 NOT NULL,\n    y text,\n    z pg_catalog.int4 DEFAULT (VALUE > 0)\n);\n",
-    ),
-    (
-        "CREATE TYPE a.n AS ENUM ('m', 'm');",
-        "0..35 CREATE TYPE a.n AS ENUM (\n    'm',\n    'm'\n);\n",
-    ),
-    ("CREATE TYPE a.n AS ENUM ('m', 'm'", "Incomplete(33)"),
-    (
-        "CREATE DOMAIN a.m AS integer CONSTRAINT k CHECK ('m'::a.n);",
-        "0..59 CREATE DOMAIN a.m AS integer\n\tCONSTRAINT k CHECK ('m'::a.n);\n",
-    ),
-    ("CREATE DOMAIN a.m AS integer CONSTRAINT ", "Incomplete(40)"),
-    (
-        "CREATE TYPE public.u AS ENUM ('m', '1');",
-        "0..40 CREATE TYPE public.u AS ENUM (\n    'm',\n    '1'\n);\n",
     ),
     (
         "CREATE TABLE a.m (x pg_catalog.int4, z text DEFAULT 1);",
@@ -209,10 +237,6 @@ const CASES: &[(&str, &str)] = &[
         "0..112 CREATE TABLE a.n (\n    z integer,\n    y text NOT NULL,\n    CONSTRAINT v CHECK (E'a\\'b'),\n    CONSTRAINT v CHECK ((VALUE > 0))\n);\n",
     ),
     ("CREATE TABLE a.n (z integer, y te", "Incomplete(33)"),
-    (
-        "ALTER DOMAIN public.t OWNER TO postgres;",
-        "0..40 ALTER DOMAIN public.t OWNER TO postgres;\n",
-    ),
     (
         "CREATE TABLE public.v (z text DEFAULT E'a\\'b' NOT NULL, x integer,  CONSTRAINT v CHECK (1),  CONSTRAINT u CHECK (1));",
         "0..117 CREATE TABLE public.v (\n    z text DEFAULT E'a\\'b' NOT NULL,\n    x integer,\n    CONSTRAINT v CHECK (1),\n    CONSTRAINT u CHECK (1)\n);\n",
@@ -248,28 +272,12 @@ const CASES: &[(&str, &str)] = &[
         "0..98 CREATE TABLE a.u (\n    x integer,\n    z text DEFAULT 'q''m'::a.t,\n    y integer DEFAULT (VALUE > 0) NOT NULL\n);\n",
     ),
     (
-        "CREATE DOMAIN a.u AS public.n NOT NULL DEFAULT E'a\\'b' CONSTRAINT m CHECK (1);",
-        "0..78 CREATE DOMAIN a.u AS public.n NOT NULL DEFAULT E'a\\'b'\n\tCONSTRAINT m CHECK (1);\n",
-    ),
-    (
-        "CREATE DOMAIN public.n AS public.m CONSTRAINT m CHECK ('m'::a.u) CONSTRAINT m CHECK (1);",
-        "0..88 CREATE DOMAIN public.n AS public.m\n\tCONSTRAINT m CHECK ('m'::a.u)\n\tCONSTRAINT m CHECK (1);\n",
-    ),
-    (
         "CREATE TABLE a.n (z character(2), x pg_catalog.int4 DEFAULT nextval('a.t'::regclass) NOT NULL, y integer DEFAULT (VALUE > 0) NOT NULL,  CONSTRAINT v CHECK (E'a\\'b'),  CONSTRAINT t CHECK ('m'::a.v));",
         "0..198 CREATE TABLE a.n (\n    z character(2),\n    x pg_catalog.int4 DEFAULT nextval('a.t'::regclass) NOT NULL,\n    y integer DEFAULT (VALUE > 0) NOT NULL,\n    CONSTRAINT v CHECK (E'a\\'b'),\n    CONSTRAINT t CHECK ('m'::a.v)\n);\n",
     ),
     (
         "CREATE TABLE a.n (z character(2), x pg_catalog.int4 DEFAULT nextval('a.t'::regclass",
         "Incomplete(83)",
-    ),
-    (
-        "CREATE TYPE a.n AS ENUM ('m', '1');",
-        "0..35 CREATE TYPE a.n AS ENUM (\n    'm',\n    '1'\n);\n",
-    ),
-    (
-        "CREATE TYPE a.n AS ENUM ('m', '1' NOT NULL);",
-        "Unknown(34)",
     ),
     (
         "CREATE TABLE a.k (z character(2),  CONSTRAINT v CHECK ('m'::public.v));",
@@ -306,8 +314,26 @@ fn spelled(alloc: Global, statements: &[Located]) -> Result<String, AllocError> 
 }
 
 #[test]
-fn each_case_is_read(rt: HostRuntime) -> Result<(), Fail> {
-    for (text, want) in CASES {
+fn schemas_owners_and_settings_are_read(rt: HostRuntime) -> Result<(), Fail> {
+    for (text, want) in OTHERS {
+        let got = told(rt.alloc(), text).ok().ok_or("memory")?;
+        assert_eq!(rt; got.as_str(), *want);
+    }
+    Ok(())
+}
+
+#[test]
+fn types_and_domains_are_read(rt: HostRuntime) -> Result<(), Fail> {
+    for (text, want) in TYPES {
+        let got = told(rt.alloc(), text).ok().ok_or("memory")?;
+        assert_eq!(rt; got.as_str(), *want);
+    }
+    Ok(())
+}
+
+#[test]
+fn tables_are_read(rt: HostRuntime) -> Result<(), Fail> {
+    for (text, want) in TABLES {
         let got = told(rt.alloc(), text).ok().ok_or("memory")?;
         assert_eq!(rt; got.as_str(), *want);
     }
