@@ -1,1 +1,2 @@
+pub mod CommaLemmas
 pub mod LineLemmas

@@ -6,7 +6,7 @@ use Rattle.sql_lex.specs.Written.{written_name, written_literal}
 use Rattle.ddl_write.specs.declared.words.Piece.{Piece}
 use Rattle.ddl_write.specs.declared.words.Piece.TheVariants as pieces
 use Rattle.ddl_write.specs.Paths.{path, listed, only_if}
-use Rattle.ddl_write.specs.Sequences.{bound, called_words, type_words}
+use Rattle.ddl_write.specs.Sequences.{min_text, max_text, called_words, type_words}
 use Rattle.ddl_write.specs.Keys.{rest_text}
 use Rattle.ddl_write.specs.RightsText.{remark_text, granted_words, granted_name, grantee_text}
 use Rattle.ddl_write.specs.Roles.{flag_text, limit_text, given_literal, given_name, truth, inherit_text, encoding_text}
@@ -23,7 +23,8 @@ text_of (pieces.Path q) = path q.now
 text_of (pieces.Names names) = listed names.now
 text_of (pieces.Number n) = signed_decimal n.now
 text_of (pieces.Type kind) = type_words kind
-text_of (pieces.Bound usual without words n) = bound usual without.now words.now n.now
+text_of (pieces.Min kind step n) = min_text kind step.now n.now
+text_of (pieces.Max kind step n) = max_text kind step.now n.now
 text_of (pieces.Called called) = called_words called
 text_of (pieces.GivenLiteral words text) = given_literal words.now text.now
 text_of (pieces.PathLiteral q) = written_literal (path q.now)

@@ -1,5 +1,6 @@
 -- The spelling of GRANT and REVOKE of rights, and of COMMENT.
-use Rattle.std.specs.Prelude.{ℕ, Bool, false, ◌&&◌, ◌||◌, not, List, [], ◌∷◌, ◌++◌, Option, Some, None, if◌then◌else◌, codes}
+use Rattle.std.specs.Prelude.{ℕ, Bool, true, false, ◌&&◌, ◌||◌, not, List, [], ◌∷◌, ◌++◌, Option, Some, None, if◌then◌else◌, codes}
+use Rattle.std.specs.List.{flat_map}
 use Rattle.sql_lex.specs.Written.{written_name, written_literal}
 use Rattle.cat_model.specs.declared.grant.Rights.{Rights}
 use Rattle.cat_model.specs.declared.grant.Granted.{Granted}
@@ -23,34 +24,25 @@ is_all (on.Sequence q) r = r.select && r.usage && r.update && not (row_rights r 
 is_all (on.Schema name) r = r.usage && r.create && not (row_rights r || r.select || r.update)
 is_all (on.Type q) r = r.usage && not (row_rights r || r.select || r.update || r.create)
 
--- a right where it is there, behind a comma where another one stands before it
-abbrev pub right_text : Bool → Bool → List ℕ → List ℕ
-right_text before has word = only_if (before && has) (codes ",") ++ only_if has word
+-- each right in order: whether it is there, and its word
+abbrev pub each_right : Rights → List (Bool × List ℕ)
+each_right r =
+    (r.select, codes "SELECT") ∷ (r.usage, codes "USAGE") ∷ (r.insert, codes "INSERT") ∷ (r.references, codes "REFERENCES") ∷ (r.delete, codes "DELETE")
+    ∷ (r.trigger, codes "TRIGGER") ∷ (r.truncate, codes "TRUNCATE") ∷ (r.update, codes "UPDATE") ∷ (r.create, codes "CREATE") ∷ []
 
--- the rights in their order: the first three, the next and the last
-abbrev pub first_rights : Rights → List ℕ
-first_rights r =
-    right_text false r.select (codes "SELECT") ++ right_text (false || r.select) r.usage (codes "USAGE")
-    ++ right_text (false || r.select || r.usage) r.insert (codes "INSERT")
+-- the word of a right that is there, and nothing for another one
+abbrev pub word_there : Bool → List ℕ → List (List ℕ)
+word_there false word = []
+word_there true word = word ∷ []
 
-abbrev pub has_first : Rights → Bool
-has_first r = false || r.select || r.usage || r.insert
+-- words with commas between them
+unfoldable pub with_commas : List (List ℕ) → List ℕ
+with_commas [] = []
+with_commas (first ∷ more) = first ++ flat_map (λ word. codes "," ++ word) more
 
-abbrev pub next_rights : Bool → Rights → List ℕ
-next_rights before r =
-    right_text before r.references (codes "REFERENCES") ++ right_text (before || r.references) r.delete (codes "DELETE")
-    ++ right_text (before || r.references || r.delete) r.trigger (codes "TRIGGER")
-
-abbrev pub has_next : Bool → Rights → Bool
-has_next before r = before || r.references || r.delete || r.trigger
-
-abbrev pub last_rights : Bool → Rights → List ℕ
-last_rights before r =
-    right_text before r.truncate (codes "TRUNCATE") ++ right_text (before || r.truncate) r.update (codes "UPDATE")
-    ++ right_text (before || r.truncate || r.update) r.create (codes "CREATE")
-
+-- the rights that are there, in their order
 unfoldable pub right_list : Rights → List ℕ
-right_list r = first_rights r ++ next_rights (has_first r) r ++ last_rights (has_next (has_first r) r) r
+right_list r = with_commas (flat_map (λ right. word_there right.0 right.1) (each_right r))
 
 unfoldable pub rights_text : Granted → Rights → List ℕ
 rights_text object r = if is_all object r then codes "ALL" else right_list r

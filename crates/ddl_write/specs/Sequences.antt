@@ -38,21 +38,22 @@ type_words Integer = codes "\n    AS integer"
 type_words BigInt = []
 
 -- a bound: without a number, where it is the usual one
-abbrev pub bound : Bool → List ℕ → List ℕ → ℤ → List ℕ
+unfoldable pub bound : Bool → List ℕ → List ℕ → ℤ → List ℕ
 bound true without words n = without
 bound false without words n = words ++ signed_decimal n
 
-unfoldable pub sequence_by : Bool → Bool → QName → SequenceKind → ℤ → ℤ → ℤ → ℤ → ℤ → Bool → List ℕ
-sequence_by is_usual_min is_usual_max q kind start step min max cache cycle = joined (
-    codes "CREATE SEQUENCE " ∷ path q ∷ type_words kind
-    ∷ codes "\n    START WITH " ∷ signed_decimal start ∷ codes "\n    INCREMENT BY " ∷ signed_decimal step
-    ∷ bound is_usual_min (codes "\n    NO MINVALUE") (codes "\n    MINVALUE ") min
-    ∷ bound is_usual_max (codes "\n    NO MAXVALUE") (codes "\n    MAXVALUE ") max
-    ∷ codes "\n    CACHE " ∷ signed_decimal cache ∷ only_if cycle (codes "\n    CYCLE") ∷ ending ∷ [])
+abbrev pub min_text : SequenceKind → ℤ → ℤ → List ℕ
+min_text kind step n = bound (int_eq n (usual_min kind step)) (codes "\n    NO MINVALUE") (codes "\n    MINVALUE ") n
+
+abbrev pub max_text : SequenceKind → ℤ → ℤ → List ℕ
+max_text kind step n = bound (int_eq n (usual_max kind step)) (codes "\n    NO MAXVALUE") (codes "\n    MAXVALUE ") n
 
 unfoldable pub sequence_text : QName → SequenceKind → ℤ → ℤ → ℤ → ℤ → ℤ → Bool → List ℕ
-sequence_text q kind start step min max cache cycle =
-    sequence_by (int_eq min (usual_min kind step)) (int_eq max (usual_max kind step)) q kind start step min max cache cycle
+sequence_text q kind start step min max cache cycle = joined (
+    codes "CREATE SEQUENCE " ∷ path q ∷ type_words kind
+    ∷ codes "\n    START WITH " ∷ signed_decimal start ∷ codes "\n    INCREMENT BY " ∷ signed_decimal step
+    ∷ min_text kind step min ∷ max_text kind step max
+    ∷ codes "\n    CACHE " ∷ signed_decimal cache ∷ only_if cycle (codes "\n    CYCLE") ∷ ending ∷ [])
 
 unfoldable pub owned_by_text : QName → QName → List ℕ → List ℕ
 owned_by_text q table column =

@@ -1,9 +1,10 @@
 //! GRANT and REVOKE of rights, and COMMENT.
 ghost use Rattle.std.specs.Prelude.{◌≡◌, ◌++◌, ◌||◌, ◌&&◌, false, codes, OnOk, IfOk};
+ghost use Rattle.std.specs.List.{flat_map};
 ghost use Rattle.ddl_write.specs.Outcome.{Extends};
 ghost use Rattle.ddl_write.specs.Paths.{only_if};
 ghost use Rattle.ddl_write.specs.Pieces.{text_of};
-ghost use Rattle.ddl_write.specs.RightsText.{row_rights, is_all, has_first, first_rights, has_next, next_rights, last_rights, right_list, rights_text, granted_words, granted_name, grantee_text, grant_text, revoke_text, named_comment, comment_text};
+ghost use Rattle.ddl_write.specs.RightsText.{row_rights, is_all, word_there, with_commas, right_list, rights_text, granted_words, granted_name, grantee_text, grant_text, revoke_text, named_comment, comment_text};
 
 use crate::words::{Piece, put_all, put_named, put_path};
 use cat_model::{Commented, Granted, Grantee, Rights};
@@ -51,6 +52,13 @@ fn is_all(object: &Granted, rights: Rights) -> bool
     }
 }
 
+/// A right's word, and whether the right is there.
+#[derive(Clone, Copy)]
+struct Right<'a> {
+    is_there: bool,
+    word: &'a [u8],
+}
+
 /// A right, where it is there, behind a comma where another one stands before it; answers whether one stands there now.
 fn put_right(before: bool, has: bool, word: &[u8], out: &mut Vec<u8>) -> Result<bool, AllocError>
     ensures ok { OnOk result (out.new.items ≡ out.old.items ++ (only_if (before && has) (codes ",") ++ only_if has word.now)) }
@@ -66,36 +74,15 @@ fn put_right(before: bool, has: bool, word: &[u8], out: &mut Vec<u8>) -> Result<
     Ok(before || has)
 }
 
-/// The first three rights.
-fn put_first_rights(rights: Rights, out: &mut Vec<u8>) -> Result<bool, AllocError>
-    ensures ok { OnOk result (out.new.items ≡ out.old.items ++ first_rights rights) }
-    ensures any { IfOk result (λ any. any ≡ has_first rights) }
+/// The words of the rights that are there, with commas.
+fn put_each_right(rights: &[Right<'_>], out: &mut Vec<u8>) -> Result<(), AllocError>
+    ensures ok { OnOk result (out.new.items ≡ out.old.items ++ with_commas (flat_map (λ right. word_there right.is_there right.word.now) rights.now)) }
     ensures kept { Extends out.old.items out.new.items }
 {
-    let any = put_right(false, rights.select, b"SELECT", out)?;
-    let any = put_right(any, rights.usage, b"USAGE", out)?;
-    put_right(any, rights.insert, b"INSERT", out)
-}
-
-/// The next three rights.
-fn put_next_rights(before: bool, rights: Rights, out: &mut Vec<u8>) -> Result<bool, AllocError>
-    ensures ok { OnOk result (out.new.items ≡ out.old.items ++ next_rights before rights) }
-    ensures any { IfOk result (λ any. any ≡ has_next before rights) }
-    ensures kept { Extends out.old.items out.new.items }
-{
-    let any = put_right(before, rights.references, b"REFERENCES", out)?;
-    let any = put_right(any, rights.delete, b"DELETE", out)?;
-    put_right(any, rights.trigger, b"TRIGGER", out)
-}
-
-/// The last three rights.
-fn put_last_rights(before: bool, rights: Rights, out: &mut Vec<u8>) -> Result<(), AllocError>
-    ensures ok { OnOk result (out.new.items ≡ out.old.items ++ last_rights before rights) }
-    ensures kept { Extends out.old.items out.new.items }
-{
-    let any = put_right(before, rights.truncate, b"TRUNCATE", out)?;
-    let any = put_right(any, rights.update, b"UPDATE", out)?;
-    put_right(any, rights.create, b"CREATE", out)?;
+    let mut any = false;
+    for right in rights {
+        any = put_right(any, right.is_there, right.word, out)?;
+    }
     Ok(())
 }
 
@@ -105,9 +92,47 @@ fn put_right_list(rights: Rights, out: &mut Vec<u8>) -> Result<(), AllocError>
     ensures ok { OnOk result (out.new.items ≡ out.old.items ++ right_list rights) }
     ensures kept { Extends out.old.items out.new.items }
 {
-    let any = put_first_rights(rights, out)?;
-    let any = put_next_rights(any, rights, out)?;
-    put_last_rights(any, rights, out)
+    put_each_right(
+        &[
+            Right {
+                is_there: rights.select,
+                word: b"SELECT",
+            },
+            Right {
+                is_there: rights.usage,
+                word: b"USAGE",
+            },
+            Right {
+                is_there: rights.insert,
+                word: b"INSERT",
+            },
+            Right {
+                is_there: rights.references,
+                word: b"REFERENCES",
+            },
+            Right {
+                is_there: rights.delete,
+                word: b"DELETE",
+            },
+            Right {
+                is_there: rights.trigger,
+                word: b"TRIGGER",
+            },
+            Right {
+                is_there: rights.truncate,
+                word: b"TRUNCATE",
+            },
+            Right {
+                is_there: rights.update,
+                word: b"UPDATE",
+            },
+            Right {
+                is_there: rights.create,
+                word: b"CREATE",
+            },
+        ],
+        out,
+    )
 }
 
 /// Words and rights.

@@ -2,9 +2,9 @@
 ghost use Rattle.std.specs.Prelude.{◌≡◌, ◌++◌, OnOk};
 ghost use Rattle.std.specs.Ordering.{int_eq};
 ghost use Rattle.ddl_write.specs.Outcome.{Extends};
-ghost use Rattle.ddl_write.specs.Sequences.{usual_min, usual_max, sequence_by, called_words, type_words, sequence_text, owned_by_text, value_text};
+ghost use Rattle.ddl_write.specs.Sequences.{usual_min, usual_max, bound, min_text, max_text, called_words, type_words, sequence_text, owned_by_text, value_text};
 
-use crate::words::{Piece, put_all};
+use crate::words::{Piece, put_all, put_number};
 use cat_model::{QName, SequenceKind};
 use copy_text::Name;
 use std::alloc::AllocError;
@@ -36,17 +36,64 @@ fn usual_max(kind: SequenceKind, step: i64) -> i64
 }
 
 /// Whether NO MINVALUE stands for the number.
-fn is_usual_min(kind: SequenceKind, step: i64, number: i64) -> bool
-    ensures { result ≡ int_eq number (usual_min kind step) }
+fn is_usual_min(kind: SequenceKind, step: &i64, number: &i64) -> bool
+    ensures { result ≡ int_eq number.now (usual_min kind step.now) }
 {
-    number == usual_min(kind, step)
+    *number == usual_min(kind, *step)
 }
 
 /// Whether NO MAXVALUE stands for the number.
-fn is_usual_max(kind: SequenceKind, step: i64, number: i64) -> bool
-    ensures { result ≡ int_eq number (usual_max kind step) }
+fn is_usual_max(kind: SequenceKind, step: &i64, number: &i64) -> bool
+    ensures { result ≡ int_eq number.now (usual_max kind step.now) }
 {
-    number == usual_max(kind, step)
+    *number == usual_max(kind, *step)
+}
+
+/// Words without a number where it is the usual one, else words and the number.
+#[tactic(auto, unfolding(crate::specs::Sequences::bound))]
+fn put_bound(
+    usual: bool,
+    without: &[u8],
+    words: &[u8],
+    number: &i64,
+    out: &mut Vec<u8>,
+) -> Result<(), AllocError>
+    ensures ok { OnOk result (out.new.items ≡ out.old.items ++ bound usual without.now words.now number.now) }
+    ensures kept { Extends out.old.items out.new.items }
+{
+    if usual {
+        out.extend_from_slice(without)
+    } else {
+        put_number(words, *number, out)
+    }
+}
+
+/// MINVALUE and the number, or NO MINVALUE.
+pub(crate) fn put_min(
+    kind: SequenceKind,
+    step: &i64,
+    number: &i64,
+    out: &mut Vec<u8>,
+) -> Result<(), AllocError>
+    ensures ok { OnOk result (out.new.items ≡ out.old.items ++ min_text kind step.now number.now) }
+    ensures kept { Extends out.old.items out.new.items }
+{
+    let usual = is_usual_min(kind, step, number);
+    put_bound(usual, b"\n    NO MINVALUE", b"\n    MINVALUE ", number, out)
+}
+
+/// MAXVALUE and the number, or NO MAXVALUE.
+pub(crate) fn put_max(
+    kind: SequenceKind,
+    step: &i64,
+    number: &i64,
+    out: &mut Vec<u8>,
+) -> Result<(), AllocError>
+    ensures ok { OnOk result (out.new.items ≡ out.old.items ++ max_text kind step.now number.now) }
+    ensures kept { Extends out.old.items out.new.items }
+{
+    let usual = is_usual_max(kind, step, number);
+    put_bound(usual, b"\n    NO MAXVALUE", b"\n    MAXVALUE ", number, out)
 }
 
 /// The words of the type.
@@ -58,44 +105,6 @@ pub(crate) fn type_words(kind: SequenceKind) -> &'static [u8]
         SequenceKind::Integer => b"\n    AS integer",
         SequenceKind::BigInt => b"",
     }
-}
-
-/// CREATE SEQUENCE, where it is known whether its bounds are the usual ones.
-#[tactic(auto, unfolding(crate::specs::Sequences::sequence_by))]
-fn put_sequence_by<'a>(
-    usual_min: bool,
-    usual_max: bool,
-    q: &'a QName,
-    kind: SequenceKind,
-    start: &'a i64,
-    step: &'a i64,
-    min: &'a i64,
-    max: &'a i64,
-    cache: &'a i64,
-    cycle: bool,
-    out: &mut Vec<u8>,
-) -> Result<(), AllocError>
-    ensures ok { OnOk result (out.new.items ≡ out.old.items ++ sequence_by usual_min usual_max q.now kind start.now step.now min.now max.now cache.now cycle) }
-    ensures kept { Extends out.old.items out.new.items }
-{
-    put_all(
-        &[
-            Piece::Words(b"CREATE SEQUENCE "),
-            Piece::Path(q),
-            Piece::Type(kind),
-            Piece::Words(b"\n    START WITH "),
-            Piece::Number(start),
-            Piece::Words(b"\n    INCREMENT BY "),
-            Piece::Number(step),
-            Piece::Bound(usual_min, b"\n    NO MINVALUE", b"\n    MINVALUE ", min),
-            Piece::Bound(usual_max, b"\n    NO MAXVALUE", b"\n    MAXVALUE ", max),
-            Piece::Words(b"\n    CACHE "),
-            Piece::Number(cache),
-            Piece::OnlyIf(cycle, b"\n    CYCLE"),
-            Piece::Words(b";\n"),
-        ],
-        out,
-    )
 }
 
 /// CREATE SEQUENCE.
@@ -114,10 +123,23 @@ pub(crate) fn put_sequence<'a>(
     ensures ok { OnOk result (out.new.items ≡ out.old.items ++ sequence_text q.now kind start.now step.now min.now max.now cache.now cycle) }
     ensures kept { Extends out.old.items out.new.items }
 {
-    let usual_min = is_usual_min(kind, *step, *min);
-    let usual_max = is_usual_max(kind, *step, *max);
-    put_sequence_by(
-        usual_min, usual_max, q, kind, start, step, min, max, cache, cycle, out,
+    put_all(
+        &[
+            Piece::Words(b"CREATE SEQUENCE "),
+            Piece::Path(q),
+            Piece::Type(kind),
+            Piece::Words(b"\n    START WITH "),
+            Piece::Number(start),
+            Piece::Words(b"\n    INCREMENT BY "),
+            Piece::Number(step),
+            Piece::Min(kind, step, min),
+            Piece::Max(kind, step, max),
+            Piece::Words(b"\n    CACHE "),
+            Piece::Number(cache),
+            Piece::OnlyIf(cycle, b"\n    CYCLE"),
+            Piece::Words(b";\n"),
+        ],
+        out,
     )
 }
 

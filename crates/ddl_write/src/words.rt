@@ -4,7 +4,6 @@ ghost use Rattle.std.specs.Fmt.{signed_decimal};
 ghost use Rattle.std.specs.List.{flat_map};
 ghost use Rattle.sql_lex.specs.Written.{written_name, written_literal};
 ghost use Rattle.ddl_write.specs.Paths.{path, listed, only_if};
-ghost use Rattle.ddl_write.specs.Sequences.{bound};
 ghost use Rattle.ddl_write.specs.Keys.{rest_text};
 ghost use Rattle.ddl_write.specs.RightsText.{remark_text};
 ghost use Rattle.ddl_write.specs.Roles.{flag_text, limit_text, given_literal, given_name};
@@ -13,7 +12,7 @@ ghost use Rattle.ddl_write.specs.Outcome.{Extends};
 
 use crate::rights::{put_granted, put_grantee};
 use crate::roles::{encoding_words, inherit_words, truth};
-use crate::sequences::{called_words, type_words};
+use crate::sequences::{called_words, put_max, put_min, type_words};
 use crate::tables::{put_checks, put_given_default, put_labels, put_type};
 use crate::views::put_body;
 use cat_model::{CheckDef, Encoding, Granted, Grantee, QName, SequenceKind, TypeName};
@@ -43,8 +42,10 @@ pub(crate) enum Piece<'a> {
     Number(&'a i64),
     /// The type of a sequence, but for bigint.
     Type(SequenceKind),
-    /// A bound of a sequence: whether it is the usual one, words for it, words before another one, and its number.
-    Bound(bool, &'a [u8], &'a [u8], &'a i64),
+    /// The least number of a sequence, behind its type and step.
+    Min(SequenceKind, &'a i64, &'a i64),
+    /// The greatest number of a sequence, behind its type and step.
+    Max(SequenceKind, &'a i64, &'a i64),
     /// Whether a sequence's value was given out, and the closing bracket.
     Called(bool),
     /// Words and a literal, where there is one.
@@ -112,7 +113,7 @@ pub(crate) fn put_literal(words: &[u8], text: &Text, out: &mut Vec<u8>) -> Resul
 }
 
 /// Words and a number.
-fn put_number(words: &[u8], number: i64, out: &mut Vec<u8>) -> Result<(), AllocError>
+pub(crate) fn put_number(words: &[u8], number: i64, out: &mut Vec<u8>) -> Result<(), AllocError>
     ensures ok { OnOk result (out.new.items ≡ out.old.items ++ (words.now ++ signed_decimal number)) }
     ensures kept { Extends out.old.items out.new.items }
 {
@@ -194,24 +195,6 @@ fn put_flag(word: &[u8], flag: Option<bool>, out: &mut Vec<u8>) -> Result<(), Al
     out.extend_from_slice(word)
 }
 
-/// A bound of a sequence: words without a number where it is the usual one, else words and the number.
-fn put_bound(
-    usual: bool,
-    without: &[u8],
-    words: &[u8],
-    number: i64,
-    out: &mut Vec<u8>,
-) -> Result<(), AllocError>
-    ensures ok { OnOk result (out.new.items ≡ out.old.items ++ bound usual without.now words.now number) }
-    ensures kept { Extends out.old.items out.new.items }
-{
-    if usual {
-        out.extend_from_slice(without)
-    } else {
-        put_number(words, number, out)
-    }
-}
-
 /// One piece.
 fn put_piece(piece: &Piece<'_>, out: &mut Vec<u8>) -> Result<(), AllocError>
     ensures ok { OnOk result (out.new.items ≡ out.old.items ++ text_of piece.now) }
@@ -236,9 +219,8 @@ fn put_piece(piece: &Piece<'_>, out: &mut Vec<u8>) -> Result<(), AllocError>
         Piece::Limit(Some(limit)) => put_number(b" CONNECTION LIMIT ", limit, out),
         Piece::Text(text) => out.extend_from_slice(text.as_bytes()),
         Piece::Type(kind) => out.extend_from_slice(type_words(kind)),
-        Piece::Bound(usual, without, words, number) => put_bound(
-            usual, without, words, *number, out,
-        ),
+        Piece::Min(kind, step, number) => put_min(kind, step, number, out),
+        Piece::Max(kind, step, number) => put_max(kind, step, number, out),
         Piece::Called(called) => out.extend_from_slice(called_words(called)),
         Piece::Truth(flag) => out.extend_from_slice(truth(flag)),
         Piece::Inherit(inherit) => out.extend_from_slice(inherit_words(inherit)),
