@@ -42,6 +42,7 @@ unfoldable pub bound : Bool → List ℕ → List ℕ → ℤ → List ℕ
 bound true without words n = without
 bound false without words n = words ++ signed_decimal n
 
+-- the least number and the greatest
 abbrev pub min_text : SequenceKind → ℤ → ℤ → List ℕ
 min_text kind step n = bound (int_eq n (usual_min kind step)) (codes "\n    NO MINVALUE") (codes "\n    MINVALUE ") n
 
