@@ -20,6 +20,8 @@ use Rattle.ddl_parts.specs.Lists.{listed}
 use Rattle.ddl_parts.specs.Expressions.{expression}
 use Rattle.ddl_read.specs.Clauses.{named_check}
 use Rattle.ddl_read.specs.TableGrammar.{create_enum, enum_of, checking, typed, domain_of, create_domain, table_elements, table_of, create_table}
+use Rattle.ddl_read.specs.AlterGrammar.{altered_table}
+use Rattle.ddl_read.proofs.AlterClosed.{new_owner_closes, altered_table_closes}
 use Rattle.ddl_read.specs.Grammar.{semicolon, create_schema, created, new_owner, new_check, its_owner, one_more_check, domain_changed, domain_change, altered_domain, name_and_owner, path_and_owner, owned_name, owned_path, altered, selected, equals_or_to, setting, command, statement}
 pub use Rattle.ddl_read.proofs.Closing.{ends_with, ends_cons, ends_append, Closes, passes_by, passed, mark_closes, then_closes, seen_closes, choose_closes, lead_closes, end_closes, AllClose, one_of_closes}
 
@@ -68,12 +70,6 @@ created_closes =
     (record { key = codes "type"; part = create_enum } ∷ record { key = codes "domain"; part = create_domain } ∷ record { key = codes "table"; part = create_table } ∷ [])
     (create_schema_closes, (create_enum_closes, (create_domain_closes, create_table_closes)))
 
-new_owner_closes : Closes semicolon new_owner
-unfolding new_owner
-new_owner_closes =
-    lead_closes semicolon (is_word (codes "owner")) (is_word (codes "to") ▸ (name ◂ semicolon))
-    (lead_closes semicolon (is_word (codes "to")) (name ◂ semicolon) (end_closes semicolon name))
-
 name_and_owner_closes : Closes semicolon name_and_owner
 unfolding name_and_owner
 name_and_owner_closes = then_closes semicolon name new_owner new_owner_closes
@@ -107,7 +103,7 @@ altered_closes : Closes semicolon altered
 unfolding altered
 altered_closes =
     one_of_closes semicolon (owned_name (codes "schema") owned.Schema)
-    (owned_path (codes "type") owned.Type ∷ record { key = codes "domain"; part = altered_domain } ∷ owned_path (codes "table") owned.Table
+    (owned_path (codes "type") owned.Type ∷ record { key = codes "domain"; part = altered_domain } ∷ record { key = codes "table"; part = altered_table }
     ∷ owned_path (codes "sequence") owned.Sequence ∷ owned_path (codes "view") owned.View ∷ owned_name (codes "database") owned.Database ∷ []) (
       owned_name_closes (codes "schema") owned.Schema,
       (
@@ -115,7 +111,7 @@ altered_closes =
         (
           altered_domain_closes,
           (
-            owned_path_closes (codes "table") owned.Table,
+            altered_table_closes,
             (owned_path_closes (codes "sequence") owned.Sequence, (owned_path_closes (codes "view") owned.View, owned_name_closes (codes "database") owned.Database)),
           ),
         ),

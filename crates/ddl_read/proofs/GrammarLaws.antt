@@ -20,6 +20,8 @@ use Rattle.ddl_parts.proofs.Tables.{one_of_laws, one_of_avoids_others}
 use Rattle.ddl_read.specs.Clauses.{named_check}
 use Rattle.ddl_read.specs.TableGrammar.{create_enum, create_domain, create_table}
 use Rattle.ddl_read.proofs.TableLaws.{named_check_laws, named_check_free, create_enum_laws, create_domain_laws, create_table_laws}
+use Rattle.ddl_read.specs.AlterGrammar.{altered_table}
+use Rattle.ddl_read.proofs.AlterLaws.{new_owner_laws, altered_table_laws}
 use Rattle.ddl_read.specs.Grammar.{semicolon, create_schema, created, new_owner, new_check, its_owner, one_more_check, domain_changed, domain_change, altered_domain, name_and_owner, path_and_owner, owned_name, owned_path, altered, selected, equals_or_to, setting, command, statement}
 
 free : (test : Lexeme → Bool) → Apart test never
@@ -43,12 +45,6 @@ created_laws =
     one_of_laws (record { key = codes "schema"; part = create_schema })
     (record { key = codes "type"; part = create_enum } ∷ record { key = codes "domain"; part = create_domain } ∷ record { key = codes "table"; part = create_table } ∷ [])
     refl (create_schema_laws, (create_enum_laws, (create_domain_laws, create_table_laws)))
-
-new_owner_laws : Lawful new_owner
-unfolding new_owner
-new_owner_laws =
-    word_laws (codes "owner") (is_word (codes "to") ▸ (name ◂ semicolon))
-    (word_laws (codes "to") (name ◂ semicolon) (ended_laws 59 name name_laws (free semicolon)))
 
 name_and_owner_laws : Lawful name_and_owner
 unfolding name_and_owner
@@ -86,7 +82,7 @@ altered_laws : Lawful altered
 unfolding altered
 altered_laws =
     one_of_laws (owned_name (codes "schema") owned.Schema)
-    (owned_path (codes "type") owned.Type ∷ record { key = codes "domain"; part = altered_domain } ∷ owned_path (codes "table") owned.Table
+    (owned_path (codes "type") owned.Type ∷ record { key = codes "domain"; part = altered_domain } ∷ record { key = codes "table"; part = altered_table }
     ∷ owned_path (codes "sequence") owned.Sequence ∷ owned_path (codes "view") owned.View ∷ owned_name (codes "database") owned.Database ∷ [])
     refl (
       owned_name_laws (codes "schema") owned.Schema,
@@ -95,7 +91,7 @@ altered_laws =
         (
           altered_domain_laws,
           (
-            owned_path_laws (codes "table") owned.Table,
+            altered_table_laws,
             (owned_path_laws (codes "sequence") owned.Sequence, (owned_path_laws (codes "view") owned.View, owned_name_laws (codes "database") owned.Database)),
           ),
         ),

@@ -20,6 +20,9 @@ use Rattle.ddl_write.specs.Paths.{path, ending}
 use Rattle.ddl_write.specs.Spelling.{owned_object, schema_text, set_text, setting_text, owner_text, check_text, domain_check_text}
 use Rattle.ddl_read.specs.Clauses.{semicolon, check_of, named_check}
 use Rattle.ddl_read.specs.Grammar.{create_schema, created, new_owner, new_check, its_owner, one_more_check, domain_changed, domain_change, altered_domain, name_and_owner, path_and_owner, owned_name, owned_path, altered, selected, equals_or_to, setting, command, statement}
+use Rattle.ddl_read.specs.declared.alters.TableChange.TheVariants.{Owner}
+use Rattle.ddl_read.specs.AlterGrammar.{table_change, altered_table}
+use Rattle.ddl_read.proofs.AlterPuts.{bare_put}
 use Rattle.ddl_read.specs.Respelling.{IsPath, IsOwnedName, IsExpressionText}
 use Rattle.ddl_read.proofs.Closed.{only_last}
 use Rattle.ddl_read.proofs.Standing.{is_safe_byte, Stood, placed}
@@ -77,7 +80,7 @@ database_key : IsKey (codes "database") (codes "DATABASE")
 unfolding begins_word in_word is_digit is_utf8 chars encode is_keyword_of
 database_key = record { word = (refl, refl); utf8 = refl; same = refl }
 
-alter_key : IsKey (codes "alter") (codes "ALTER")
+pub alter_key : IsKey (codes "alter") (codes "ALTER")
 unfolding begins_word in_word is_digit is_utf8 chars encode is_keyword_of
 alter_key = record { word = (refl, refl); utf8 = refl; same = refl }
 
@@ -105,19 +108,19 @@ false_key : IsKey (codes "false") (codes "false")
 unfolding begins_word in_word is_digit is_utf8 chars encode is_keyword_of
 false_key = record { word = (refl, refl); utf8 = refl; same = refl }
 
-set_key : IsKey (codes "set") (codes "SET")
+pub set_key : IsKey (codes "set") (codes "SET")
 unfolding begins_word in_word is_digit is_utf8 chars encode is_keyword_of
 set_key = record { word = (refl, refl); utf8 = refl; same = refl }
 
-add_key : IsKey (codes "add") (codes "ADD")
+pub add_key : IsKey (codes "add") (codes "ADD")
 unfolding begins_word in_word is_digit is_utf8 chars encode is_keyword_of
 add_key = record { word = (refl, refl); utf8 = refl; same = refl }
 
-constraint_key : IsKey (codes "constraint") (codes "CONSTRAINT")
+pub constraint_key : IsKey (codes "constraint") (codes "CONSTRAINT")
 unfolding begins_word in_word is_digit is_utf8 chars encode is_keyword_of
 constraint_key = record { word = (refl, refl); utf8 = refl; same = refl }
 
-check_key : IsKey (codes "check") (codes "CHECK")
+pub check_key : IsKey (codes "check") (codes "CHECK")
 unfolding begins_word in_word is_digit is_utf8 chars encode is_keyword_of
 check_key = record { word = (refl, refl); utf8 = refl; same = refl }
 
@@ -309,12 +312,28 @@ domain_owner g q r gap is role =
     let k : IsPut altered_domain s t [] = seen_put (λ x. domain_changed x.0 x.1) (qualified then domain_change) (q, its_owner r) t [] both in
     laid_out g (owner_text (owned.Domain q) r) s ((g ++ codes "ALTER") ++ (((32 ∷ []) ++ codes "DOMAIN") ++ t)) (domain_put g s t gap k refl) (owner_text_is g (codes "DOMAIN") (path q) r)
 
+-- what stands behind ALTER TABLE
+pub table_put : (g : List ℕ) (s : Stmt) (b : List ℕ) → Gap g → IsPut altered_table s b [] → begins_by parts_words b ≡ true → IsPut statement (Some s) ((g ++ codes "ALTER") ++ (((32 ∷ []) ++ codes "TABLE") ++ b)) []
+unfolding altered
+table_put g s b gap k e =
+    let branch = word_lead (codes "table") (codes "TABLE") (32 ∷ []) altered_table s b [] table_key space k e in
+    alter_put g s (((32 ∷ []) ++ codes "TABLE") ++ b) gap (put_as (is_word (codes "table") ▸ altered_table) altered s s (((32 ∷ []) ++ codes "TABLE") ++ b) [] branch (λ ts h. inr (inr (inr (inl h))))) refl
+
+table_owner : (g : List ℕ) (q : QName) (r : List ℕ) → Gap g → IsPath q → IsName r → IsLaidOut g (stmt.OwnerTo (owned.Table q) r) (owner_text (owned.Table q) r)
+unfolding table_change owner_text owned_object
+table_owner g q r gap is role =
+    let s = stmt.OwnerTo (owned.Table q) r in
+    let change : IsPut table_change (Owner r) (owner_end r) [] = put_as new_owner table_change r (Owner r) (owner_end r) [] (new_owner_put r role) (λ ts h. inl (r, refl, h)) in
+    let t = path_owner_end q r in
+    let k : IsPut altered_table s t [] = bare_put q (Owner r) (owner_end r) is change refl in
+    laid_out g (owner_text (owned.Table q) r) s ((g ++ codes "ALTER") ++ (((32 ∷ []) ++ codes "TABLE") ++ t)) (table_put g s t gap k refl) (owner_text_is g (codes "TABLE") (path q) r)
+
 pub owner_laid_out : (g : List ℕ) (object : Owned) (r : List ℕ) → Gap g → IsOwnedName object → IsName r → IsLaidOut g (stmt.OwnerTo object r) (owner_text object r)
 unfolding altered owned_object
 owner_laid_out g (owned.Schema n) r gap is role = owned_by_name g (codes "schema") (codes "SCHEMA") n r owned.Schema gap schema_key is role refl (λ ts h. inl h)
 owner_laid_out g (owned.Type q) r gap is role = owned_by_path g (codes "type") (codes "TYPE") q r owned.Type gap type_key is role refl (λ ts h. inr (inl h))
 owner_laid_out g (owned.Domain q) r gap is role = domain_owner g q r gap is role
-owner_laid_out g (owned.Table q) r gap is role = owned_by_path g (codes "table") (codes "TABLE") q r owned.Table gap table_key is role refl (λ ts h. inr (inr (inr (inl h))))
+owner_laid_out g (owned.Table q) r gap is role = table_owner g q r gap is role
 owner_laid_out g (owned.Sequence q) r gap is role = owned_by_path g (codes "sequence") (codes "SEQUENCE") q r owned.Sequence gap sequence_key is role refl (λ ts h. inr (inr (inr (inr (inl h)))))
 owner_laid_out g (owned.View q) r gap is role = owned_by_path g (codes "view") (codes "VIEW") q r owned.View gap view_key is role refl (λ ts h. inr (inr (inr (inr (inr (inl h))))))
 owner_laid_out g (owned.Database n) r gap is role = owned_by_name g (codes "database") (codes "DATABASE") n r owned.Database gap database_key is role refl (λ ts h. inr (inr (inr (inr (inr (inr h))))))

@@ -1,8 +1,10 @@
 pub mod Statements
 pub mod Telling
 pub mod TableLaws
+pub mod AlterLaws
 pub mod GrammarLaws
 pub mod Closing
+pub mod AlterClosed
 pub mod Closed
 pub mod ReadingLaws
 pub mod Standing
@@ -13,9 +15,12 @@ pub mod Expressions
 pub mod Types
 pub mod Defaults
 pub mod Putting
+pub mod AlterPuts
 pub mod Layouts
 pub mod TableLayouts
+pub mod AlterLayouts
 pub mod Respelled
 pub mod Yielding
 pub mod TableMade
+pub mod AlterMade
 pub mod Made

@@ -15,6 +15,8 @@ use Rattle.ddl_parts.specs.Leaves.{name, literal, qualified}
 use Rattle.ddl_parts.specs.Expressions.{expression}
 use Rattle.ddl_read.specs.declared.located.Located.{Located}
 use Rattle.ddl_read.specs.Grammar.{semicolon, create_schema, created, new_owner, new_check, DomainChange, its_owner, one_more_check, domain_changed, domain_change, altered_domain, name_and_owner, path_and_owner, owned_name, owned_path, altered, selected, equals_or_to, setting, command, statement}
+use Rattle.ddl_read.specs.AlterGrammar.{altered_table}
+use Rattle.ddl_read.proofs.AlterMade.{new_owner_yields, altered_table_yields}
 use Rattle.ddl_read.specs.Reading.{listed as listed_before, statements_of}
 use Rattle.ddl_read.specs.Readings.{IsStatement, Reads, all_read, one_read}
 use Rattle.ddl_read.specs.Clauses.{named_check}
@@ -39,12 +41,6 @@ created_yields =
     one_of_yields IsWritable (record { key = codes "schema"; part = create_schema })
     (record { key = codes "type"; part = create_enum } ∷ record { key = codes "domain"; part = create_domain } ∷ record { key = codes "table"; part = create_table } ∷ [])
     (create_schema_yields, (create_enum_yields, (create_domain_yields, create_table_yields)))
-
-new_owner_yields : Yields IsName new_owner
-unfolding new_owner
-new_owner_yields =
-    lead_yields IsName (is_word (codes "owner")) (is_word (codes "to") ▸ (name ◂ semicolon))
-    (lead_yields IsName (is_word (codes "to")) (name ◂ semicolon) (end_yields IsName semicolon name name_yields))
 
 new_check_yields : Yields IsCheck new_check
 unfolding new_check
@@ -86,7 +82,7 @@ altered_yields : Yields IsWritable altered
 unfolding altered
 altered_yields =
     one_of_yields IsWritable (owned_name (codes "schema") owned.Schema)
-    (owned_path (codes "type") owned.Type ∷ record { key = codes "domain"; part = altered_domain } ∷ owned_path (codes "table") owned.Table
+    (owned_path (codes "type") owned.Type ∷ record { key = codes "domain"; part = altered_domain } ∷ record { key = codes "table"; part = altered_table }
     ∷ owned_path (codes "sequence") owned.Sequence ∷ owned_path (codes "view") owned.View ∷ owned_name (codes "database") owned.Database ∷ []) (
       owned_name_yields (codes "schema") owned.Schema (λ n is. is),
       (
@@ -94,7 +90,7 @@ altered_yields =
         (
           altered_domain_yields,
           (
-            owned_path_yields (codes "table") owned.Table (λ q is. is),
+            altered_table_yields,
             (
               owned_path_yields (codes "sequence") owned.Sequence (λ q is. is),
               (owned_path_yields (codes "view") owned.View (λ q is. is), owned_name_yields (codes "database") owned.Database (λ n is. is)),

@@ -193,7 +193,7 @@ sign_lead c g p v b others h plain gap k = lead_put (is_sign c) p v (g ++ c ∷ 
 pub name_lead : {B : Type 0} (n g : List ℕ) (q : Part B) (w : B) (b : List ℕ) (others : List Lexeme) → IsName n → Gap g → IsPut q w b others → begins_by parts_words b ≡ true → IsPut (name then q) (n, w) ((g ++ written_name n) ++ b) others
 name_lead n g q w b others is gap k e = then_put name q n w (g ++ written_name n) b others k (name_put n g (k.tokens ++ others) is gap (behind k) (begun parts_words k e))
 
-sign_46 : IsWrittenSign 46
+pub sign_46 : IsWrittenSign 46
 unfolding is_sign_byte is_blank is_utf8 chars encode
 sign_46 = record { sign = refl; solid = refl; utf8 = refl; minus = refl; slash = refl; same = refl }
 

@@ -58,7 +58,7 @@ null_key : IsKey (codes "null") (codes "NULL")
 unfolding begins_word in_word is_digit is_utf8 chars encode is_keyword_of
 null_key = record { word = (refl, refl); utf8 = refl; same = refl }
 
-default_key : IsKey (codes "default") (codes "DEFAULT")
+pub default_key : IsKey (codes "default") (codes "DEFAULT")
 unfolding begins_word in_word is_digit is_utf8 chars encode is_keyword_of
 default_key = record { word = (refl, refl); utf8 = refl; same = refl }
 
@@ -146,7 +146,7 @@ type_put ty g others is gap follows e =
     let k = type_kept g ty others gap is follows.stood (safe_behind others e) in
     record { tokens = k.tokens; bytes = k.bytes ∙ ap (λ (x : List ℕ). g ++ x) (type_text_is ty); stood = k.stood; spells = k.spells; last = plain_last k.tokens others k.plain follows.last }
 
-default_put : (v : List ℕ) (others : List Lexeme) → IsDefaultText v → Follows others → begins_by is_safe_byte (spelled others) ≡ true → IsPut default_text v ((32 ∷ []) ++ v) others
+pub default_put : (v : List ℕ) (others : List Lexeme) → IsDefaultText v → Follows others → begins_by is_safe_byte (spelled others) ≡ true → IsPut default_text v ((32 ∷ []) ++ v) others
 default_put v others is follows e =
     let k = default_kept (32 ∷ []) v others space is follows.stood (safe_behind others e) in
     record { tokens = k.tokens; bytes = k.bytes; stood = k.stood; spells = k.spells; last = plain_last k.tokens others k.plain follows.last }

@@ -1,4 +1,4 @@
--- What several kinds of statements have: the semicolon, and named checks.
+-- What several kinds of statements have: the semicolon, named checks and new owners.
 use Rattle.std.specs.Prelude.{ℕ, Bool, List, codes}
 use Rattle.cat_model.specs.declared.table.CheckDef.{CheckDef}
 use Rattle.ddl_parts.specs.Lexemes.{Lexeme, is_word, is_sign}
@@ -17,3 +17,7 @@ unfoldable pub named_check : Part CheckDef
 named_check =
     seen check_of
     (is_word (codes "constraint") ▸ (name then (is_word (codes "check") ▸ (is_sign 40 ▸ (expression ◂ is_sign 41)))))
+
+-- OWNER TO role;
+unfoldable pub new_owner : Part (List ℕ)
+new_owner = is_word (codes "owner") ▸ (is_word (codes "to") ▸ (name ◂ semicolon))

@@ -12,6 +12,8 @@ use Rattle.ddl_parts.specs.Parts.{Part, Branch, mark, seen, choose, one_of, ◌t
 use Rattle.ddl_parts.specs.Leaves.{name, literal, qualified}
 use Rattle.ddl_parts.specs.Expressions.{expression}
 pub use Rattle.ddl_read.specs.Clauses.{semicolon, named_check}
+unfoldable pub use Rattle.ddl_read.specs.Clauses.{new_owner}
+use Rattle.ddl_read.specs.AlterGrammar.{altered_table}
 use Rattle.ddl_read.specs.TableGrammar.{create_enum, create_domain, create_table}
 
 -- ---- CREATE ..
@@ -26,10 +28,6 @@ created =
     (record { key = codes "type"; part = create_enum } ∷ record { key = codes "domain"; part = create_domain } ∷ record { key = codes "table"; part = create_table } ∷ [])
 
 -- ---- ALTER ..
-
--- OWNER TO role;
-unfoldable pub new_owner : Part (List ℕ)
-new_owner = is_word (codes "owner") ▸ (is_word (codes "to") ▸ (name ◂ semicolon))
 
 -- name OWNER TO role;
 unfoldable pub name_and_owner : Part (List ℕ × List ℕ)
@@ -68,7 +66,7 @@ owned_path key kind = record { key = key; part = seen (λ x. stmt.OwnerTo (kind 
 unfoldable pub altered : Part Stmt
 altered =
     one_of (owned_name (codes "schema") owned.Schema)
-    (owned_path (codes "type") owned.Type ∷ record { key = codes "domain"; part = altered_domain } ∷ owned_path (codes "table") owned.Table
+    (owned_path (codes "type") owned.Type ∷ record { key = codes "domain"; part = altered_domain } ∷ record { key = codes "table"; part = altered_table }
     ∷ owned_path (codes "sequence") owned.Sequence ∷ owned_path (codes "view") owned.View ∷ owned_name (codes "database") owned.Database ∷ [])
 
 -- ---- SELECT ..

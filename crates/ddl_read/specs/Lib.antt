@@ -1,7 +1,9 @@
 pub mod Clauses
 pub mod TableGrammar
+pub mod AlterGrammar
 pub mod Grammar
 pub mod Reading
 pub mod Readings
 pub mod Examples
+pub mod AlterExamples
 pub mod Respelling

@@ -4,6 +4,7 @@ ghost use Rattle.cat_model.specs.declared.stmt.Stmt.TheVariants.{OwnerTo};
 ghost use Rattle.ddl_parts.specs.Pieces.{GivesPart, GivesPlace, GivesValue, value_of};
 ghost use Rattle.ddl_read.specs.Grammar.{create_schema, created, new_owner, new_check, domain_change, altered_domain, altered, selected, equals_or_to, setting, name_and_owner, path_and_owner, command, statement};
 
+use crate::alters::{altered_table, new_owner};
 use crate::tables::{create_domain, create_enum, create_table, named_check};
 use cat_model::{CheckDef, Owned, QName, Stmt};
 use copy_text::Name;
@@ -37,17 +38,6 @@ fn created(alloc: Global, pieces: &Pieces<'_>, at: usize) -> Result<(Stmt, usize
     }
     let at = pieces.word(at, "table")?;
     create_table(alloc, pieces, at)
-}
-
-#[tactic(auto, unfolding(crate::specs::Grammar::new_owner))]
-fn new_owner(alloc: Global, pieces: &Pieces<'_>, at: usize) -> Result<(Name, usize), ReadError>
-    ensures { GivesPart pieces.now (λ n. n) result (new_owner.read (drop at pieces.now)) }
-{
-    let at = pieces.word(at, "owner")?;
-    let at = pieces.word(at, "to")?;
-    let (role, at) = pieces.name(alloc, at)?;
-    let at = pieces.sign(at, b';')?;
-    Ok((role, at))
 }
 
 #[tactic(auto, unfolding(crate::specs::Grammar::name_and_owner))]
@@ -126,8 +116,7 @@ fn altered(alloc: Global, pieces: &Pieces<'_>, at: usize) -> Result<(Stmt, usize
     }
     if pieces.is_word(at, "table") {
         let at = pieces.word(at, "table")?;
-        let ((q, role), at) = path_and_owner(alloc, pieces, at)?;
-        return Ok((owner_to(Owned::Table(q), role), at));
+        return altered_table(alloc, pieces, at);
     }
     if pieces.is_word(at, "sequence") {
         let at = pieces.word(at, "sequence")?;

@@ -7,6 +7,7 @@ ghost use Rattle.ddl_read.specs.Readings.{Reads, FailsAt};
 ghost use Rattle.cat_model.specs.declared.stmt.Stmt.{Stmt};
 ghost use Rattle.ddl_read.specs.Respelling.{AllWritable, spellings, said};
 ghost use Rattle.ddl_read.specs.Examples.{WorkedExamples};
+ghost use Rattle.ddl_read.specs.AlterExamples.{AlterExamples};
 
 /// A text is read as statements exactly where it reads as them, so that it reads as one list at most.
 pub fn reading_is_exact()
@@ -22,6 +23,11 @@ pub fn the_first_fault_is_told()
 /// The definitions give what is known of some texts.
 pub fn the_definitions_meet_the_examples()
     ensures { WorkedExamples }
+{}
+
+/// The same of texts that alter tables.
+pub fn altered_tables_meet_the_examples()
+    ensures { AlterExamples }
 {}
 
 /// Statements that are written one after another read as these statements: so the spelling of a statement reads as it.

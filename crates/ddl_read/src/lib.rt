@@ -1,6 +1,7 @@
 //! Statements of SQL, read exactly by their grammar.
 #![tactic(auto)]
 
+mod alters;
 mod fault;
 mod kinds;
 pub mod laws;

@@ -1,0 +1,22 @@
+-- Worked examples: texts of ALTER TABLE with their statements, or their first fault.
+use Rattle.std.specs.Prelude.{◌≡◌, [], ◌∷◌, Ok, Err, codes}
+use Rattle.cat_model.specs.declared.grant.Owned.TheVariants as owned
+use Rattle.cat_model.specs.declared.stmt.Stmt.TheVariants as stmt
+use Rattle.ddl_read.specs.declared.fault.DdlFault.TheVariants.{Unknown}
+use Rattle.ddl_read.specs.Reading.{statements_of}
+use Rattle.ddl_read.specs.Examples.{located}
+
+pub record AlterExamples : Type 0 where
+  pub check : statements_of (codes "ALTER TABLE ONLY a.t ADD CONSTRAINT c CHECK (x > 0);") ≡ Ok (located (stmt.AddCheck (record { schema = codes "a"; name = codes "t" }) (codes "c") (codes "x > 0")) 0 52 ∷ [])
+  -- ONLY may be left out
+  pub bare : statements_of (codes "alter table a.t add constraint c check (x);") ≡ Ok (located (stmt.AddCheck (record { schema = codes "a"; name = codes "t" }) (codes "c") (codes "x")) 0 43 ∷ [])
+  -- before a dot it is a schema, whether or not it stands before
+  pub schema : statements_of (codes "ALTER TABLE only.t ADD CONSTRAINT c CHECK (x);") ≡ Ok (located (stmt.AddCheck (record { schema = codes "only"; name = codes "t" }) (codes "c") (codes "x")) 0 46 ∷ [])
+  pub both : statements_of (codes "ALTER TABLE ONLY only.t ADD CONSTRAINT c CHECK (x);") ≡ Ok (located (stmt.AddCheck (record { schema = codes "only"; name = codes "t" }) (codes "c") (codes "x")) 0 51 ∷ [])
+  pub owner : statements_of (codes "ALTER TABLE only.t OWNER TO eve;") ≡ Ok (located (stmt.OwnerTo (owned.Table (record { schema = codes "only"; name = codes "t" })) (codes "eve")) 0 32 ∷ [])
+  -- an owner takes no ONLY
+  pub only_owner : statements_of (codes "ALTER TABLE ONLY a.t OWNER TO eve;") ≡ Err (Unknown 21)
+  pub default : statements_of (codes "ALTER TABLE ONLY a.t ALTER COLUMN b SET DEFAULT 1 + 2;") ≡ Ok (located (stmt.SetDefault (record { schema = codes "a"; name = codes "t" }) (codes "b") (codes "1 + 2")) 0 54 ∷ [])
+  -- NOT NULL may not follow a default, nor a second one
+  pub not_null : statements_of (codes "ALTER TABLE a.t ALTER COLUMN b SET DEFAULT 1 NOT NULL;") ≡ Err (Unknown 49)
+  pub second : statements_of (codes "ALTER TABLE a.t ALTER COLUMN b SET DEFAULT 1 DEFAULT 2;") ≡ Err (Unknown 45)

@@ -1,0 +1,231 @@
+//! Readers of ALTER TABLE, behind these words.
+ghost use Rattle.std.specs.Prelude.{◌≡◌, drop};
+ghost use Rattle.ddl_parts.specs.Parts.{seen};
+ghost use Rattle.ddl_parts.specs.Pieces.{GivesPart, GivesPlace};
+ghost use Rattle.ddl_read.specs.Clauses.{new_owner};
+ghost use Rattle.ddl_read.specs.AlterGrammar.{check_body, constraint_body, constrained, added, new_default, own_change, table_change, table_changed, only_value, only_name, other_value, other_name, other_path, behind_only, only_changed, altered_table};
+
+use cat_model::{Owned, QName, Stmt};
+use copy_text::{Name, Text};
+use ddl_parts::{Halt, Pieces, ReadError, qualified_name};
+use std::alloc::Global;
+
+/// What a constraint of a table says.
+#[derive(Debug, Drop)]
+pub enum Constraint {
+    /// CHECK with its expression.
+    Check(Text),
+}
+
+/// What changes of a table.
+#[derive(Debug, Drop)]
+pub enum TableChange {
+    /// Its owner.
+    Owner(Name),
+    /// The default of a column.
+    Default(Name, Text),
+    /// One more constraint with its name.
+    Added(Name, Constraint),
+}
+
+/// OWNER TO and a role.
+#[tactic(auto, unfolding(crate::specs::Clauses::new_owner))]
+pub(crate) fn new_owner(
+    alloc: Global,
+    pieces: &Pieces<'_>,
+    at: usize,
+) -> Result<(Name, usize), ReadError>
+    ensures { GivesPart pieces.now (λ n. n) result (new_owner.read (drop at pieces.now)) }
+{
+    let at = pieces.word(at, "owner")?;
+    let at = pieces.word(at, "to")?;
+    let (role, at) = pieces.name(alloc, at)?;
+    let at = pieces.sign(at, b';')?;
+    Ok((role, at))
+}
+
+/// The expression of a check in its brackets.
+#[tactic(auto, unfolding(crate::specs::AlterGrammar::check_body))]
+fn check_body(
+    alloc: Global,
+    pieces: &Pieces<'_>,
+    at: usize,
+) -> Result<(Constraint, usize), ReadError>
+    ensures { GivesPart pieces.now (λ c. c) result (check_body.read (drop at pieces.now)) }
+{
+    let at = pieces.sign(at, b'(')?;
+    let (text, at) = pieces.expression(alloc, at)?;
+    let at = pieces.sign(at, b')')?;
+    Ok((Constraint::Check(text), at))
+}
+
+/// What a constraint says.
+#[tactic(auto, unfolding(crate::specs::AlterGrammar::constraint_body))]
+fn constraint_body(
+    alloc: Global,
+    pieces: &Pieces<'_>,
+    at: usize,
+) -> Result<(Constraint, usize), ReadError>
+    ensures { GivesPart pieces.now (λ c. c) result (constraint_body.read (drop at pieces.now)) }
+{
+    let at = pieces.word(at, "check")?;
+    check_body(alloc, pieces, at)
+}
+
+/// A constraint that is added.
+#[tactic(auto, unfolding(crate::specs::AlterGrammar::added))]
+fn added(alloc: Global, pieces: &Pieces<'_>, at: usize) -> Result<(TableChange, usize), ReadError>
+    ensures { GivesPart pieces.now (λ c. c) result (added.read (drop at pieces.now)) }
+{
+    let at = pieces.word(at, "constraint")?;
+    let (name, at) = pieces.name(alloc, at)?;
+    let (constraint, at) = constraint_body(alloc, pieces, at)?;
+    let at = pieces.sign(at, b';')?;
+    Ok((TableChange::Added(name, constraint), at))
+}
+
+/// The default of a column.
+#[tactic(auto, unfolding(crate::specs::AlterGrammar::new_default))]
+fn new_default(
+    alloc: Global,
+    pieces: &Pieces<'_>,
+    at: usize,
+) -> Result<(TableChange, usize), ReadError>
+    ensures { GivesPart pieces.now (λ c. c) result (new_default.read (drop at pieces.now)) }
+{
+    let at = pieces.word(at, "column")?;
+    let (column, at) = pieces.name(alloc, at)?;
+    let at = pieces.word(at, "set")?;
+    let at = pieces.word(at, "default")?;
+    let (text, at) = pieces.default_text(alloc, at)?;
+    let at = pieces.sign(at, b';')?;
+    Ok((TableChange::Default(column, text), at))
+}
+
+/// A change of the table alone, before which ONLY may stand.
+#[tactic(auto, unfolding(crate::specs::AlterGrammar::own_change))]
+fn own_change(
+    alloc: Global,
+    pieces: &Pieces<'_>,
+    at: usize,
+) -> Result<(TableChange, usize), ReadError>
+    ensures { GivesPart pieces.now (λ c. c) result (own_change.read (drop at pieces.now)) }
+{
+    if pieces.is_word(at, "add") {
+        let at = pieces.word(at, "add")?;
+        return added(alloc, pieces, at);
+    }
+    let at = pieces.word(at, "alter")?;
+    new_default(alloc, pieces, at)
+}
+
+/// A change of a table.
+#[tactic(auto, unfolding(crate::specs::AlterGrammar::table_change))]
+fn table_change(
+    alloc: Global,
+    pieces: &Pieces<'_>,
+    at: usize,
+) -> Result<(TableChange, usize), ReadError>
+    ensures { GivesPart pieces.now (λ c. c) result (table_change.read (drop at pieces.now)) }
+{
+    if pieces.is_word(at, "owner") {
+        let (role, at) = new_owner(alloc, pieces, at)?;
+        return Ok((TableChange::Owner(role), at));
+    }
+    own_change(alloc, pieces, at)
+}
+
+/// The statement that adds a constraint.
+fn constrained(q: QName, name: Name, constraint: Constraint) -> Stmt
+    ensures { result ≡ constrained q name constraint }
+{
+    match constraint {
+        Constraint::Check(text) => Stmt::AddCheck { q, name, text },
+    }
+}
+
+/// The statement of a change.
+fn changed(q: QName, change: TableChange) -> Stmt
+    ensures { result ≡ table_changed q change }
+{
+    match change {
+        TableChange::Owner(role) => Stmt::OwnerTo {
+            object: Owned::Table(q),
+            role,
+        },
+        TableChange::Default(column, text) => Stmt::SetDefault { q, column, text },
+        TableChange::Added(name, constraint) => constrained(q, name, constraint),
+    }
+}
+
+/// The bare word ONLY as a name.
+#[tactic(auto, unfolding(crate::specs::AlterGrammar::only_value))]
+fn only_name(alloc: Global, pieces: &Pieces<'_>, at: usize) -> Result<(Name, usize), ReadError>
+    ensures { GivesPart pieces.now (λ n. n) result (only_name.read (drop at pieces.now)) }
+{
+    if pieces.is_word(at, "only") {
+        return pieces.name(alloc, at);
+    }
+    Err(ReadError::Halted(Halt { long: false, at }))
+}
+
+/// A name that isn't the bare word ONLY.
+#[tactic(auto, unfolding(crate::specs::AlterGrammar::other_value))]
+fn other_name(alloc: Global, pieces: &Pieces<'_>, at: usize) -> Result<(Name, usize), ReadError>
+    ensures { GivesPart pieces.now (λ n. n) result (other_name.read (drop at pieces.now)) }
+{
+    if pieces.is_word(at, "only") {
+        return Err(ReadError::Halted(Halt { long: false, at }));
+    }
+    pieces.name(alloc, at)
+}
+
+/// A path that doesn't begin with the bare word ONLY.
+#[tactic(auto, unfolding(crate::specs::AlterGrammar::other_path))]
+fn other_path(alloc: Global, pieces: &Pieces<'_>, at: usize) -> Result<(QName, usize), ReadError>
+    ensures { GivesPart pieces.now (λ q. q) result (other_path.read (drop at pieces.now)) }
+{
+    let (schema, at) = other_name(alloc, pieces, at)?;
+    let at = pieces.sign(at, b'.')?;
+    let (name, at) = pieces.name(alloc, at)?;
+    Ok((QName { schema, name }, at))
+}
+
+/// What stands behind the word ONLY, which is a schema where a dot follows.
+#[tactic(auto, unfolding(crate::specs::AlterGrammar::behind_only))]
+fn behind_only(
+    alloc: Global,
+    pieces: &Pieces<'_>,
+    at: usize,
+    schema: Name,
+) -> Result<(Stmt, usize), ReadError>
+    ensures { GivesPart pieces.now (λ s. s) result ((seen (only_changed schema) behind_only).read (drop at pieces.now)) }
+{
+    if pieces.is_sign(at, b'.') {
+        let at = pieces.sign(at, b'.')?;
+        let (name, at) = pieces.name(alloc, at)?;
+        let (change, at) = table_change(alloc, pieces, at)?;
+        return Ok((changed(QName { schema, name }, change), at));
+    }
+    let (q, at) = qualified_name(alloc, pieces, at)?;
+    let (change, at) = own_change(alloc, pieces, at)?;
+    Ok((changed(q, change), at))
+}
+
+/// ALTER TABLE.
+#[tactic(auto, unfolding(crate::specs::AlterGrammar::altered_table))]
+pub(crate) fn altered_table(
+    alloc: Global,
+    pieces: &Pieces<'_>,
+    at: usize,
+) -> Result<(Stmt, usize), ReadError>
+    ensures { GivesPart pieces.now (λ s. s) result (altered_table.read (drop at pieces.now)) }
+{
+    if pieces.is_word(at, "only") {
+        let (schema, at) = only_name(alloc, pieces, at)?;
+        return behind_only(alloc, pieces, at, schema);
+    }
+    let (q, at) = other_path(alloc, pieces, at)?;
+    let (change, at) = table_change(alloc, pieces, at)?;
+    Ok((changed(q, change), at))
+}
