@@ -19,6 +19,8 @@ use Rattle.ddl_parts.specs.Leaves.{name, literal, is_literal, qualified}
 use Rattle.ddl_parts.specs.Lists.{listed}
 use Rattle.ddl_parts.specs.Expressions.{expression}
 use Rattle.ddl_read.specs.Clauses.{named_check}
+use Rattle.ddl_read.specs.RelationGrammar.{altered_sequence}
+use Rattle.ddl_read.proofs.RelationLaws.{altered_sequence_closes}
 use Rattle.ddl_read.specs.TableGrammar.{create_enum, enum_of, checking, typed, domain_of, create_domain, table_elements, table_of, create_table}
 use Rattle.ddl_read.specs.Grammar.{semicolon, create_schema, created, new_owner, new_check, its_owner, one_more_check, domain_changed, domain_change, altered_domain, name_and_owner, path_and_owner, owned_name, owned_path, altered, selected, equals_or_to, setting, command, statement}
 pub use Rattle.ddl_read.proofs.Closing.{ends_with, ends_cons, ends_append, Closes, passes_by, passed, mark_closes, then_closes, seen_closes, choose_closes, lead_closes, end_closes, AllClose, one_of_closes}
@@ -108,7 +110,7 @@ unfolding altered
 altered_closes =
     one_of_closes semicolon (owned_name (codes "schema") owned.Schema)
     (owned_path (codes "type") owned.Type ∷ record { key = codes "domain"; part = altered_domain } ∷ owned_path (codes "table") owned.Table
-    ∷ owned_path (codes "sequence") owned.Sequence ∷ owned_path (codes "view") owned.View ∷ owned_name (codes "database") owned.Database ∷ []) (
+    ∷ record { key = codes "sequence"; part = altered_sequence new_owner } ∷ owned_path (codes "view") owned.View ∷ owned_name (codes "database") owned.Database ∷ []) (
       owned_name_closes (codes "schema") owned.Schema,
       (
         owned_path_closes (codes "type") owned.Type,
@@ -116,7 +118,7 @@ altered_closes =
           altered_domain_closes,
           (
             owned_path_closes (codes "table") owned.Table,
-            (owned_path_closes (codes "sequence") owned.Sequence, (owned_path_closes (codes "view") owned.View, owned_name_closes (codes "database") owned.Database)),
+            (altered_sequence_closes new_owner new_owner_closes, (owned_path_closes (codes "view") owned.View, owned_name_closes (codes "database") owned.Database)),
           ),
         ),
       ),

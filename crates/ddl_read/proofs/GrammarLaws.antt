@@ -7,7 +7,7 @@ use Rattle.cat_model.specs.declared.grant.Owned.TheVariants as owned
 use Rattle.cat_model.specs.declared.stmt.Stmt.TheVariants as stmt
 use Rattle.ddl_parts.specs.Lexemes.{Lexeme, is_word, is_sign, never, starts}
 use Rattle.ddl_parts.specs.Parts.{Part, mark, seen, ◌then◌, ◌▸◌, ◌◂◌}
-use Rattle.ddl_parts.specs.Laws.{Lawful, Apart, Avoids}
+use Rattle.ddl_parts.specs.Laws.{Lawful, Apart, Avoids, Begins}
 use Rattle.ddl_parts.specs.Leaves.{name, literal, qualified}
 use Rattle.ddl_parts.proofs.Steps.{avoids_never}
 use Rattle.ddl_parts.proofs.Simple.{seen_laws, seen_begins, seen_avoids, mark_laws, mark_begins}
@@ -19,6 +19,8 @@ use Rattle.ddl_parts.proofs.RunLaws.{expression_laws, expression_ends}
 use Rattle.ddl_parts.proofs.Tables.{one_of_laws, one_of_avoids_others}
 use Rattle.ddl_read.specs.Clauses.{named_check}
 use Rattle.ddl_read.specs.TableGrammar.{create_enum, create_domain, create_table}
+use Rattle.ddl_read.specs.RelationGrammar.{altered_sequence}
+use Rattle.ddl_read.proofs.RelationLaws.{altered_sequence_laws}
 use Rattle.ddl_read.proofs.TableLaws.{named_check_laws, named_check_free, create_enum_laws, create_domain_laws, create_table_laws}
 use Rattle.ddl_read.specs.Grammar.{semicolon, create_schema, created, new_owner, new_check, its_owner, one_more_check, domain_changed, domain_change, altered_domain, name_and_owner, path_and_owner, owned_name, owned_path, altered, selected, equals_or_to, setting, command, statement}
 
@@ -49,6 +51,10 @@ unfolding new_owner
 new_owner_laws =
     word_laws (codes "owner") (is_word (codes "to") ▸ (name ◂ semicolon))
     (word_laws (codes "to") (name ◂ semicolon) (ended_laws 59 name name_laws (free semicolon)))
+
+new_owner_begins : Begins (is_word (codes "owner")) new_owner
+unfolding new_owner
+new_owner_begins = lead_begins (is_word (codes "owner")) (is_word (codes "to") ▸ (name ◂ semicolon))
 
 name_and_owner_laws : Lawful name_and_owner
 unfolding name_and_owner
@@ -87,7 +93,7 @@ unfolding altered
 altered_laws =
     one_of_laws (owned_name (codes "schema") owned.Schema)
     (owned_path (codes "type") owned.Type ∷ record { key = codes "domain"; part = altered_domain } ∷ owned_path (codes "table") owned.Table
-    ∷ owned_path (codes "sequence") owned.Sequence ∷ owned_path (codes "view") owned.View ∷ owned_name (codes "database") owned.Database ∷ [])
+    ∷ record { key = codes "sequence"; part = altered_sequence new_owner } ∷ owned_path (codes "view") owned.View ∷ owned_name (codes "database") owned.Database ∷ [])
     refl (
       owned_name_laws (codes "schema") owned.Schema,
       (
@@ -96,7 +102,7 @@ altered_laws =
           altered_domain_laws,
           (
             owned_path_laws (codes "table") owned.Table,
-            (owned_path_laws (codes "sequence") owned.Sequence, (owned_path_laws (codes "view") owned.View, owned_name_laws (codes "database") owned.Database)),
+            (altered_sequence_laws new_owner new_owner_laws new_owner_begins, (owned_path_laws (codes "view") owned.View, owned_name_laws (codes "database") owned.Database)),
           ),
         ),
       ),

@@ -1,8 +1,9 @@
 pub mod Statements
 pub mod Telling
 pub mod TableLaws
-pub mod GrammarLaws
 pub mod Closing
+pub mod RelationLaws
+pub mod GrammarLaws
 pub mod Closed
 pub mod ReadingLaws
 pub mod Standing
@@ -15,7 +16,9 @@ pub mod Defaults
 pub mod Putting
 pub mod Layouts
 pub mod TableLayouts
+pub mod RelationLayouts
 pub mod Respelled
 pub mod Yielding
 pub mod TableMade
+pub mod RelationMade
 pub mod Made

@@ -18,6 +18,8 @@ use Rattle.ddl_read.specs.Grammar.{semicolon, create_schema, created, new_owner,
 use Rattle.ddl_read.specs.Reading.{listed as listed_before, statements_of}
 use Rattle.ddl_read.specs.Readings.{IsStatement, Reads, all_read, one_read}
 use Rattle.ddl_read.specs.Clauses.{named_check}
+use Rattle.ddl_read.specs.RelationGrammar.{altered_sequence}
+use Rattle.ddl_read.proofs.RelationMade.{altered_sequence_yields}
 use Rattle.ddl_read.specs.TableGrammar.{create_enum, create_domain, create_table}
 use Rattle.ddl_read.specs.Respelling.{IsPath, IsOwnedName, IsExpressionText, IsCheck, IsWritable, AllWritable, joined, spellings, said}
 use Rattle.ddl_read.proofs.Kept.{AllCame, have_come}
@@ -87,7 +89,7 @@ unfolding altered
 altered_yields =
     one_of_yields IsWritable (owned_name (codes "schema") owned.Schema)
     (owned_path (codes "type") owned.Type ∷ record { key = codes "domain"; part = altered_domain } ∷ owned_path (codes "table") owned.Table
-    ∷ owned_path (codes "sequence") owned.Sequence ∷ owned_path (codes "view") owned.View ∷ owned_name (codes "database") owned.Database ∷ []) (
+    ∷ record { key = codes "sequence"; part = altered_sequence new_owner } ∷ owned_path (codes "view") owned.View ∷ owned_name (codes "database") owned.Database ∷ []) (
       owned_name_yields (codes "schema") owned.Schema (λ n is. is),
       (
         owned_path_yields (codes "type") owned.Type (λ q is. is),
@@ -96,7 +98,7 @@ altered_yields =
           (
             owned_path_yields (codes "table") owned.Table (λ q is. is),
             (
-              owned_path_yields (codes "sequence") owned.Sequence (λ q is. is),
+              altered_sequence_yields new_owner new_owner_yields,
               (owned_path_yields (codes "view") owned.View (λ q is. is), owned_name_yields (codes "database") owned.Database (λ n is. is)),
             ),
           ),

@@ -23,6 +23,7 @@ use Rattle.ddl_read.proofs.Closed.{ends_with, statement_closes}
 use Rattle.ddl_read.proofs.ReadingLaws.{only}
 use Rattle.ddl_read.proofs.Standing.{placed, collects}
 use Rattle.ddl_read.proofs.Tokens.{Gap, none, space, newline, indented, tabbed, indent}
+use Rattle.ddl_read.proofs.RelationLayouts.{owned_by_laid_out}
 use Rattle.ddl_read.proofs.TableLayouts.{enum_laid_out, domain_laid_out, table_laid_out}
 use Rattle.ddl_read.proofs.Layouts.{IsLaidOut, schema_laid_out, set_laid_out, config_laid_out, owner_laid_out, domain_check_laid_out}
 
@@ -43,6 +44,7 @@ can_be_written g (stmt.Set n v) gap is = record { text = _; spells = refl; laid_
 can_be_written g (stmt.SetConfig n v) gap is = record { text = _; spells = refl; laid_out = config_laid_out g n v gap is.0 is.1 }
 can_be_written g (stmt.AddDomainCheck q n v) gap is = record { text = _; spells = refl; laid_out = domain_check_laid_out g q n v gap is.0 is.1 is.2 }
 can_be_written g (stmt.OwnerTo object role) gap is = record { text = _; spells = refl; laid_out = owner_laid_out g object role gap is.0 is.1 }
+can_be_written g (stmt.OwnedBy q table column) gap is = record { text = _; spells = refl; laid_out = owned_by_laid_out g q table column gap is.0 is.1 is.2 }
 can_be_written g _ gap is = absurd is
 
 -- ---- where nothing is left

@@ -33,3 +33,4 @@ pub record WorkedExamples : Type 0 where
   -- a bracket is closed by its own
   pub other_bracket : statements_of (codes "SET a = (1];") ≡ Err (Unknown 10)
   pub check : statements_of (codes "ALTER DOMAIN a.d ADD CONSTRAINT c CHECK (VALUE > 0);") ≡ Ok (located (stmt.AddDomainCheck (record { schema = codes "a"; name = codes "d" }) (codes "c") (codes "VALUE > 0")) 0 52 ∷ [])
+  pub column_of_sequence : statements_of (codes "ALTER SEQUENCE a.s OWNED BY a.t.id;") ≡ Ok (located (stmt.OwnedBy (record { schema = codes "a"; name = codes "s" }) (record { schema = codes "a"; name = codes "t" }) (codes "id")) 0 35 ∷ [])

@@ -12,6 +12,7 @@ use Rattle.ddl_parts.specs.Parts.{Part, Branch, mark, seen, choose, one_of, ◌t
 use Rattle.ddl_parts.specs.Leaves.{name, literal, qualified}
 use Rattle.ddl_parts.specs.Expressions.{expression}
 pub use Rattle.ddl_read.specs.Clauses.{semicolon, named_check}
+use Rattle.ddl_read.specs.RelationGrammar.{altered_sequence}
 use Rattle.ddl_read.specs.TableGrammar.{create_enum, create_domain, create_table}
 
 -- ---- CREATE ..
@@ -69,7 +70,7 @@ unfoldable pub altered : Part Stmt
 altered =
     one_of (owned_name (codes "schema") owned.Schema)
     (owned_path (codes "type") owned.Type ∷ record { key = codes "domain"; part = altered_domain } ∷ owned_path (codes "table") owned.Table
-    ∷ owned_path (codes "sequence") owned.Sequence ∷ owned_path (codes "view") owned.View ∷ owned_name (codes "database") owned.Database ∷ [])
+    ∷ record { key = codes "sequence"; part = altered_sequence new_owner } ∷ owned_path (codes "view") owned.View ∷ owned_name (codes "database") owned.Database ∷ [])
 
 -- ---- SELECT ..
 

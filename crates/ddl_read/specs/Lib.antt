@@ -1,5 +1,6 @@
 pub mod Clauses
 pub mod TableGrammar
+pub mod RelationGrammar
 pub mod Grammar
 pub mod Reading
 pub mod Readings

@@ -4,6 +4,7 @@ ghost use Rattle.cat_model.specs.declared.stmt.Stmt.TheVariants.{OwnerTo};
 ghost use Rattle.ddl_parts.specs.Pieces.{GivesPart, GivesPlace, GivesValue, value_of};
 ghost use Rattle.ddl_read.specs.Grammar.{create_schema, created, new_owner, new_check, domain_change, altered_domain, altered, selected, equals_or_to, setting, name_and_owner, path_and_owner, command, statement};
 
+use crate::relations::altered_sequence;
 use crate::tables::{create_domain, create_enum, create_table, named_check};
 use cat_model::{CheckDef, Owned, QName, Stmt};
 use copy_text::Name;
@@ -40,7 +41,7 @@ fn created(alloc: Global, pieces: &Pieces<'_>, at: usize) -> Result<(Stmt, usize
 }
 
 #[tactic(auto, unfolding(crate::specs::Grammar::new_owner))]
-fn new_owner(alloc: Global, pieces: &Pieces<'_>, at: usize) -> Result<(Name, usize), ReadError>
+pub(crate) fn new_owner(alloc: Global, pieces: &Pieces<'_>, at: usize) -> Result<(Name, usize), ReadError>
     ensures { GivesPart pieces.now (λ n. n) result (new_owner.read (drop at pieces.now)) }
 {
     let at = pieces.word(at, "owner")?;
@@ -135,8 +136,7 @@ fn altered(alloc: Global, pieces: &Pieces<'_>, at: usize) -> Result<(Stmt, usize
     }
     if pieces.is_word(at, "sequence") {
         let at = pieces.word(at, "sequence")?;
-        let ((q, role), at) = path_and_owner(alloc, pieces, at)?;
-        return Ok((owner_to(Owned::Sequence(q), role), at));
+        return altered_sequence(alloc, pieces, at);
     }
     if pieces.is_word(at, "view") {
         let at = pieces.word(at, "view")?;

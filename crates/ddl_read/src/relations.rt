@@ -1,0 +1,48 @@
+//! Readers of statements about sequences, views and indexes, behind the words that tell them apart.
+ghost use Rattle.std.specs.Prelude.{◌≡◌, drop};
+ghost use Rattle.ddl_parts.specs.Pieces.{GivesPart};
+ghost use Rattle.ddl_read.specs.Grammar.{new_owner};
+ghost use Rattle.ddl_read.specs.RelationGrammar.{owned_by, altered_sequence};
+
+use crate::kinds::new_owner;
+use cat_model::{Owned, QName, Stmt};
+use copy_text::Name;
+use ddl_parts::{Pieces, ReadError, qualified_name};
+use std::alloc::Global;
+
+/// The column that owns a sequence.
+#[tactic(auto, unfolding(crate::specs::RelationGrammar::owned_by))]
+fn owned_by(
+    alloc: Global,
+    pieces: &Pieces<'_>,
+    at: usize,
+) -> Result<((QName, Name), usize), ReadError>
+    ensures { GivesPart pieces.now (λ x. (x.0, x.1)) result (owned_by.read (drop at pieces.now)) }
+{
+    let at = pieces.word(at, "owned")?;
+    let at = pieces.word(at, "by")?;
+    let (table, at) = qualified_name(alloc, pieces, at)?;
+    let at = pieces.sign(at, b'.')?;
+    let (column, at) = pieces.name(alloc, at)?;
+    let at = pieces.sign(at, b';')?;
+    Ok(((table, column), at))
+}
+
+/// ALTER SEQUENCE.
+#[tactic(auto, unfolding(crate::specs::RelationGrammar::altered_sequence, crate::specs::RelationGrammar::sequence_change))]
+pub(crate) fn altered_sequence(
+    alloc: Global,
+    pieces: &Pieces<'_>,
+    at: usize,
+) -> Result<(Stmt, usize), ReadError>
+    ensures { GivesPart pieces.now (λ s. s) result ((altered_sequence new_owner).read (drop at pieces.now)) }
+{
+    let (q, at) = qualified_name(alloc, pieces, at)?;
+    if pieces.is_word(at, "owner") {
+        let (role, at) = new_owner(alloc, pieces, at)?;
+        let object = Owned::Sequence(q);
+        return Ok((Stmt::OwnerTo { object, role }, at));
+    }
+    let ((table, column), at) = owned_by(alloc, pieces, at)?;
+    Ok((Stmt::OwnedBy { q, table, column }, at))
+}
