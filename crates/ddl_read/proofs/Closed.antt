@@ -19,8 +19,8 @@ use Rattle.ddl_parts.specs.Leaves.{name, literal, is_literal, qualified}
 use Rattle.ddl_parts.specs.Lists.{listed}
 use Rattle.ddl_parts.specs.Expressions.{expression}
 use Rattle.ddl_read.specs.Clauses.{named_check}
-use Rattle.ddl_read.specs.RelationGrammar.{altered_sequence}
-use Rattle.ddl_read.proofs.RelationLaws.{altered_sequence_closes}
+use Rattle.ddl_read.specs.RelationGrammar.{altered_sequence, view_branch, more_relations}
+use Rattle.ddl_read.proofs.RelationLaws.{altered_sequence_closes, relations_close}
 use Rattle.ddl_read.specs.TableGrammar.{create_enum, enum_of, checking, typed, domain_of, create_domain, table_elements, table_of, create_table}
 use Rattle.ddl_read.specs.Grammar.{semicolon, create_schema, created, new_owner, new_check, its_owner, one_more_check, domain_changed, domain_change, altered_domain, name_and_owner, path_and_owner, owned_name, owned_path, altered, selected, equals_or_to, setting, command, statement}
 pub use Rattle.ddl_read.proofs.Closing.{ends_with, ends_cons, ends_append, Closes, passes_by, passed, mark_closes, then_closes, seen_closes, choose_closes, lead_closes, end_closes, AllClose, one_of_closes}
@@ -67,8 +67,8 @@ created_closes : Closes semicolon created
 unfolding created
 created_closes =
     one_of_closes semicolon (record { key = codes "schema"; part = create_schema })
-    (record { key = codes "type"; part = create_enum } ∷ record { key = codes "domain"; part = create_domain } ∷ record { key = codes "table"; part = create_table } ∷ [])
-    (create_schema_closes, (create_enum_closes, (create_domain_closes, create_table_closes)))
+    (record { key = codes "type"; part = create_enum } ∷ record { key = codes "domain"; part = create_domain } ∷ record { key = codes "table"; part = create_table } ∷ view_branch ∷ more_relations)
+    (create_schema_closes, (create_enum_closes, (create_domain_closes, (create_table_closes, relations_close))))
 
 new_owner_closes : Closes semicolon new_owner
 unfolding new_owner

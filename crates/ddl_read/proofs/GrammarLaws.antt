@@ -19,8 +19,8 @@ use Rattle.ddl_parts.proofs.RunLaws.{expression_laws, expression_ends}
 use Rattle.ddl_parts.proofs.Tables.{one_of_laws, one_of_avoids_others}
 use Rattle.ddl_read.specs.Clauses.{named_check}
 use Rattle.ddl_read.specs.TableGrammar.{create_enum, create_domain, create_table}
-use Rattle.ddl_read.specs.RelationGrammar.{altered_sequence}
-use Rattle.ddl_read.proofs.RelationLaws.{altered_sequence_laws}
+use Rattle.ddl_read.specs.RelationGrammar.{altered_sequence, view_branch, more_relations}
+use Rattle.ddl_read.proofs.RelationLaws.{altered_sequence_laws, relations_lawful}
 use Rattle.ddl_read.proofs.TableLaws.{named_check_laws, named_check_free, create_enum_laws, create_domain_laws, create_table_laws}
 use Rattle.ddl_read.specs.Grammar.{semicolon, create_schema, created, new_owner, new_check, its_owner, one_more_check, domain_changed, domain_change, altered_domain, name_and_owner, path_and_owner, owned_name, owned_path, altered, selected, equals_or_to, setting, command, statement}
 
@@ -43,8 +43,8 @@ created_laws : Lawful created
 unfolding created
 created_laws =
     one_of_laws (record { key = codes "schema"; part = create_schema })
-    (record { key = codes "type"; part = create_enum } ∷ record { key = codes "domain"; part = create_domain } ∷ record { key = codes "table"; part = create_table } ∷ [])
-    refl (create_schema_laws, (create_enum_laws, (create_domain_laws, create_table_laws)))
+    (record { key = codes "type"; part = create_enum } ∷ record { key = codes "domain"; part = create_domain } ∷ record { key = codes "table"; part = create_table } ∷ view_branch ∷ more_relations)
+    refl (create_schema_laws, (create_enum_laws, (create_domain_laws, (create_table_laws, relations_lawful))))
 
 new_owner_laws : Lawful new_owner
 unfolding new_owner

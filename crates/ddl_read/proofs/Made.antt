@@ -18,8 +18,8 @@ use Rattle.ddl_read.specs.Grammar.{semicolon, create_schema, created, new_owner,
 use Rattle.ddl_read.specs.Reading.{listed as listed_before, statements_of}
 use Rattle.ddl_read.specs.Readings.{IsStatement, Reads, all_read, one_read}
 use Rattle.ddl_read.specs.Clauses.{named_check}
-use Rattle.ddl_read.specs.RelationGrammar.{altered_sequence}
-use Rattle.ddl_read.proofs.RelationMade.{altered_sequence_yields}
+use Rattle.ddl_read.specs.RelationGrammar.{altered_sequence, view_branch, more_relations}
+use Rattle.ddl_read.proofs.RelationMade.{altered_sequence_yields, relations_yield}
 use Rattle.ddl_read.specs.TableGrammar.{create_enum, create_domain, create_table}
 use Rattle.ddl_read.specs.Respelling.{IsPath, IsOwnedName, IsExpressionText, IsCheck, IsWritable, AllWritable, joined, spellings, said}
 use Rattle.ddl_read.proofs.Kept.{AllCame, have_come}
@@ -39,8 +39,8 @@ created_yields : Yields IsWritable created
 unfolding created
 created_yields =
     one_of_yields IsWritable (record { key = codes "schema"; part = create_schema })
-    (record { key = codes "type"; part = create_enum } ∷ record { key = codes "domain"; part = create_domain } ∷ record { key = codes "table"; part = create_table } ∷ [])
-    (create_schema_yields, (create_enum_yields, (create_domain_yields, create_table_yields)))
+    (record { key = codes "type"; part = create_enum } ∷ record { key = codes "domain"; part = create_domain } ∷ record { key = codes "table"; part = create_table } ∷ view_branch ∷ more_relations)
+    (create_schema_yields, (create_enum_yields, (create_domain_yields, (create_table_yields, relations_yield))))
 
 new_owner_yields : Yields IsName new_owner
 unfolding new_owner

@@ -34,3 +34,6 @@ pub record WorkedExamples : Type 0 where
   pub other_bracket : statements_of (codes "SET a = (1];") ≡ Err (Unknown 10)
   pub check : statements_of (codes "ALTER DOMAIN a.d ADD CONSTRAINT c CHECK (VALUE > 0);") ≡ Ok (located (stmt.AddDomainCheck (record { schema = codes "a"; name = codes "d" }) (codes "c") (codes "VALUE > 0")) 0 52 ∷ [])
   pub column_of_sequence : statements_of (codes "ALTER SEQUENCE a.s OWNED BY a.t.id;") ≡ Ok (located (stmt.OwnedBy (record { schema = codes "a"; name = codes "s" }) (record { schema = codes "a"; name = codes "t" }) (codes "id")) 0 35 ∷ [])
+  -- a body runs from its first token to its last
+  pub view : statements_of (codes "create view a.v as  SELECT 1 ;") ≡ Ok (located (stmt.CreateView (record { schema = codes "a"; name = codes "v" }) (codes "SELECT 1")) 0 30 ∷ [])
+  pub replaced_view : statements_of (codes "CREATE OR REPLACE VIEW a.v AS x;") ≡ Ok (located (stmt.ReplaceView (record { schema = codes "a"; name = codes "v" }) (codes "x")) 0 32 ∷ [])

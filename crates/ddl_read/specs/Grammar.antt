@@ -12,7 +12,7 @@ use Rattle.ddl_parts.specs.Parts.{Part, Branch, mark, seen, choose, one_of, ◌t
 use Rattle.ddl_parts.specs.Leaves.{name, literal, qualified}
 use Rattle.ddl_parts.specs.Expressions.{expression}
 pub use Rattle.ddl_read.specs.Clauses.{semicolon, named_check}
-use Rattle.ddl_read.specs.RelationGrammar.{altered_sequence}
+use Rattle.ddl_read.specs.RelationGrammar.{altered_sequence, view_branch, more_relations}
 use Rattle.ddl_read.specs.TableGrammar.{create_enum, create_domain, create_table}
 
 -- ---- CREATE ..
@@ -24,7 +24,7 @@ create_schema = seen stmt.CreateSchema (name ◂ semicolon)
 unfoldable pub created : Part Stmt
 created =
     one_of (record { key = codes "schema"; part = create_schema })
-    (record { key = codes "type"; part = create_enum } ∷ record { key = codes "domain"; part = create_domain } ∷ record { key = codes "table"; part = create_table } ∷ [])
+    (record { key = codes "type"; part = create_enum } ∷ record { key = codes "domain"; part = create_domain } ∷ record { key = codes "table"; part = create_table } ∷ view_branch ∷ more_relations)
 
 -- ---- ALTER ..
 

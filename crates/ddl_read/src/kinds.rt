@@ -4,7 +4,7 @@ ghost use Rattle.cat_model.specs.declared.stmt.Stmt.TheVariants.{OwnerTo};
 ghost use Rattle.ddl_parts.specs.Pieces.{GivesPart, GivesPlace, GivesValue, value_of};
 ghost use Rattle.ddl_read.specs.Grammar.{create_schema, created, new_owner, new_check, domain_change, altered_domain, altered, selected, equals_or_to, setting, name_and_owner, path_and_owner, command, statement};
 
-use crate::relations::altered_sequence;
+use crate::relations::{altered_sequence, created_relation};
 use crate::tables::{create_domain, create_enum, create_table, named_check};
 use cat_model::{CheckDef, Owned, QName, Stmt};
 use copy_text::Name;
@@ -36,8 +36,11 @@ fn created(alloc: Global, pieces: &Pieces<'_>, at: usize) -> Result<(Stmt, usize
         let at = pieces.word(at, "domain")?;
         return create_domain(alloc, pieces, at);
     }
-    let at = pieces.word(at, "table")?;
-    create_table(alloc, pieces, at)
+    if pieces.is_word(at, "table") {
+        let at = pieces.word(at, "table")?;
+        return create_table(alloc, pieces, at);
+    }
+    created_relation(alloc, pieces, at)
 }
 
 #[tactic(auto, unfolding(crate::specs::Grammar::new_owner))]
