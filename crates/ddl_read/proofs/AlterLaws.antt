@@ -1,5 +1,5 @@
 -- The grammar of ALTER TABLE has the laws of a part.
-use Rattle.std.proofs.Common.{◌≡◌, ℕ, Bool, true, false, not, cond, List, [], ◌∷◌, Result, Ok, Err, refl, ap, codes}
+use Rattle.std.proofs.Common.{◌≡◌, ℕ, Bool, true, false, not, cond, List, [], ◌∷◌, Ok, Err, refl, ap, codes}
 use Rattle.std.specs.Str.{is_utf8, chars}
 use Rattle.std.proofs.Math.Utf8.{encode}
 use Rattle.sql_lex.specs.declared.token.TokenKind.{TokenKind}

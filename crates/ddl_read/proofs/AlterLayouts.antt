@@ -9,7 +9,7 @@ use Rattle.copy_text.specs.Texts.{IsName}
 use Rattle.cat_model.specs.declared.object.QName.{QName}
 use Rattle.cat_model.specs.declared.stmt.Stmt.TheVariants as stmt
 use Rattle.ddl_parts.specs.Lexemes.{is_word, is_sign}
-use Rattle.ddl_parts.specs.Parts.{Part, ◌then◌, ◌▸◌, ◌◂◌}
+use Rattle.ddl_parts.specs.Parts.{◌then◌, ◌▸◌, ◌◂◌}
 use Rattle.ddl_parts.specs.Leaves.{name}
 use Rattle.ddl_parts.specs.Expressions.{expression, default_text}
 use Rattle.ddl_write.specs.Paths.{path}

@@ -10,16 +10,16 @@ use Rattle.sql_lex.specs.Written.{written_name}
 use Rattle.copy_text.specs.Texts.{IsName}
 use Rattle.cat_model.specs.declared.object.QName.{QName}
 use Rattle.ddl_parts.specs.Lexemes.{Lexeme, is_word, is_sign, spelled}
-use Rattle.ddl_parts.specs.Parts.{Part, seen, ◌then◌, ◌▸◌}
+use Rattle.ddl_parts.specs.Parts.{◌then◌, ◌▸◌}
 use Rattle.ddl_parts.specs.Leaves.{name, name_in, name_value, qualified}
 use Rattle.ddl_write.specs.Paths.{path}
 use Rattle.ddl_read.specs.declared.alters.TableChange.{TableChange}
 use Rattle.ddl_read.specs.Clauses.{semicolon}
-use Rattle.ddl_read.specs.AlterGrammar.{own_change, table_change, table_changed, only_value, only_name, other_value, other_name, path_of, other_path, BehindOnly, key_word, behind_only, only_changed, altered_table}
+use Rattle.ddl_read.specs.AlterGrammar.{own_change, table_change, table_changed, only_value, only_name, other_value, other_name, path_of, other_path, BehindOnly, key_word, behind_only, altered_table}
 use Rattle.ddl_read.specs.Respelling.{IsPath}
 use Rattle.ddl_read.proofs.Standing.{Stands}
 use Rattle.ddl_read.proofs.Tokens.{Gap, none, space, word_token, name_token, a_word, a_name, name_means, name_no_sign, name_no_word}
-use Rattle.ddl_read.proofs.Putting.{begins_by, parts_words, parted, Follows, IsPut, sign_46, behind, begun, same_text, put_as, one_put, name_put, then_put, seen_put, sign_lead, path_lead}
+use Rattle.ddl_read.proofs.Putting.{begins_by, parts_words, parted, Follows, IsPut, sign_46, behind, begun, put_as, one_put, name_put, then_put, seen_put, sign_lead, path_lead}
 
 -- ---- without ONLY
 

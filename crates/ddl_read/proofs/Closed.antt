@@ -19,6 +19,8 @@ use Rattle.ddl_parts.specs.Leaves.{name, literal, is_literal, qualified}
 use Rattle.ddl_parts.specs.Lists.{listed}
 use Rattle.ddl_parts.specs.Expressions.{expression}
 use Rattle.ddl_read.specs.Clauses.{named_check}
+use Rattle.ddl_read.specs.RelationGrammar.{altered_sequence, view_branch, more_relations}
+use Rattle.ddl_read.proofs.RelationLaws.{altered_sequence_closes, relations_close}
 use Rattle.ddl_read.specs.TableGrammar.{create_enum, enum_of, checking, typed, domain_of, create_domain, table_elements, table_of, create_table}
 use Rattle.ddl_read.specs.AlterGrammar.{altered_table}
 use Rattle.ddl_read.proofs.AlterClosed.{new_owner_closes, altered_table_closes}
@@ -67,8 +69,8 @@ created_closes : Closes semicolon created
 unfolding created
 created_closes =
     one_of_closes semicolon (record { key = codes "schema"; part = create_schema })
-    (record { key = codes "type"; part = create_enum } ∷ record { key = codes "domain"; part = create_domain } ∷ record { key = codes "table"; part = create_table } ∷ [])
-    (create_schema_closes, (create_enum_closes, (create_domain_closes, create_table_closes)))
+    (record { key = codes "type"; part = create_enum } ∷ record { key = codes "domain"; part = create_domain } ∷ record { key = codes "table"; part = create_table } ∷ view_branch ∷ more_relations)
+    (create_schema_closes, (create_enum_closes, (create_domain_closes, (create_table_closes, relations_close))))
 
 name_and_owner_closes : Closes semicolon name_and_owner
 unfolding name_and_owner
@@ -104,7 +106,7 @@ unfolding altered
 altered_closes =
     one_of_closes semicolon (owned_name (codes "schema") owned.Schema)
     (owned_path (codes "type") owned.Type ∷ record { key = codes "domain"; part = altered_domain } ∷ record { key = codes "table"; part = altered_table }
-    ∷ owned_path (codes "sequence") owned.Sequence ∷ owned_path (codes "view") owned.View ∷ owned_name (codes "database") owned.Database ∷ []) (
+    ∷ record { key = codes "sequence"; part = altered_sequence new_owner } ∷ owned_path (codes "view") owned.View ∷ owned_name (codes "database") owned.Database ∷ []) (
       owned_name_closes (codes "schema") owned.Schema,
       (
         owned_path_closes (codes "type") owned.Type,
@@ -112,7 +114,7 @@ altered_closes =
           altered_domain_closes,
           (
             altered_table_closes,
-            (owned_path_closes (codes "sequence") owned.Sequence, (owned_path_closes (codes "view") owned.View, owned_name_closes (codes "database") owned.Database)),
+            (altered_sequence_closes new_owner new_owner_closes, (owned_path_closes (codes "view") owned.View, owned_name_closes (codes "database") owned.Database)),
           ),
         ),
       ),

@@ -23,6 +23,7 @@ use Rattle.ddl_read.specs.Grammar.{create_schema, created, new_owner, new_check,
 use Rattle.ddl_read.specs.declared.alters.TableChange.TheVariants.{Owner}
 use Rattle.ddl_read.specs.AlterGrammar.{table_change, altered_table}
 use Rattle.ddl_read.proofs.AlterPuts.{bare_put}
+use Rattle.ddl_read.specs.RelationGrammar.{its_role, sequence_change, altered_sequence}
 use Rattle.ddl_read.specs.Respelling.{IsPath, IsOwnedName, IsExpressionText}
 use Rattle.ddl_read.proofs.Closed.{only_last}
 use Rattle.ddl_read.proofs.Standing.{is_safe_byte, Stood, placed}
@@ -68,11 +69,11 @@ pub table_key : IsKey (codes "table") (codes "TABLE")
 unfolding begins_word in_word is_digit is_utf8 chars encode is_keyword_of
 table_key = record { word = (refl, refl); utf8 = refl; same = refl }
 
-sequence_key : IsKey (codes "sequence") (codes "SEQUENCE")
+pub sequence_key : IsKey (codes "sequence") (codes "SEQUENCE")
 unfolding begins_word in_word is_digit is_utf8 chars encode is_keyword_of
 sequence_key = record { word = (refl, refl); utf8 = refl; same = refl }
 
-view_key : IsKey (codes "view") (codes "VIEW")
+pub view_key : IsKey (codes "view") (codes "VIEW")
 unfolding begins_word in_word is_digit is_utf8 chars encode is_keyword_of
 view_key = record { word = (refl, refl); utf8 = refl; same = refl }
 
@@ -160,7 +161,7 @@ create_put g s b gap k e =
     put_as (is_word (codes "create") ▸ created) statement s (Some s) ((g ++ codes "CREATE") ++ b) [] (word_lead (codes "create") (codes "CREATE") g created s b [] create_key gap k e)
     (λ ts h. inr (s, refl, inl h))
 
-alter_put : (g : List ℕ) (s : Stmt) (b : List ℕ) → Gap g → IsPut altered s b [] → begins_by parts_words b ≡ true → IsPut statement (Some s) ((g ++ codes "ALTER") ++ b) []
+pub alter_put : (g : List ℕ) (s : Stmt) (b : List ℕ) → Gap g → IsPut altered s b [] → begins_by parts_words b ≡ true → IsPut statement (Some s) ((g ++ codes "ALTER") ++ b) []
 unfolding statement command
 alter_put g s b gap k e =
     put_as (is_word (codes "alter") ▸ altered) statement s (Some s) ((g ++ codes "ALTER") ++ b) [] (word_lead (codes "alter") (codes "ALTER") g altered s b [] alter_key gap k e)
@@ -328,13 +329,21 @@ table_owner g q r gap is role =
     let k : IsPut altered_table s t [] = bare_put q (Owner r) (owner_end r) is change refl in
     laid_out g (owner_text (owned.Table q) r) s ((g ++ codes "ALTER") ++ (((32 ∷ []) ++ codes "TABLE") ++ t)) (table_put g s t gap k refl) (owner_text_is g (codes "TABLE") (path q) r)
 
+-- the owner of a sequence is one of its changes
+sequence_owner : (s : Stmt) (ts : List Lexeme) → (is_word (codes "sequence") ▸ (owned_path (codes "sequence") owned.Sequence).part).Spells s ts → (is_word (codes "sequence") ▸ altered_sequence new_owner).Spells s ts
+unfolding altered_sequence sequence_change path_and_owner
+sequence_owner s ts h = (h.0, h.1, (h.2.0, h.2.1, h.2.2, h.2.3, by h.0.1 h.2.1 h.2.4))
+  where
+    by : (w : Stmt) (us : List Lexeme) → (owned_path (codes "sequence") owned.Sequence).part.Spells w us → (altered_sequence new_owner).Spells w us
+    by w us p = ((p.0.0, its_role p.0.1), p.1, (p.2.0, p.2.1, p.2.2, p.2.3, inl (p.0.1, refl, p.2.4)))
+
 pub owner_laid_out : (g : List ℕ) (object : Owned) (r : List ℕ) → Gap g → IsOwnedName object → IsName r → IsLaidOut g (stmt.OwnerTo object r) (owner_text object r)
 unfolding altered owned_object
 owner_laid_out g (owned.Schema n) r gap is role = owned_by_name g (codes "schema") (codes "SCHEMA") n r owned.Schema gap schema_key is role refl (λ ts h. inl h)
 owner_laid_out g (owned.Type q) r gap is role = owned_by_path g (codes "type") (codes "TYPE") q r owned.Type gap type_key is role refl (λ ts h. inr (inl h))
 owner_laid_out g (owned.Domain q) r gap is role = domain_owner g q r gap is role
 owner_laid_out g (owned.Table q) r gap is role = table_owner g q r gap is role
-owner_laid_out g (owned.Sequence q) r gap is role = owned_by_path g (codes "sequence") (codes "SEQUENCE") q r owned.Sequence gap sequence_key is role refl (λ ts h. inr (inr (inr (inr (inl h)))))
+owner_laid_out g (owned.Sequence q) r gap is role = owned_by_path g (codes "sequence") (codes "SEQUENCE") q r owned.Sequence gap sequence_key is role refl (λ ts h. inr (inr (inr (inr (inl (sequence_owner (stmt.OwnerTo (owned.Sequence q) r) ts h))))))
 owner_laid_out g (owned.View q) r gap is role = owned_by_path g (codes "view") (codes "VIEW") q r owned.View gap view_key is role refl (λ ts h. inr (inr (inr (inr (inr (inl h))))))
 owner_laid_out g (owned.Database n) r gap is role = owned_by_name g (codes "database") (codes "DATABASE") n r owned.Database gap database_key is role refl (λ ts h. inr (inr (inr (inr (inr (inr h))))))
 

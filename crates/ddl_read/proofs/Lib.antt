@@ -5,6 +5,7 @@ pub mod AlterLaws
 pub mod GrammarLaws
 pub mod Closing
 pub mod AlterClosed
+pub mod RelationLaws
 pub mod Closed
 pub mod ReadingLaws
 pub mod Standing
@@ -23,4 +24,6 @@ pub mod Respelled
 pub mod Yielding
 pub mod TableMade
 pub mod AlterMade
+pub mod RelationLayouts
+pub mod RelationMade
 pub mod Made

@@ -20,6 +20,8 @@ use Rattle.ddl_read.proofs.AlterMade.{new_owner_yields, altered_table_yields}
 use Rattle.ddl_read.specs.Reading.{listed as listed_before, statements_of}
 use Rattle.ddl_read.specs.Readings.{IsStatement, Reads, all_read, one_read}
 use Rattle.ddl_read.specs.Clauses.{named_check}
+use Rattle.ddl_read.specs.RelationGrammar.{altered_sequence, view_branch, more_relations}
+use Rattle.ddl_read.proofs.RelationMade.{altered_sequence_yields, relations_yield}
 use Rattle.ddl_read.specs.TableGrammar.{create_enum, create_domain, create_table}
 use Rattle.ddl_read.specs.Respelling.{IsPath, IsOwnedName, IsExpressionText, IsCheck, IsWritable, AllWritable, joined, spellings, said}
 use Rattle.ddl_read.proofs.Kept.{AllCame, have_come}
@@ -39,8 +41,8 @@ created_yields : Yields IsWritable created
 unfolding created
 created_yields =
     one_of_yields IsWritable (record { key = codes "schema"; part = create_schema })
-    (record { key = codes "type"; part = create_enum } ∷ record { key = codes "domain"; part = create_domain } ∷ record { key = codes "table"; part = create_table } ∷ [])
-    (create_schema_yields, (create_enum_yields, (create_domain_yields, create_table_yields)))
+    (record { key = codes "type"; part = create_enum } ∷ record { key = codes "domain"; part = create_domain } ∷ record { key = codes "table"; part = create_table } ∷ view_branch ∷ more_relations)
+    (create_schema_yields, (create_enum_yields, (create_domain_yields, (create_table_yields, relations_yield))))
 
 new_check_yields : Yields IsCheck new_check
 unfolding new_check
@@ -83,7 +85,7 @@ unfolding altered
 altered_yields =
     one_of_yields IsWritable (owned_name (codes "schema") owned.Schema)
     (owned_path (codes "type") owned.Type ∷ record { key = codes "domain"; part = altered_domain } ∷ record { key = codes "table"; part = altered_table }
-    ∷ owned_path (codes "sequence") owned.Sequence ∷ owned_path (codes "view") owned.View ∷ owned_name (codes "database") owned.Database ∷ []) (
+    ∷ record { key = codes "sequence"; part = altered_sequence new_owner } ∷ owned_path (codes "view") owned.View ∷ owned_name (codes "database") owned.Database ∷ []) (
       owned_name_yields (codes "schema") owned.Schema (λ n is. is),
       (
         owned_path_yields (codes "type") owned.Type (λ q is. is),
@@ -92,7 +94,7 @@ altered_yields =
           (
             altered_table_yields,
             (
-              owned_path_yields (codes "sequence") owned.Sequence (λ q is. is),
+              altered_sequence_yields new_owner new_owner_yields,
               (owned_path_yields (codes "view") owned.View (λ q is. is), owned_name_yields (codes "database") owned.Database (λ n is. is)),
             ),
           ),

@@ -22,7 +22,8 @@ use Rattle.ddl_read.specs.Respelling.{IsWritable, AllWritable, joined, spellings
 use Rattle.ddl_read.proofs.Closed.{ends_with, statement_closes}
 use Rattle.ddl_read.proofs.ReadingLaws.{only}
 use Rattle.ddl_read.proofs.Standing.{placed, collects}
-use Rattle.ddl_read.proofs.Tokens.{Gap, none, space, newline, indented, tabbed, indent}
+use Rattle.ddl_read.proofs.Tokens.{Gap, none, space, newline, spaced, indented, tabbed, indent}
+use Rattle.ddl_read.proofs.RelationLayouts.{owned_by_laid_out, view_laid_out, replaced_laid_out}
 use Rattle.ddl_read.proofs.TableLayouts.{enum_laid_out, domain_laid_out, table_laid_out}
 use Rattle.ddl_read.proofs.AlterLayouts.{set_default_laid_out, added_check_laid_out}
 use Rattle.ddl_read.proofs.Layouts.{IsLaidOut, schema_laid_out, set_laid_out, config_laid_out, owner_laid_out, domain_check_laid_out}
@@ -46,6 +47,9 @@ can_be_written g (stmt.Set n v) gap is = record { text = _; spells = refl; laid_
 can_be_written g (stmt.SetConfig n v) gap is = record { text = _; spells = refl; laid_out = config_laid_out g n v gap is.0 is.1 }
 can_be_written g (stmt.AddDomainCheck q n v) gap is = record { text = _; spells = refl; laid_out = domain_check_laid_out g q n v gap is.0 is.1 is.2 }
 can_be_written g (stmt.OwnerTo object role) gap is = record { text = _; spells = refl; laid_out = owner_laid_out g object role gap is.0 is.1 }
+can_be_written g (stmt.OwnedBy q table column) gap is = record { text = _; spells = refl; laid_out = owned_by_laid_out g q table column gap is.0 is.1 is.2 }
+can_be_written g (stmt.CreateView q body) gap is = record { text = _; spells = refl; laid_out = view_laid_out g q body gap is.0 is.1 }
+can_be_written g (stmt.ReplaceView q body) gap is = record { text = _; spells = refl; laid_out = replaced_laid_out g q body gap is.0 is.1 }
 can_be_written g _ gap is = absurd is
 
 -- ---- where nothing is left
@@ -68,6 +72,7 @@ no_token : (front g : List ℕ) → Gap g → next_token_of (front ++ g) (length
 unfolding is_blank next_is is_utf8 chars encode
 no_token front _ none = next_at_end (front ++ []) (length front) (ap length (sym (append-nil front)))
 no_token front _ newline = blank_passed front (10 ∷ []) (let e : 0 < 1 = omega arith in e) refl refl
+no_token front _ spaced = blank_passed front (10 ∷ 32 ∷ []) (let e : 0 < 2 = omega arith in e) refl refl
 no_token front _ indented = blank_passed front indent (let e : 0 < 5 = omega arith in e) refl refl
 no_token front _ tabbed = blank_passed front (10 ∷ 9 ∷ []) (let e : 0 < 2 = omega arith in e) refl refl
 no_token front _ space = blank_passed front (32 ∷ []) (let e : 0 < 1 = omega arith in e) refl refl

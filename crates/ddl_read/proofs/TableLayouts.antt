@@ -42,7 +42,7 @@ use Rattle.ddl_read.proofs.Layouts.{IsLaidOut, laid_out, type_key, domain_key, t
 
 -- ---- key words
 
-as_key : IsKey (codes "as") (codes "AS")
+pub as_key : IsKey (codes "as") (codes "AS")
 unfolding begins_word in_word is_digit is_utf8 chars encode is_keyword_of
 as_key = record { word = (refl, refl); utf8 = refl; same = refl }
 
@@ -468,7 +468,7 @@ table_laid_out g q columns checks gap path_is all more =
     let k5 : IsPut create_table s t4 [] = seen_put table_of (qualified then (is_sign 40 ▸ (table_elements ◂ is_sign 41 ◂ semicolon))) (q, v) t4 [] k4 in
     let t6 = ((32 ∷ []) ++ codes "TABLE") ++ t4 in
     let k6 = word_lead (codes "table") (codes "TABLE") (32 ∷ []) create_table s t4 [] table_key space k5 refl in
-    let k7 : IsPut created s t6 [] = put_as (is_word (codes "table") ▸ create_table) created s s t6 [] k6 (λ ts h. inr (inr (inr h))) in
+    let k7 : IsPut created s t6 [] = put_as (is_word (codes "table") ▸ create_table) created s s t6 [] k6 (λ ts h. inr (inr (inr (inl h)))) in
     laid_out g (table_text q columns checks) s ((g ++ codes "CREATE") ++ t6) (create_put g s t6 gap k7 refl)
     (table_regrouped g (codes "CREATE") (32 ∷ []) (codes "TABLE") (path q) (40 ∷ []) w (10 ∷ []) (41 ∷ []) (59 ∷ []) (10 ∷ [])
     ∙ ap (λ (x : List ℕ). g ++ (codes "CREATE TABLE " ++ (path q ++ (codes " (" ++ (x ++ ((41 ∷ []) ++ (ending ++ []))))))) (element_lines (listed_elements columns checks) ∙ ap lines (lines_of columns checks)))

@@ -142,6 +142,7 @@ pub data Gap : List ℕ → Type 0 where
   none : Gap []
   space : Gap (32 ∷ [])
   newline : Gap (10 ∷ [])
+  spaced : Gap (10 ∷ 32 ∷ [])
   indented : Gap indent
   tabbed : Gap (10 ∷ 9 ∷ [])
 
@@ -150,6 +151,7 @@ unfolding is_blank is_utf8 chars encode
 gap_stands _ word rest none h = gap_none (word ++ rest)
 gap_stands _ word rest space h = gap_begun (32 ∷ []) word rest (omega arith) refl refl h
 gap_stands _ word rest newline h = gap_begun (10 ∷ []) word rest (omega arith) refl refl h
+gap_stands _ word rest spaced h = gap_begun (10 ∷ 32 ∷ []) word rest (omega arith) refl refl h
 gap_stands _ word rest indented h = gap_begun indent word rest (omega arith) refl refl h
 gap_stands _ word rest tabbed h = gap_begun (10 ∷ 9 ∷ []) word rest (omega arith) refl refl h
 

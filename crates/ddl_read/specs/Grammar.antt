@@ -14,6 +14,7 @@ use Rattle.ddl_parts.specs.Expressions.{expression}
 pub use Rattle.ddl_read.specs.Clauses.{semicolon, named_check}
 unfoldable pub use Rattle.ddl_read.specs.Clauses.{new_owner}
 use Rattle.ddl_read.specs.AlterGrammar.{altered_table}
+use Rattle.ddl_read.specs.RelationGrammar.{altered_sequence, view_branch, more_relations}
 use Rattle.ddl_read.specs.TableGrammar.{create_enum, create_domain, create_table}
 
 -- ---- CREATE ..
@@ -25,7 +26,7 @@ create_schema = seen stmt.CreateSchema (name ◂ semicolon)
 unfoldable pub created : Part Stmt
 created =
     one_of (record { key = codes "schema"; part = create_schema })
-    (record { key = codes "type"; part = create_enum } ∷ record { key = codes "domain"; part = create_domain } ∷ record { key = codes "table"; part = create_table } ∷ [])
+    (record { key = codes "type"; part = create_enum } ∷ record { key = codes "domain"; part = create_domain } ∷ record { key = codes "table"; part = create_table } ∷ view_branch ∷ more_relations)
 
 -- ---- ALTER ..
 
@@ -67,7 +68,7 @@ unfoldable pub altered : Part Stmt
 altered =
     one_of (owned_name (codes "schema") owned.Schema)
     (owned_path (codes "type") owned.Type ∷ record { key = codes "domain"; part = altered_domain } ∷ record { key = codes "table"; part = altered_table }
-    ∷ owned_path (codes "sequence") owned.Sequence ∷ owned_path (codes "view") owned.View ∷ owned_name (codes "database") owned.Database ∷ [])
+    ∷ record { key = codes "sequence"; part = altered_sequence new_owner } ∷ owned_path (codes "view") owned.View ∷ owned_name (codes "database") owned.Database ∷ [])
 
 -- ---- SELECT ..
 

@@ -1,6 +1,7 @@
 pub mod Clauses
 pub mod TableGrammar
 pub mod AlterGrammar
+pub mod RelationGrammar
 pub mod Grammar
 pub mod Reading
 pub mod Readings

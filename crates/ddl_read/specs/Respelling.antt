@@ -81,6 +81,9 @@ IsWritable (stmt.Set n v) = IsName n × IsExpressionText v
 IsWritable (stmt.SetConfig n v) = IsText n × IsText v
 IsWritable (stmt.AddDomainCheck q n v) = IsPath q × IsName n × IsExpressionText v
 IsWritable (stmt.OwnerTo object role) = IsOwnedName object × IsName role
+IsWritable (stmt.OwnedBy q table column) = IsPath q × IsPath table × IsName column
+IsWritable (stmt.CreateView q body) = IsPath q × IsExpressionText body
+IsWritable (stmt.ReplaceView q body) = IsPath q × IsExpressionText body
 IsWritable _ = ⊥
 
 abbrev pub AllWritable : List Stmt → Type 0

@@ -5,6 +5,7 @@ ghost use Rattle.ddl_parts.specs.Pieces.{GivesPart, GivesPlace, GivesValue, valu
 ghost use Rattle.ddl_read.specs.Grammar.{create_schema, created, new_owner, new_check, domain_change, altered_domain, altered, selected, equals_or_to, setting, name_and_owner, path_and_owner, command, statement};
 
 use crate::alters::{altered_table, new_owner};
+use crate::relations::{altered_sequence, created_relation};
 use crate::tables::{create_domain, create_enum, create_table, named_check};
 use cat_model::{CheckDef, Owned, QName, Stmt};
 use copy_text::Name;
@@ -36,8 +37,11 @@ fn created(alloc: Global, pieces: &Pieces<'_>, at: usize) -> Result<(Stmt, usize
         let at = pieces.word(at, "domain")?;
         return create_domain(alloc, pieces, at);
     }
-    let at = pieces.word(at, "table")?;
-    create_table(alloc, pieces, at)
+    if pieces.is_word(at, "table") {
+        let at = pieces.word(at, "table")?;
+        return create_table(alloc, pieces, at);
+    }
+    created_relation(alloc, pieces, at)
 }
 
 #[tactic(auto, unfolding(crate::specs::Grammar::name_and_owner))]
@@ -120,8 +124,7 @@ fn altered(alloc: Global, pieces: &Pieces<'_>, at: usize) -> Result<(Stmt, usize
     }
     if pieces.is_word(at, "sequence") {
         let at = pieces.word(at, "sequence")?;
-        let ((q, role), at) = path_and_owner(alloc, pieces, at)?;
-        return Ok((owner_to(Owned::Sequence(q), role), at));
+        return altered_sequence(alloc, pieces, at);
     }
     if pieces.is_word(at, "view") {
         let at = pieces.word(at, "view")?;

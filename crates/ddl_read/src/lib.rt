@@ -7,6 +7,7 @@ mod kinds;
 pub mod laws;
 mod located;
 mod reading;
+mod relations;
 mod tables;
 
 pub use fault::{DdlFault, ReadStmtsError};

@@ -1,0 +1,73 @@
+-- What is read of statements about sequences, views and indexes can be written.
+use Rattle.std.proofs.Common.{ℕ, List, sym, subst, codes}
+use Rattle.copy_text.specs.Texts.{IsName}
+use Rattle.cat_model.specs.declared.object.QName.{QName}
+use Rattle.cat_model.specs.declared.stmt.Stmt.{Stmt}
+use Rattle.cat_model.specs.declared.stmt.Stmt.TheVariants as stmt
+use Rattle.ddl_parts.specs.Lexemes.{is_word, is_sign}
+use Rattle.ddl_parts.specs.Parts.{Part, seen, ◌then◌, ◌▸◌, ◌◂◌}
+use Rattle.ddl_parts.specs.Leaves.{name, qualified}
+use Rattle.ddl_parts.specs.Expressions.{expression}
+use Rattle.ddl_read.specs.Clauses.{semicolon}
+use Rattle.ddl_read.specs.RelationGrammar.{owned_by, SequenceChange, its_role, its_column, sequence_changed, sequence_change, altered_sequence, view_and_body, create_view, replace_view, view_branch, more_relations}
+use Rattle.ddl_read.specs.Respelling.{IsPath, IsExpressionText, IsWritable}
+use Rattle.ddl_read.proofs.Yielding.{Yields, then_yields, seen_yields, lead_yields, end_yields, choose_yields, AllYield, name_yields, expression_yields, qualified_yields}
+
+-- ---- ALTER SEQUENCE
+
+abbrev IsColumnPath : QName × List ℕ → Type 0
+IsColumnPath x = IsPath x.0 × IsName x.1
+
+abbrev column_end : Part (QName × List ℕ)
+column_end = qualified then (is_sign 46 ▸ (name ◂ semicolon))
+
+owned_by_yields : Yields IsColumnPath owned_by
+unfolding owned_by
+owned_by_yields =
+    lead_yields IsColumnPath (is_word (codes "owned")) (is_word (codes "by") ▸ column_end)
+    (lead_yields IsColumnPath (is_word (codes "by")) column_end
+    (then_yields IsPath IsName qualified (is_sign 46 ▸ (name ◂ semicolon)) qualified_yields (lead_yields IsName (is_sign 46) (name ◂ semicolon) (end_yields IsName semicolon name name_yields))))
+
+abbrev IsChange : SequenceChange → Type 0
+IsChange (its_role role) = IsName role
+IsChange (its_column x) = IsColumnPath x
+
+changed : (q : QName) (change : SequenceChange) → IsPath q → IsChange change → IsWritable (sequence_changed q change)
+changed q (its_role role) path is = (path, is)
+changed q (its_column x) path is = (path, is.0, is.1)
+
+pub altered_sequence_yields : (new_owner : Part (List ℕ)) → Yields IsName new_owner → Yields IsWritable (altered_sequence new_owner)
+unfolding altered_sequence sequence_change
+altered_sequence_yields new_owner owner v ts r came spells =
+    let change = choose_yields IsChange (is_word (codes "owner")) (seen its_role new_owner) (seen its_column owned_by)
+    (seen_yields IsChange its_role new_owner owner) (seen_yields IsChange its_column owned_by owned_by_yields) in
+    let both = then_yields IsPath IsChange qualified (sequence_change new_owner) qualified_yields change spells.0 ts r came spells.2 in
+    subst IsWritable (sym spells.1) (changed spells.0.0 spells.0.1 both.0 both.1)
+
+-- ---- CREATE VIEW
+
+abbrev IsView : QName × List ℕ → Type 0
+IsView x = IsPath x.0 × IsExpressionText x.1
+
+view_and_body_yields : Yields IsView view_and_body
+view_and_body_yields =
+    then_yields IsPath IsExpressionText qualified (is_word (codes "as") ▸ (expression ◂ semicolon)) qualified_yields
+    (lead_yields IsExpressionText (is_word (codes "as")) (expression ◂ semicolon) (end_yields IsExpressionText semicolon expression expression_yields))
+
+create_view_yields : Yields IsWritable create_view
+unfolding create_view
+create_view_yields = seen_yields IsWritable (λ x. stmt.CreateView x.0 x.1) view_and_body view_and_body_yields
+
+abbrev replaced : Part Stmt
+replaced = seen (λ x. stmt.ReplaceView x.0 x.1) view_and_body
+
+replace_view_yields : Yields IsWritable replace_view
+unfolding replace_view
+replace_view_yields =
+    lead_yields IsWritable (is_word (codes "replace")) (is_word (codes "view") ▸ replaced)
+    (lead_yields IsWritable (is_word (codes "view")) replaced (seen_yields IsWritable (λ x. stmt.ReplaceView x.0 x.1) view_and_body view_and_body_yields))
+
+-- ---- CREATE ..
+
+pub relations_yield : AllYield IsWritable view_branch more_relations
+relations_yield = (create_view_yields, replace_view_yields)

@@ -1,0 +1,58 @@
+-- The grammar of statements about sequences, views and indexes: what stands behind ALTER SEQUENCE and behind CREATE.
+use Rattle.std.specs.Prelude.{ℕ, List, [], ◌∷◌, codes}
+use Rattle.cat_model.specs.declared.object.QName.{QName}
+use Rattle.cat_model.specs.declared.grant.Owned.TheVariants as owned
+use Rattle.cat_model.specs.declared.stmt.Stmt.{Stmt}
+use Rattle.cat_model.specs.declared.stmt.Stmt.TheVariants as stmt
+use Rattle.ddl_parts.specs.Lexemes.{is_word, is_sign}
+use Rattle.ddl_parts.specs.Parts.{Part, Branch, seen, choose, one_of, ◌then◌, ◌▸◌, ◌◂◌}
+use Rattle.ddl_parts.specs.Leaves.{name, qualified}
+use Rattle.ddl_parts.specs.Expressions.{expression}
+use Rattle.ddl_read.specs.Clauses.{semicolon}
+
+-- ---- ALTER SEQUENCE ..
+
+-- OWNED BY schema.table.column;
+unfoldable pub owned_by : Part (QName × List ℕ)
+owned_by = is_word (codes "owned") ▸ (is_word (codes "by") ▸ (qualified then (is_sign 46 ▸ (name ◂ semicolon))))
+
+-- what changes of a sequence
+pub data SequenceChange : Type 0 where
+  its_role : List ℕ → SequenceChange
+  its_column : QName × List ℕ → SequenceChange
+
+abbrev pub sequence_changed : QName → SequenceChange → Stmt
+sequence_changed q (its_role role) = stmt.OwnerTo (owned.Sequence q) role
+sequence_changed q (its_column x) = stmt.OwnedBy q x.0 x.1
+
+unfoldable pub sequence_change : Part (List ℕ) → Part SequenceChange
+sequence_change new_owner = choose (is_word (codes "owner")) (seen its_role new_owner) (seen its_column owned_by)
+
+-- path OWNER TO role; or path OWNED BY schema.table.column; the owner's part is given
+unfoldable pub altered_sequence : Part (List ℕ) → Part Stmt
+altered_sequence new_owner = seen (λ x. sequence_changed x.0 x.1) (qualified then sequence_change new_owner)
+
+-- ---- CREATE VIEW ..
+
+abbrev pub view_and_body : Part (QName × List ℕ)
+view_and_body = qualified then (is_word (codes "as") ▸ (expression ◂ semicolon))
+
+-- path AS body;
+unfoldable pub create_view : Part Stmt
+create_view = seen (λ x. stmt.CreateView x.0 x.1) view_and_body
+
+-- behind OR: REPLACE VIEW path AS body;
+unfoldable pub replace_view : Part Stmt
+replace_view = is_word (codes "replace") ▸ (is_word (codes "view") ▸ seen (λ x. stmt.ReplaceView x.0 x.1) view_and_body)
+
+-- ---- CREATE ..
+
+-- what stands behind CREATE, by its first word
+abbrev pub view_branch : Branch Stmt
+view_branch = record { key = codes "view"; part = create_view }
+
+abbrev pub more_relations : List (Branch Stmt)
+more_relations = record { key = codes "or"; part = replace_view } ∷ []
+
+abbrev pub created_relation : Part Stmt
+created_relation = one_of view_branch more_relations
