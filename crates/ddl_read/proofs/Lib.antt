@@ -16,9 +16,10 @@ pub mod Defaults
 pub mod Putting
 pub mod Layouts
 pub mod TableLayouts
+pub mod Yielding
+pub mod Bracketed
 pub mod RelationLayouts
 pub mod Respelled
-pub mod Yielding
 pub mod TableMade
 pub mod RelationMade
 pub mod Made

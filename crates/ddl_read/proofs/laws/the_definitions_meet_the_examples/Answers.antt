@@ -12,13 +12,13 @@ use Rattle.ddl_parts.specs.Parts.{scan}
 use Rattle.ddl_parts.specs.Expressions.{ends_run, nest_step, nest_done, expression}
 use Rattle.ddl_parts.specs.Collecting.{collected_within, collected}
 use Rattle.ddl_read.specs.Clauses.{named_check}
-use Rattle.ddl_read.specs.RelationGrammar.{owned_by, sequence_change, altered_sequence, create_view, replace_view}
+use Rattle.ddl_read.specs.RelationGrammar.{owned_by, sequence_change, altered_sequence, create_view, replace_view, bracketed, index_parts, create_index, create_unique_index}
 use Rattle.ddl_read.specs.Grammar.{create_schema, created, new_owner, new_check, domain_change, altered_domain, name_and_owner, path_and_owner, altered, selected, equals_or_to, setting, command, statement}
 use Rattle.ddl_read.specs.Reading.{statement_of, statements_within, statements_of}
 use Rattle.ddl_read.proofs.laws.the_definitions_meet_the_examples.Goals as goal
 
 pub returns : goal.returns
-unfolding named_check is_utf8 chars encode is_blank is_digit begins_word in_word is_sign marks_escapes in_line next_is run_end quote_end escape_end comment_end fraction_end number_end begins_line closed begun in_utf8 piece_at next_within next_token_of inside undoubled name_of literal_of is_keyword_of spelling is_word sign_of name_in name_value text_in literal_value scan ends_run nest_step nest_done expression collected_within collected create_schema created new_owner new_check domain_change altered_domain name_and_owner path_and_owner altered altered_sequence sequence_change owned_by create_view replace_view selected equals_or_to setting command statement statement_of statements_within statements_of
+unfolding named_check is_utf8 chars encode is_blank is_digit begins_word in_word is_sign marks_escapes in_line next_is run_end quote_end escape_end comment_end fraction_end number_end begins_line closed begun in_utf8 piece_at next_within next_token_of inside undoubled name_of literal_of is_keyword_of spelling is_word sign_of name_in name_value text_in literal_value scan ends_run nest_step nest_done expression collected_within collected create_schema created new_owner new_check domain_change altered_domain name_and_owner path_and_owner altered altered_sequence sequence_change owned_by create_view replace_view bracketed index_parts create_index create_unique_index selected equals_or_to setting command statement statement_of statements_within statements_of
 returns c = record {
   schema = refl;
   variant = refl;
@@ -37,4 +37,7 @@ returns c = record {
   column_of_sequence = refl;
   view = refl;
   replaced_view = refl;
+  index = refl;
+  unique_index = refl;
+  no_bracket = refl;
 }
