@@ -20,8 +20,10 @@ pub mod AlterPuts
 pub mod Layouts
 pub mod TableLayouts
 pub mod AlterLayouts
-pub mod Respelled
 pub mod Yielding
+pub mod Bracketed
+pub mod RelationLayouts
+pub mod Respelled
 pub mod TableMade
 pub mod AlterMade
 pub mod RelationLayouts

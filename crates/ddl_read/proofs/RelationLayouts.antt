@@ -15,13 +15,15 @@ use Rattle.ddl_parts.specs.Expressions.{expression}
 use Rattle.ddl_write.specs.Paths.{path}
 use Rattle.ddl_write.specs.Sequences.{owned_by_text}
 use Rattle.ddl_write.specs.Views.{stands_alone, space_before, view_text}
+use Rattle.ddl_write.specs.Keys.{index_text}
 use Rattle.ddl_read.specs.Clauses.{semicolon}
-use Rattle.ddl_read.specs.RelationGrammar.{owned_by, its_column, sequence_changed, sequence_change, altered_sequence, view_and_body, create_view, replace_view}
+use Rattle.ddl_read.specs.RelationGrammar.{owned_by, its_column, sequence_changed, sequence_change, altered_sequence, view_and_body, create_view, replace_view, bracketed, index_parts, index_of, unique_index_of, create_index, create_unique_index}
 use Rattle.ddl_read.specs.Grammar.{new_owner, altered, created}
-use Rattle.ddl_read.specs.Respelling.{IsPath, IsExpressionText}
+use Rattle.ddl_read.specs.Respelling.{IsPath, IsExpressionText, IsBracketText}
 use Rattle.ddl_read.proofs.Standing.{is_safe_byte}
 use Rattle.ddl_read.proofs.Tokens.{Gap, none, space, newline, spaced}
-use Rattle.ddl_read.proofs.Putting.{parts_words, IsPut, IsKey, behind, begun, put_as, name_put, seen_put, close_put, word_lead, sign_lead, path_lead, expression_put}
+use Rattle.ddl_read.proofs.Putting.{parts_words, IsPut, IsKey, behind, begun, put_as, name_put, seen_put, close_put, word_lead, sign_lead, name_lead, path_lead, expression_put}
+use Rattle.ddl_read.proofs.Bracketed.{bracket_put}
 use Rattle.ddl_read.proofs.Layouts.{IsLaidOut, laid_out, sequence_key, view_key, dot_sign, ended, create_put, alter_put}
 use Rattle.ddl_read.proofs.TableLayouts.{as_key}
 
@@ -42,6 +44,22 @@ or_key = record { word = (refl, refl); utf8 = refl; same = refl }
 replace_key : IsKey (codes "replace") (codes "REPLACE")
 unfolding begins_word in_word is_digit is_utf8 chars encode is_keyword_of
 replace_key = record { word = (refl, refl); utf8 = refl; same = refl }
+
+index_key : IsKey (codes "index") (codes "INDEX")
+unfolding begins_word in_word is_digit is_utf8 chars encode is_keyword_of
+index_key = record { word = (refl, refl); utf8 = refl; same = refl }
+
+unique_key : IsKey (codes "unique") (codes "UNIQUE")
+unfolding begins_word in_word is_digit is_utf8 chars encode is_keyword_of
+unique_key = record { word = (refl, refl); utf8 = refl; same = refl }
+
+on_key : IsKey (codes "on") (codes "ON")
+unfolding begins_word in_word is_digit is_utf8 chars encode is_keyword_of
+on_key = record { word = (refl, refl); utf8 = refl; same = refl }
+
+using_key : IsKey (codes "using") (codes "USING")
+unfolding begins_word in_word is_digit is_utf8 chars encode is_keyword_of
+using_key = record { word = (refl, refl); utf8 = refl; same = refl }
 
 -- ---- ALTER SEQUENCE .. OWNED BY
 
@@ -140,6 +158,75 @@ replaced_laid_out g q body gap path_is is =
     let k2 : IsPut replace_view s t2 [] = word_lead (codes "replace") (codes "REPLACE") (32 ∷ []) (is_word (codes "view") ▸ part) s t1 [] replace_key space k1 refl in
     let t3 = ((32 ∷ []) ++ codes "OR") ++ t2 in
     let k3 = word_lead (codes "or") (codes "OR") (32 ∷ []) replace_view s t2 [] or_key space k2 refl in
-    let k4 : IsPut created s t3 [] = put_as (is_word (codes "or") ▸ replace_view) created s s t3 [] k3 (λ ts h. inr (inr (inr (inr (inr h))))) in
+    let k4 : IsPut created s t3 [] = put_as (is_word (codes "or") ▸ replace_view) created s s t3 [] k3 (λ ts h. inr (inr (inr (inr (inr (inl h)))))) in
     laid_out g (view_text (codes "CREATE OR REPLACE VIEW ") q body) s ((g ++ codes "CREATE") ++ t3) (create_put g s t3 gap k4 refl)
     (replaced_regrouped g (codes "CREATE") (32 ∷ []) (codes "OR") (codes "REPLACE") (codes "VIEW") (path q) (codes "AS") (10 ∷ []) (space_before body) body (59 ∷ []) (10 ∷ []))
+
+-- ---- CREATE INDEX
+
+abbrev index_end : QName → List ℕ → List ℕ → List ℕ → List ℕ
+index_end q name method rest =
+    ((32 ∷ []) ++ written_name name) ++ (((32 ∷ []) ++ codes "ON") ++ (((32 ∷ []) ++ path q) ++ (((32 ∷ []) ++ codes "USING") ++ (((32 ∷ []) ++ written_name method) ++ (((32 ∷ []) ++ rest) ++ 59 ∷ [])))))
+
+abbrev rest_end : Part (List ℕ)
+rest_end = bracketed ◂ semicolon
+
+abbrev method_end : Part (List ℕ × List ℕ)
+method_end = name then rest_end
+
+abbrev path_end : Part (QName × (List ℕ × List ℕ))
+path_end = qualified then (is_word (codes "using") ▸ method_end)
+
+index_put : (q : QName) (n m rest : List ℕ) → IsPath q → IsName n → IsName m → IsBracketText rest → IsPut index_parts (n, (q, (m, rest))) (index_end q n m rest) []
+unfolding index_parts
+index_put q n m rest path_is n_is m_is is =
+    let t0 = (32 ∷ []) ++ rest in
+    let k0 = bracket_put rest (32 ∷ []) (ended.tokens ++ []) is space (behind ended) (begun is_safe_byte ended refl) in
+    let t1 = t0 ++ 59 ∷ [] in
+    let k1 = close_put bracketed semicolon rest t0 (59 ∷ []) [] ended k0 in
+    let t2 = ((32 ∷ []) ++ written_name m) ++ t1 in
+    let k2 : IsPut method_end (m, rest) t2 [] = name_lead m (32 ∷ []) rest_end rest t1 [] m_is space k1 refl in
+    let t3 = ((32 ∷ []) ++ codes "USING") ++ t2 in
+    let k3 = word_lead (codes "using") (codes "USING") (32 ∷ []) method_end (m, rest) t2 [] using_key space k2 refl in
+    let t4 = ((32 ∷ []) ++ path q) ++ t3 in
+    let k4 : IsPut path_end (q, (m, rest)) t4 [] = path_lead q (32 ∷ []) (is_word (codes "using") ▸ method_end) (m, rest) t3 [] path_is space k3 refl in
+    let t5 = ((32 ∷ []) ++ codes "ON") ++ t4 in
+    let k5 = word_lead (codes "on") (codes "ON") (32 ∷ []) path_end (q, (m, rest)) t4 [] on_key space k4 refl in
+    name_lead n (32 ∷ []) (is_word (codes "on") ▸ path_end) (q, (m, rest)) t5 [] n_is space k5 refl
+
+index_regrouped : (g a s w n o p u m v e line : List ℕ)
+    → ((g ++ a) ++ ((s ++ w) ++ ((s ++ n) ++ ((s ++ o) ++ ((s ++ p) ++ ((s ++ u) ++ ((s ++ m) ++ ((s ++ v) ++ e)))))))) ++ line
+    ≡ g ++ ((((a ++ s) ++ w) ++ s) ++ (n ++ (((s ++ o) ++ s) ++ (p ++ (((s ++ u) ++ s) ++ (m ++ (s ++ (v ++ ((e ++ line) ++ [])))))))))
+index_regrouped g a s w n o p u m v e line = simp (append_assoc, append-nil)
+
+pub index_laid_out : (g : List ℕ) (q : QName) (n m rest : List ℕ) → Gap g → IsPath q → IsName n → IsName m → IsBracketText rest → IsLaidOut g (stmt.CreateIndex q n m rest) (index_text (codes "CREATE INDEX ") q n m rest)
+unfolding created create_index index_text
+index_laid_out g q n m rest gap path_is n_is m_is is =
+    let s = stmt.CreateIndex q n m rest in
+    let t0 = index_end q n m rest in
+    let k0 : IsPut create_index s t0 [] = seen_put index_of index_parts (n, (q, (m, rest))) t0 [] (index_put q n m rest path_is n_is m_is is) in
+    let t1 = ((32 ∷ []) ++ codes "INDEX") ++ t0 in
+    let k1 = word_lead (codes "index") (codes "INDEX") (32 ∷ []) create_index s t0 [] index_key space k0 refl in
+    let k2 : IsPut created s t1 [] = put_as (is_word (codes "index") ▸ create_index) created s s t1 [] k1 (λ ts h. inr (inr (inr (inr (inr (inr (inl h))))))) in
+    laid_out g (index_text (codes "CREATE INDEX ") q n m rest) s ((g ++ codes "CREATE") ++ t1) (create_put g s t1 gap k2 refl)
+    (index_regrouped g (codes "CREATE") (32 ∷ []) (codes "INDEX") (written_name n) (codes "ON") (path q) (codes "USING") (written_name m) rest (59 ∷ []) (10 ∷ []))
+
+unique_regrouped : (g a s x w n o p u m v e line : List ℕ)
+    → ((g ++ a) ++ ((s ++ x) ++ ((s ++ w) ++ ((s ++ n) ++ ((s ++ o) ++ ((s ++ p) ++ ((s ++ u) ++ ((s ++ m) ++ ((s ++ v) ++ e))))))))) ++ line
+    ≡ g ++ ((((((a ++ s) ++ x) ++ s) ++ w) ++ s) ++ (n ++ (((s ++ o) ++ s) ++ (p ++ (((s ++ u) ++ s) ++ (m ++ (s ++ (v ++ ((e ++ line) ++ [])))))))))
+unique_regrouped g a s x w n o p u m v e line = simp (append_assoc, append-nil)
+
+pub unique_index_laid_out : (g : List ℕ) (q : QName) (n m rest : List ℕ) → Gap g → IsPath q → IsName n → IsName m → IsBracketText rest → IsLaidOut g (stmt.CreateUniqueIndex q n m rest) (index_text (codes "CREATE UNIQUE INDEX ") q n m rest)
+unfolding created create_unique_index index_text
+unique_index_laid_out g q n m rest gap path_is n_is m_is is =
+    let s = stmt.CreateUniqueIndex q n m rest in
+    let part = seen unique_index_of index_parts in
+    let t0 = index_end q n m rest in
+    let k0 : IsPut part s t0 [] = seen_put unique_index_of index_parts (n, (q, (m, rest))) t0 [] (index_put q n m rest path_is n_is m_is is) in
+    let t1 = ((32 ∷ []) ++ codes "INDEX") ++ t0 in
+    let k1 : IsPut create_unique_index s t1 [] = word_lead (codes "index") (codes "INDEX") (32 ∷ []) part s t0 [] index_key space k0 refl in
+    let t2 = ((32 ∷ []) ++ codes "UNIQUE") ++ t1 in
+    let k2 = word_lead (codes "unique") (codes "UNIQUE") (32 ∷ []) create_unique_index s t1 [] unique_key space k1 refl in
+    let k3 : IsPut created s t2 [] = put_as (is_word (codes "unique") ▸ create_unique_index) created s s t2 [] k2 (λ ts h. inr (inr (inr (inr (inr (inr (inr h))))))) in
+    laid_out g (index_text (codes "CREATE UNIQUE INDEX ") q n m rest) s ((g ++ codes "CREATE") ++ t2) (create_put g s t2 gap k3 refl)
+    (unique_regrouped g (codes "CREATE") (32 ∷ []) (codes "UNIQUE") (codes "INDEX") (written_name n) (codes "ON") (path q) (codes "USING") (written_name m) rest (59 ∷ []) (10 ∷ []))

@@ -58,3 +58,7 @@ pub record WorkedExamples : Type 0 where
   -- a body runs from its first token to its last
   pub view : statements_of (codes "create view a.v as  SELECT 1 ;") ≡ Ok (located (stmt.CreateView (record { schema = codes "a"; name = codes "v" }) (codes "SELECT 1")) 0 30 ∷ [])
   pub replaced_view : statements_of (codes "CREATE OR REPLACE VIEW a.v AS x;") ≡ Ok (located (stmt.ReplaceView (record { schema = codes "a"; name = codes "v" }) (codes "x")) 0 32 ∷ [])
+  pub index : statements_of (codes "CREATE INDEX i ON a.t USING btree (x) WHERE y;") ≡ Ok (located (stmt.CreateIndex (record { schema = codes "a"; name = codes "t" }) (codes "i") (codes "btree") (codes "(x) WHERE y")) 0 46 ∷ [])
+  pub unique_index : statements_of (codes "CREATE UNIQUE INDEX i ON a.t USING hash (x);") ≡ Ok (located (stmt.CreateUniqueIndex (record { schema = codes "a"; name = codes "t" }) (codes "i") (codes "hash") (codes "(x)")) 0 44 ∷ [])
+  -- a bracket follows the method
+  pub no_bracket : statements_of (codes "CREATE INDEX i ON a.t USING btree x;") ≡ Err (Unknown 34)

@@ -1,11 +1,11 @@
 -- The grammar of statements about sequences, views and indexes: what stands behind ALTER SEQUENCE and behind CREATE.
-use Rattle.std.specs.Prelude.{ℕ, List, [], ◌∷◌, codes}
+use Rattle.std.specs.Prelude.{◌≡◌, ℕ, Bool, true, List, [], ◌∷◌, codes}
 use Rattle.cat_model.specs.declared.object.QName.{QName}
 use Rattle.cat_model.specs.declared.grant.Owned.TheVariants as owned
 use Rattle.cat_model.specs.declared.stmt.Stmt.{Stmt}
 use Rattle.cat_model.specs.declared.stmt.Stmt.TheVariants as stmt
-use Rattle.ddl_parts.specs.Lexemes.{is_word, is_sign}
-use Rattle.ddl_parts.specs.Parts.{Part, Branch, seen, choose, one_of, ◌then◌, ◌▸◌, ◌◂◌}
+use Rattle.ddl_parts.specs.Lexemes.{Lexeme, is_word, is_sign, starts}
+use Rattle.ddl_parts.specs.Parts.{Part, Branch, seen, choose, choose_at, stop, one_of, ◌then◌, ◌▸◌, ◌◂◌}
 use Rattle.ddl_parts.specs.Leaves.{name, qualified}
 use Rattle.ddl_parts.specs.Expressions.{expression}
 use Rattle.ddl_read.specs.Clauses.{semicolon}
@@ -45,6 +45,41 @@ create_view = seen (λ x. stmt.CreateView x.0 x.1) view_and_body
 unfoldable pub replace_view : Part Stmt
 replace_view = is_word (codes "replace") ▸ (is_word (codes "view") ▸ seen (λ x. stmt.ReplaceView x.0 x.1) view_and_body)
 
+-- ---- CREATE INDEX ..
+
+-- a part, where the next token passes a test
+abbrev pub begun_by : {A : Type 0} → (Lexeme → Bool) → Part A → Part A
+begun_by test p = record {
+  Spells = λ v ts. (starts test ts ≡ true) × p.Spells v ts;
+  read = λ ts. choose_at (starts test ts) (p.read ts) (stop ts);
+  goes_on = p.goes_on;
+}
+
+-- the text of a run with balanced brackets, from an opening bracket on
+unfoldable pub bracketed : Part (List ℕ)
+bracketed = begun_by (is_sign 40) expression
+
+-- a name, a path, a method and what follows them
+abbrev pub Index : Type 0
+Index = List ℕ × (QName × (List ℕ × List ℕ))
+
+-- name ON path USING method (rest;
+unfoldable pub index_parts : Part Index
+index_parts = name then (is_word (codes "on") ▸ (qualified then (is_word (codes "using") ▸ (name then (bracketed ◂ semicolon)))))
+
+abbrev pub index_of : Index → Stmt
+index_of x = stmt.CreateIndex x.1.0 x.0 x.1.1.0 x.1.1.1
+
+abbrev pub unique_index_of : Index → Stmt
+unique_index_of x = stmt.CreateUniqueIndex x.1.0 x.0 x.1.1.0 x.1.1.1
+
+unfoldable pub create_index : Part Stmt
+create_index = seen index_of index_parts
+
+-- behind UNIQUE
+unfoldable pub create_unique_index : Part Stmt
+create_unique_index = is_word (codes "index") ▸ seen unique_index_of index_parts
+
 -- ---- CREATE ..
 
 -- what stands behind CREATE, by its first word
@@ -52,7 +87,8 @@ abbrev pub view_branch : Branch Stmt
 view_branch = record { key = codes "view"; part = create_view }
 
 abbrev pub more_relations : List (Branch Stmt)
-more_relations = record { key = codes "or"; part = replace_view } ∷ []
+more_relations =
+    record { key = codes "or"; part = replace_view } ∷ record { key = codes "index"; part = create_index } ∷ record { key = codes "unique"; part = create_unique_index } ∷ []
 
 abbrev pub created_relation : Part Stmt
 created_relation = one_of view_branch more_relations

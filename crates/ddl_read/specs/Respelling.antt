@@ -11,6 +11,7 @@ use Rattle.cat_model.specs.declared.stmt.Stmt.{Stmt}
 use Rattle.cat_model.specs.declared.stmt.Stmt.TheVariants as stmt
 use Rattle.cat_model.specs.declared.type_name.TypeName.{TypeName}
 use Rattle.cat_model.specs.declared.type_name.TypeName.TheVariants as type_name
+use Rattle.ddl_parts.specs.Lexemes.{starts, is_sign}
 use Rattle.ddl_parts.specs.Parts.{Machine, Runs}
 use Rattle.ddl_parts.specs.Pieces.{lexemes}
 use Rattle.ddl_parts.specs.Collecting.{collected}
@@ -42,6 +43,10 @@ pub record IsRunText (m : Machine) (v : List ℕ) : Type 0 where
 -- an expression
 abbrev pub IsExpressionText : List ℕ → Type 0
 IsExpressionText v = IsRunText (nested false false) v
+
+-- an expression that begins with an opening bracket
+abbrev pub IsBracketText : List ℕ → Type 0
+IsBracketText v = IsExpressionText v × (starts (is_sign 40) (lexemes v (collected v 0).pieces) ≡ true)
 
 -- a default that NOT NULL may not follow
 abbrev pub IsDefaultText : List ℕ → Type 0
@@ -84,6 +89,8 @@ IsWritable (stmt.OwnerTo object role) = IsOwnedName object × IsName role
 IsWritable (stmt.OwnedBy q table column) = IsPath q × IsPath table × IsName column
 IsWritable (stmt.CreateView q body) = IsPath q × IsExpressionText body
 IsWritable (stmt.ReplaceView q body) = IsPath q × IsExpressionText body
+IsWritable (stmt.CreateIndex q name method rest) = IsPath q × IsName name × IsName method × IsBracketText rest
+IsWritable (stmt.CreateUniqueIndex q name method rest) = IsPath q × IsName name × IsName method × IsBracketText rest
 IsWritable _ = ⊥
 
 abbrev pub AllWritable : List Stmt → Type 0

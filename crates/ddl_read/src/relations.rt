@@ -2,12 +2,12 @@
 ghost use Rattle.std.specs.Prelude.{◌≡◌, drop};
 ghost use Rattle.ddl_parts.specs.Pieces.{GivesPart};
 ghost use Rattle.ddl_read.specs.Grammar.{new_owner};
-ghost use Rattle.ddl_read.specs.RelationGrammar.{owned_by, altered_sequence, view_and_body, create_view, replace_view, created_relation};
+ghost use Rattle.ddl_read.specs.RelationGrammar.{owned_by, altered_sequence, view_and_body, create_view, replace_view, bracketed, index_parts, create_index, create_unique_index, created_relation};
 
 use crate::alters::new_owner;
 use cat_model::{Owned, QName, Stmt};
 use copy_text::{Name, Text};
-use ddl_parts::{Pieces, ReadError, qualified_name};
+use ddl_parts::{Halt, Pieces, ReadError, qualified_name};
 use std::alloc::Global;
 
 /// The column that owns a sequence.
@@ -82,6 +82,75 @@ fn replace_view(alloc: Global, pieces: &Pieces<'_>, at: usize) -> Result<(Stmt, 
     Ok((Stmt::ReplaceView { q, body }, at))
 }
 
+/// An expression that begins with an opening bracket.
+#[tactic(auto, unfolding(crate::specs::RelationGrammar::bracketed))]
+fn bracketed(alloc: Global, pieces: &Pieces<'_>, at: usize) -> Result<(Text, usize), ReadError>
+    ensures { GivesPart pieces.now (λ t. t) result (bracketed.read (drop at pieces.now)) }
+{
+    if pieces.is_sign(at, b'(') {
+        return pieces.expression(alloc, at);
+    }
+    Err(ReadError::Halted(Halt { long: false, at }))
+}
+
+/// An index's name, its table, its method and what follows them.
+#[tactic(auto, unfolding(crate::specs::RelationGrammar::index_parts))]
+fn index_parts(
+    alloc: Global,
+    pieces: &Pieces<'_>,
+    at: usize,
+) -> Result<((Name, QName, Name, Text), usize), ReadError>
+    ensures { GivesPart pieces.now (λ x. (x.0, (x.1, (x.2, x.3)))) result (index_parts.read (drop at pieces.now)) }
+{
+    let (name, at) = pieces.name(alloc, at)?;
+    let at = pieces.word(at, "on")?;
+    let (q, at) = qualified_name(alloc, pieces, at)?;
+    let at = pieces.word(at, "using")?;
+    let (method, at) = pieces.name(alloc, at)?;
+    let (rest, at) = bracketed(alloc, pieces, at)?;
+    let at = pieces.sign(at, b';')?;
+    Ok(((name, q, method, rest), at))
+}
+
+/// CREATE INDEX.
+#[tactic(auto, unfolding(crate::specs::RelationGrammar::create_index))]
+fn create_index(alloc: Global, pieces: &Pieces<'_>, at: usize) -> Result<(Stmt, usize), ReadError>
+    ensures { GivesPart pieces.now (λ s. s) result (create_index.read (drop at pieces.now)) }
+{
+    let ((name, q, method, rest), at) = index_parts(alloc, pieces, at)?;
+    Ok((
+        Stmt::CreateIndex {
+            q,
+            name,
+            method,
+            rest,
+        },
+        at,
+    ))
+}
+
+/// CREATE UNIQUE INDEX, behind UNIQUE.
+#[tactic(auto, unfolding(crate::specs::RelationGrammar::create_unique_index))]
+fn create_unique_index(
+    alloc: Global,
+    pieces: &Pieces<'_>,
+    at: usize,
+) -> Result<(Stmt, usize), ReadError>
+    ensures { GivesPart pieces.now (λ s. s) result (create_unique_index.read (drop at pieces.now)) }
+{
+    let at = pieces.word(at, "index")?;
+    let ((name, q, method, rest), at) = index_parts(alloc, pieces, at)?;
+    Ok((
+        Stmt::CreateUniqueIndex {
+            q,
+            name,
+            method,
+            rest,
+        },
+        at,
+    ))
+}
+
 /// CREATE of a view or an index, by its first word.
 pub(crate) fn created_relation(
     alloc: Global,
@@ -94,6 +163,14 @@ pub(crate) fn created_relation(
         let at = pieces.word(at, "view")?;
         return create_view(alloc, pieces, at);
     }
-    let at = pieces.word(at, "or")?;
-    replace_view(alloc, pieces, at)
+    if pieces.is_word(at, "or") {
+        let at = pieces.word(at, "or")?;
+        return replace_view(alloc, pieces, at);
+    }
+    if pieces.is_word(at, "index") {
+        let at = pieces.word(at, "index")?;
+        return create_index(alloc, pieces, at);
+    }
+    let at = pieces.word(at, "unique")?;
+    create_unique_index(alloc, pieces, at)
 }
