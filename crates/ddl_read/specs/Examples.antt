@@ -53,7 +53,6 @@ pub record WorkedExamples : Type 0 where
   pub late_column : statements_of (codes "CREATE TABLE a.t (CONSTRAINT k CHECK (1), c int);") ≡ Err (Unknown 42)
   pub domain : statements_of (codes "CREATE DOMAIN a.d AS int DEFAULT 1 NOT NULL CONSTRAINT k CHECK (1);")
       ≡ Ok (located (stmt.CreateDomain (in_a (codes "d")) (type_name.Words (codes "int")) true (Some (codes "1")) (record { name = codes "k"; text = codes "1" } ∷ [])) 0 67 ∷ [])
-
   pub column_of_sequence : statements_of (codes "ALTER SEQUENCE a.s OWNED BY a.t.id;") ≡ Ok (located (stmt.OwnedBy (record { schema = codes "a"; name = codes "s" }) (record { schema = codes "a"; name = codes "t" }) (codes "id")) 0 35 ∷ [])
   -- a body runs from its first token to its last
   pub view : statements_of (codes "create view a.v as  SELECT 1 ;") ≡ Ok (located (stmt.CreateView (record { schema = codes "a"; name = codes "v" }) (codes "SELECT 1")) 0 30 ∷ [])

@@ -289,6 +289,320 @@ const TABLES: &[(&str, &str)] = &[
     ),
 ];
 
+/// The same of views, indexes and owners of sequences.
+const RELATIONS: &[(&str, &str)] = &[
+    (
+        "CREATE INDEX t ON public.m USING btree (x, z);",
+        "0..46 CREATE INDEX t ON public.m USING btree (x, z);\n",
+    ),
+    (
+        "CREATE INDEX t ON public.m USING btree (x, z",
+        "Incomplete(44)",
+    ),
+    (
+        "CREATE INDEX k ON public.m USING btree (y);",
+        "0..43 CREATE INDEX k ON public.m USING btree (y);\n",
+    ),
+    (
+        "CREATE INDEX k ON public.m USING btree (y)",
+        "Incomplete(42)",
+    ),
+    (
+        "CREATE VIEW a.m AS SELECT 1 FROM a.k, (public.u JOIN public.u ON true);",
+        "0..71 CREATE VIEW a.m AS\n SELECT 1 FROM a.k, (public.u JOIN public.u ON true);\n",
+    ),
+    (
+        "CREATE VIEW a.m AS SELECT 1 FROM a.k, (public.u JOIN p",
+        "Incomplete(54)",
+    ),
+    (
+        "CREATE VIEW public.u AS SELECT 1 FROM a.t, (public.u JOIN a.k ON true);",
+        "0..71 CREATE VIEW public.u AS\n SELECT 1 FROM a.t, (public.u JOIN a.k ON true);\n",
+    ),
+    (
+        "CREATE VIEW public.u AS SELECT 1 FROM a.t, (public.u JOI",
+        "Incomplete(56)",
+    ),
+    (
+        "CREATE UNIQUE INDEX u ON public.n USING btree (z, x) WHERE true;",
+        "0..64 CREATE UNIQUE INDEX u ON public.n USING btree (z, x) WHERE true;\n",
+    ),
+    (
+        "CREATE UNIQUE INDEX m ON public.n USING btree (x) WHERE true;",
+        "0..61 CREATE UNIQUE INDEX m ON public.n USING btree (x) WHERE true;\n",
+    ),
+    ("CREATE UNIQUE INDEX m O", "Unknown(22)"),
+    (
+        "CREATE UNIQUE INDEX m ON public.k USING btree (y);",
+        "0..50 CREATE UNIQUE INDEX m ON public.k USING btree (y);\n",
+    ),
+    (
+        "CREATE INDEX m ON a.u USING btree (x);",
+        "0..38 CREATE INDEX m ON a.u USING btree (x);\n",
+    ),
+    (
+        "CREATE INDEX m ON a.u USING NOT NULL btree (x);",
+        "Unknown(32)",
+    ),
+    (
+        "CREATE OR REPLACE VIEW a.t AS SELECT 1 FROM public.m, (public.u JOIN public.u ON true);",
+        "0..87 CREATE OR REPLACE VIEW a.t AS\n SELECT 1 FROM public.m, (public.u JOIN public.u ON true);\n",
+    ),
+    (
+        "CREATE OR REPLACE VIEW a.t AS SELECT 1  )FROM public.m, (public.u JOIN public.u ON true);",
+        "Unknown(40)",
+    ),
+    (
+        "CREATE VIEW a.m AS SELECT 1 FROM public.u, (a.n JOIN public.u ON true);",
+        "0..71 CREATE VIEW a.m AS\n SELECT 1 FROM public.u, (a.n JOIN public.u ON true);\n",
+    ),
+    (
+        "CREATE VIEW a.m AS SELECT 1 FROM public.u, (a.n 7 JOIN public.u ON true);",
+        "0..73 CREATE VIEW a.m AS\n SELECT 1 FROM public.u, (a.n 7 JOIN public.u ON true);\n",
+    ),
+    (
+        "CREATE OR REPLACE VIEW a.v AS SELECT 1 FROM a.t, (a.u JOIN a.t ON true);",
+        "0..72 CREATE OR REPLACE VIEW a.v AS\n SELECT 1 FROM a.t, (a.u JOIN a.t ON true);\n",
+    ),
+    (
+        "CREATE OR REPLACE VIEW a.v AS SELECT 1 FROM a.t, (a.u J",
+        "Incomplete(55)",
+    ),
+    (
+        "ALTER SEQUENCE a.t OWNED BY a.v.x;",
+        "0..34 ALTER SEQUENCE a.t OWNED BY a.v.x;\n",
+    ),
+    (
+        "CREATE VIEW public.n AS SELECT 1 FROM a.t, (a.k JOIN public.m ON true);",
+        "0..71 CREATE VIEW public.n AS\n SELECT 1 FROM a.t, (a.k JOIN public.m ON true);\n",
+    ),
+    (
+        "CREATE VIEW public.n AS SELECT 1 FROM a.t, (a.k JOIN 7 public.m ON true);",
+        "0..73 CREATE VIEW public.n AS\n SELECT 1 FROM a.t, (a.k JOIN 7 public.m ON true);\n",
+    ),
+    (
+        "CREATE VIEW a.u AS SELECT 1 FROM public.t, (public.n JOIN public.m ON true);",
+        "0..76 CREATE VIEW a.u AS\n SELECT 1 FROM public.t, (public.n JOIN public.m ON true);\n",
+    ),
+    (
+        "CREATE VIEW a.u AS SELECT 1 ;FROM public.t, (public.n JOIN public.m ON true);",
+        "Unknown(29)",
+    ),
+    (
+        "ALTER SEQUENCE a.k OWNED BY a.n.x;",
+        "0..34 ALTER SEQUENCE a.k OWNED BY a.n.x;\n",
+    ),
+    (
+        "CREATE OR REPLACE VIEW a.u AS SELECT 1 FROM public.u, (a.n JOIN public.t ON true);",
+        "0..82 CREATE OR REPLACE VIEW a.u AS\n SELECT 1 FROM public.u, (a.n JOIN public.t ON true);\n",
+    ),
+    (
+        "CREATE OR REPLACE VIEW a.u AS SELECT ;1 FROM public.u, (a.n JOIN public.t ON true);",
+        "Unknown(38)",
+    ),
+    (
+        "CREATE VIEW a.n AS SELECT 1 FROM a.v, (public.t JOIN a.u ON true);",
+        "0..66 CREATE VIEW a.n AS\n SELECT 1 FROM a.v, (public.t JOIN a.u ON true);\n",
+    ),
+    (
+        "CREATE OR REPLACE VIEW a.n AS SELECT 1 FROM a.m, (a.v JOIN a.n ON true);",
+        "0..72 CREATE OR REPLACE VIEW a.n AS\n SELECT 1 FROM a.m, (a.v JOIN a.n ON true);\n",
+    ),
+    (
+        "CREATE UNIQUE INDEX m ON public.u USING btree (z);",
+        "0..50 CREATE UNIQUE INDEX m ON public.u USING btree (z);\n",
+    ),
+    (
+        "CREATE UNIQUE INDEX m ON public.u USIN 7G btree (z);",
+        "Unknown(34)",
+    ),
+    (
+        "CREATE VIEW a.k AS SELECT 1 FROM a.v, (a.k JOIN public.v ON true);",
+        "0..66 CREATE VIEW a.k AS\n SELECT 1 FROM a.v, (a.k JOIN public.v ON true);\n",
+    ),
+    (
+        "ALTER SEQUENCE public.u OWNED BY a.v.z;",
+        "0..39 ALTER SEQUENCE public.u OWNED BY a.v.z;\n",
+    ),
+];
+
+/// The same of views, indexes and owners of sequences.
+const RELATIONS_2: &[(&str, &str)] = &[
+    (
+        "CREATE UNIQUE INDEX n ON public.u USING btree (y, z) WHERE true;",
+        "0..64 CREATE UNIQUE INDEX n ON public.u USING btree (y, z) WHERE true;\n",
+    ),
+    ("CREATE UNIQUE INDEX n ON pu", "Incomplete(27)"),
+    (
+        "CREATE UNIQUE INDEX u ON public.v USING btree (z);",
+        "0..50 CREATE UNIQUE INDEX u ON public.v USING btree (z);\n",
+    ),
+    (
+        "CREATE UNIQUE INDEX u ON public.v USING btree (z)",
+        "Incomplete(49)",
+    ),
+    (
+        "CREATE UNIQUE INDEX m ON a.v USING btree (x);",
+        "0..45 CREATE UNIQUE INDEX m ON a.v USING btree (x);\n",
+    ),
+    ("CREATE UNIQUE INDEX m ON a.v USING ", "Incomplete(35)"),
+    (
+        "ALTER SEQUENCE public.m OWNED BY a.v.y;",
+        "0..39 ALTER SEQUENCE public.m OWNED BY a.v.y;\n",
+    ),
+    (
+        "CREATE UNIQUE INDEX k ON public.u USING btree (y);",
+        "0..50 CREATE UNIQUE INDEX k ON public.u USING btree (y);\n",
+    ),
+    (
+        "CREATE UNIQUE INDEX k ON public.u USIN 7G btree (y);",
+        "Unknown(34)",
+    ),
+    (
+        "CREATE OR REPLACE VIEW public.m AS SELECT 1 FROM public.k, (public.m JOIN a.v ON true);",
+        "0..87 CREATE OR REPLACE VIEW public.m AS\n SELECT 1 FROM public.k, (public.m JOIN a.v ON true);\n",
+    ),
+    (
+        "ALTER SEQUENCE a.t OWNED BY public.v.x;",
+        "0..39 ALTER SEQUENCE a.t OWNED BY public.v.x;\n",
+    ),
+    (
+        "CREATE INDEX k ON a.k USING btree (x);",
+        "0..38 CREATE INDEX k ON a.k USING btree (x);\n",
+    ),
+    (
+        "CREATE INDEX k ON a.k USING btree (x NOT NULL);",
+        "0..47 CREATE INDEX k ON a.k USING btree (x NOT NULL);\n",
+    ),
+    (
+        "CREATE INDEX t ON public.m USING btree (y, x);",
+        "0..46 CREATE INDEX t ON public.m USING btree (y, x);\n",
+    ),
+    (
+        "CREATE INDEX t ON public.m U,SING btree (y, x);",
+        "Unknown(27)",
+    ),
+    (
+        "CREATE INDEX n ON a.n USING btree (z, x);",
+        "0..41 CREATE INDEX n ON a.n USING btree (z, x);\n",
+    ),
+    (
+        "CREATE OR REPLACE VIEW a.k AS SELECT 1 FROM public.m, (a.v JOIN a.k ON true);",
+        "0..77 CREATE OR REPLACE VIEW a.k AS\n SELECT 1 FROM public.m, (a.v JOIN a.k ON true);\n",
+    ),
+    (
+        "CREATE OR REPLACE VIEW a.k AS SELECT 1 FROM public.m, (",
+        "Incomplete(55)",
+    ),
+    (
+        "CREATE VIEW a.v AS SELECT 1 FROM a.m, (public.m JOIN public.m ON true);",
+        "0..71 CREATE VIEW a.v AS\n SELECT 1 FROM a.m, (public.m JOIN public.m ON true);\n",
+    ),
+    (
+        "CREATE VIEW a.u AS SELECT 1 FROM public.n, (public.k JOIN a.v ON true);",
+        "0..71 CREATE VIEW a.u AS\n SELECT 1 FROM public.n, (public.k JOIN a.v ON true);\n",
+    ),
+    (
+        "CREATE INDEX k ON a.k USING btree (y);",
+        "0..38 CREATE INDEX k ON a.k USING btree (y);\n",
+    ),
+    ("CREATE INDEX k ON a.k US,ING btree (y);", "Unknown(22)"),
+    (
+        "CREATE VIEW public.v AS SELECT 1 FROM public.v, (a.k JOIN public.k ON true);",
+        "0..76 CREATE VIEW public.v AS\n SELECT 1 FROM public.v, (a.k JOIN public.k ON true);\n",
+    ),
+    ("CREATE VIEW public.v AS SELECT 1 FROM ", "Incomplete(38)"),
+    (
+        "CREATE UNIQUE INDEX m ON public.v USING btree (y, x);",
+        "0..53 CREATE UNIQUE INDEX m ON public.v USING btree (y, x);\n",
+    ),
+    (
+        "CREATE UNIQUE INDEX m ON publi,c.v USING btree (y, x);",
+        "Unknown(30)",
+    ),
+    (
+        "CREATE VIEW a.t AS SELECT 1 FROM public.v, (public.u JOIN public.n ON true);",
+        "0..76 CREATE VIEW a.t AS\n SELECT 1 FROM public.v, (public.u JOIN public.n ON true);\n",
+    ),
+    (
+        "CREATE VIEW a.t AS SELECT 1 FROM public.v, (public.u JOIN public 'q'.n ON true);",
+        "0..80 CREATE VIEW a.t AS\n SELECT 1 FROM public.v, (public.u JOIN public 'q'.n ON true);\n",
+    ),
+    (
+        "CREATE UNIQUE INDEX n ON public.n USING btree (y, z) WHERE true;",
+        "0..64 CREATE UNIQUE INDEX n ON public.n USING btree (y, z) WHERE true;\n",
+    ),
+];
+
+/// The same of changes of tables.
+const CHANGES: &[(&str, &str)] = &[
+    (
+        "ALTER TABLE a.u ALTER COLUMN z SET DEFAULT 'm'::public.u;",
+        "0..57 ALTER TABLE ONLY a.u ALTER COLUMN z SET DEFAULT 'm'::public.u;\n",
+    ),
+    (
+        "ALTER TABLE a.u ALTER COLUMN z SET; DEFAULT 'm'::public.u;",
+        "Unknown(34)",
+    ),
+    (
+        "ALTER TABLE a.u ALTER COLUMN z SET DEFAULT (VALUE > 0);",
+        "0..55 ALTER TABLE ONLY a.u ALTER COLUMN z SET DEFAULT (VALUE > 0);\n",
+    ),
+    (
+        "ALTER TABLE public.v ALTER COLUMN z SET DEFAULT 'm'::public.v;",
+        "0..62 ALTER TABLE ONLY public.v ALTER COLUMN z SET DEFAULT 'm'::public.v;\n",
+    ),
+    (
+        "ALTER TABLE public.v ALTER COLUMN z SET DEFAULT 'm'::pub,lic.v;",
+        "Unknown(56)",
+    ),
+    (
+        "ALTER TABLE a.v ADD CONSTRAINT m CHECK (1);",
+        "0..43 ALTER TABLE ONLY a.v\n    ADD CONSTRAINT m CHECK (1);\n",
+    ),
+    (
+        "ALTER TABLE a.n ALTER COLUMN z SET DEFAULT (VALUE > 0);",
+        "0..55 ALTER TABLE ONLY a.n ALTER COLUMN z SET DEFAULT (VALUE > 0);\n",
+    ),
+    (
+        "ALTER TABLE a.n ALTER COLUMN z SET DEFAULT (VALU )E > 0);",
+        "Unknown(55)",
+    ),
+    (
+        "ALTER TABLE public.n ALTER COLUMN z SET DEFAULT nextval('a.u'::regclass);",
+        "0..73 ALTER TABLE ONLY public.n ALTER COLUMN z SET DEFAULT nextval('a.u'::regclass);\n",
+    ),
+    (
+        "ALTER TABLE a.m ALTER COLUMN x SET DEFAULT 1;",
+        "0..45 ALTER TABLE ONLY a.m ALTER COLUMN x SET DEFAULT 1;\n",
+    ),
+    (
+        "ALTER TABLE public.v ADD CONSTRAINT k CHECK ((VALUE > 0));",
+        "0..58 ALTER TABLE ONLY public.v\n    ADD CONSTRAINT k CHECK ((VALUE > 0));\n",
+    ),
+    (
+        "ALTER TABLE public.v ADD CONSTRAINT k CHECK ((,VALUE > 0));",
+        "0..59 ALTER TABLE ONLY public.v\n    ADD CONSTRAINT k CHECK ((,VALUE > 0));\n",
+    ),
+    (
+        "ALTER TABLE public.t ALTER COLUMN x SET DEFAULT E'a\\'b';",
+        "0..56 ALTER TABLE ONLY public.t ALTER COLUMN x SET DEFAULT E'a\\'b';\n",
+    ),
+    ("ALTER TABLE public.t ALTER COLUMN x ", "Incomplete(36)"),
+    (
+        "ALTER TABLE a.u ALTER COLUMN y SET DEFAULT 'm'::a.k;",
+        "0..52 ALTER TABLE ONLY a.u ALTER COLUMN y SET DEFAULT 'm'::a.k;\n",
+    ),
+    (
+        "ALTER TABLE a.u ALTER COLUMN y SET DEFAULT 'm'::a",
+        "Incomplete(49)",
+    ),
+    (
+        "ALTER TABLE a.m ALTER COLUMN y SET DEFAULT (VALUE > 0);",
+        "0..55 ALTER TABLE ONLY a.m ALTER COLUMN y SET DEFAULT (VALUE > 0);\n",
+    ),
+];
+
 fn told(alloc: Global, text: &str) -> Result<String, AllocError> {
     match read_stmts(alloc, text.as_bytes()) {
         Ok(statements) => spelled(alloc, &statements),
@@ -334,6 +648,33 @@ fn types_and_domains_are_read(rt: HostRuntime) -> Result<(), Fail> {
 #[test]
 fn tables_are_read(rt: HostRuntime) -> Result<(), Fail> {
     for (text, want) in TABLES {
+        let got = told(rt.alloc(), text).ok().ok_or("memory")?;
+        assert_eq!(rt; got.as_str(), *want);
+    }
+    Ok(())
+}
+
+#[test]
+fn views_and_indexes_are_read(rt: HostRuntime) -> Result<(), Fail> {
+    for (text, want) in RELATIONS {
+        let got = told(rt.alloc(), text).ok().ok_or("memory")?;
+        assert_eq!(rt; got.as_str(), *want);
+    }
+    Ok(())
+}
+
+#[test]
+fn views_and_indexes_are_read_2(rt: HostRuntime) -> Result<(), Fail> {
+    for (text, want) in RELATIONS_2 {
+        let got = told(rt.alloc(), text).ok().ok_or("memory")?;
+        assert_eq!(rt; got.as_str(), *want);
+    }
+    Ok(())
+}
+
+#[test]
+fn changes_of_tables_are_read(rt: HostRuntime) -> Result<(), Fail> {
+    for (text, want) in CHANGES {
         let got = told(rt.alloc(), text).ok().ok_or("memory")?;
         assert_eq!(rt; got.as_str(), *want);
     }
