@@ -1,6 +1,8 @@
 pub mod Statements
 pub mod Telling
 pub mod TableLaws
+pub mod RestScans
+pub mod ColumnLaws
 pub mod AlterLaws
 pub mod GrammarLaws
 pub mod Closing
@@ -19,8 +21,10 @@ pub mod AlterPuts
 pub mod Layouts
 pub mod TableLayouts
 pub mod AlterLayouts
+pub mod KeyLayouts
 pub mod Respelled
 pub mod Yielding
+pub mod RestTexts
 pub mod TableMade
 pub mod AlterMade
 pub mod Made

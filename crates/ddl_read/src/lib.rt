@@ -2,11 +2,13 @@
 #![tactic(auto)]
 
 mod alters;
+mod columns;
 mod fault;
 mod kinds;
 pub mod laws;
 mod located;
 mod reading;
+mod rests;
 mod tables;
 
 pub use fault::{DdlFault, ReadStmtsError};
