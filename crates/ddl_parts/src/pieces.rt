@@ -1,7 +1,7 @@
 //! The tokens of a statement.
-ghost use Rattle.std.specs.Prelude.{◌≡◌, ◌≤◌, ◌<◌, ◌+◌, ◌∷◌, [], ℕ, List, length, drop, false, true, Err, IsTrue, IfOk, IfSome, MatchOption, option_map, ◌||◌, ◌==◌};
+ghost use Rattle.std.specs.Prelude.{◌≡◌, ◌≤◌, ◌<◌, ◌+◌, ◌-◌, ◌∷◌, [], ℕ, List, length, take, drop, false, true, Err, IsTrue, IfOk, IfSome, MatchOption, option_map, ◌||◌, ◌==◌};
 ghost use Rattle.std.specs.List.{list_any};
-ghost use Rattle.ddl_parts.specs.Lexemes.{Lexeme, is_word, is_sign, is_sign_kind, starts, start_of};
+ghost use Rattle.ddl_parts.specs.Lexemes.{Lexeme, source, is_word, is_sign, is_sign_kind, starts, start_of};
 ghost use Rattle.ddl_parts.specs.Leaves.{name, literal, name_in, name_value, text_in, is_name, is_name_kind, is_literal, is_literal_kind};
 ghost use Rattle.ddl_parts.specs.Parts.{Part, mark, stop};
 ghost use Rattle.ddl_parts.specs.Expressions.{expression, default_text, default_and_null};
@@ -11,7 +11,7 @@ ghost use Rattle.ddl_parts.specs.declared.fault.ReadError.TheVariants.{Halted};
 
 use crate::defaults::default_and_null_at;
 use crate::fault::{Halt, ReadError};
-use crate::runs::run_at;
+use crate::runs::{run_at, text_between};
 use crate::types::type_at;
 use cat_model::TypeName;
 use copy_text::{Name, Text};
@@ -155,6 +155,15 @@ impl<'a> Pieces<'a> {
         ensures { GivesPart self.now (λ x. (x.0, x.1)) result (default_and_null.read (drop at self.now)) }
     {
         default_and_null_at(alloc, self.text, &self.pieces, at)
+    }
+
+    /// The text of the tokens from a place up to another.
+    pub fn source(&self, alloc: Global, from: usize, end: usize) -> Result<Text, AllocError>
+        requires low { from ≤ end }
+        requires high { end ≤ length self.now }
+        ensures { IfOk result (λ t. t ≡ source (take (end - from) (drop from self.now))) }
+    {
+        text_between(alloc, self.text, &self.pieces, from, end)
     }
 
     /// The type at a place, and the place behind it.

@@ -20,7 +20,10 @@ use Rattle.ddl_parts.proofs.RunLaws.{expression_laws, expression_ends_bracket, d
 use Rattle.ddl_read.specs.declared.alters.Constraint.TheVariants.{Check}
 use Rattle.ddl_read.specs.declared.alters.TableChange.TheVariants.{Owner}
 use Rattle.ddl_read.specs.Clauses.{semicolon, new_owner}
-use Rattle.ddl_read.specs.AlterGrammar.{check_body, constraint_body, added_of, added, default_of, new_default, own_change, table_change, table_changed, only_value, only_name, other_value, other_name, path_of, other_path, in_schema, key_word, behind_only, only_changed, altered_table}
+use Rattle.ddl_read.specs.Columns.{columns}
+use Rattle.ddl_read.specs.Rests.{key_rest}
+use Rattle.ddl_read.proofs.ColumnLaws.{columns_laws, columns_free, avoids_where, key_rest_laws, key_rest_ends}
+use Rattle.ddl_read.specs.AlterGrammar.{check_body, primary_of, primary_body, unique_of, unique_body, constraint_body, added_of, added, default_of, new_default, own_change, table_change, table_changed, only_value, only_name, other_value, other_name, path_of, other_path, in_schema, key_word, behind_only, only_changed, altered_table}
 use Rattle.ddl_read.proofs.Telling.{free}
 
 pub new_owner_laws : Lawful new_owner
@@ -36,13 +39,27 @@ unfolding check_body
 check_body_laws =
     seen_laws Check (is_sign 40 ▸ (expression ◂ is_sign 41)) (sign_laws 40 (expression ◂ is_sign 41) (ended_laws 41 expression expression_laws expression_ends_bracket))
 
+keyed_laws : Lawful (columns then key_rest)
+keyed_laws = then_laws columns key_rest columns_laws key_rest_laws (avoids_where columns.goes_on key_rest columns_free)
+
+primary_body_laws : Lawful primary_body
+unfolding primary_body
+primary_body_laws = seen_laws primary_of (is_word (codes "key") ▸ (columns then key_rest)) (word_laws (codes "key") (columns then key_rest) keyed_laws)
+
+unique_body_laws : Lawful unique_body
+unfolding unique_body
+unique_body_laws = seen_laws unique_of (columns then key_rest) keyed_laws
+
 constraint_body_laws : Lawful constraint_body
 unfolding constraint_body
-constraint_body_laws = one_of_laws (record { key = codes "check"; part = check_body }) [] refl check_body_laws
+constraint_body_laws =
+    one_of_laws (record { key = codes "check"; part = check_body })
+    (record { key = codes "primary"; part = primary_body } ∷ record { key = codes "unique"; part = unique_body } ∷ [])
+    refl (check_body_laws, (primary_body_laws, unique_body_laws))
 
 constraint_ends : Apart semicolon constraint_body.goes_on
-unfolding constraint_body check_body
-constraint_ends t e = refl
+unfolding constraint_body check_body primary_body unique_body
+constraint_ends t e = rw (key_rest_ends t e) refl
 
 added_laws : Lawful added
 unfolding added

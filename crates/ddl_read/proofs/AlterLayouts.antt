@@ -35,10 +35,10 @@ column_key = record { word = (refl, refl); utf8 = refl; same = refl }
 -- ---- ADD CONSTRAINT
 
 -- a constraint's name before what it says
-abbrev added_text : List ℕ → List ℕ → List ℕ
+abbrev pub added_text : List ℕ → List ℕ → List ℕ
 added_text n b = (indent ++ codes "ADD") ++ (((32 ∷ []) ++ codes "CONSTRAINT") ++ (((32 ∷ []) ++ written_name n) ++ b))
 
-added_put : (n : List ℕ) (c : Constraint) (b : List ℕ) → IsName n → IsPut (constraint_body ◂ semicolon) c b [] → begins_by parts_words b ≡ true → IsPut own_change (Added n c) (added_text n b) []
+pub added_put : (n : List ℕ) (c : Constraint) (b : List ℕ) → IsName n → IsPut (constraint_body ◂ semicolon) c b [] → begins_by parts_words b ≡ true → IsPut own_change (Added n c) (added_text n b) []
 unfolding own_change added
 added_put n c b is k e =
     let t1 = ((32 ∷ []) ++ written_name n) ++ b in
@@ -68,7 +68,7 @@ added_check_laid_out g q n v gap path_is is value =
     let k3 : IsPut check_body (Check v) t2 (ended.tokens ++ []) = seen_put Check (is_sign 40 ▸ (expression ◂ is_sign 41)) v t2 (ended.tokens ++ []) k2 in
     let t4 = ((32 ∷ []) ++ codes "CHECK") ++ t2 in
     let k4 = word_lead (codes "check") (codes "CHECK") (32 ∷ []) check_body (Check v) t2 (ended.tokens ++ []) check_key space k3 refl in
-    let k5 : IsPut constraint_body (Check v) t4 (ended.tokens ++ []) = put_as (is_word (codes "check") ▸ check_body) constraint_body (Check v) (Check v) t4 (ended.tokens ++ []) k4 (λ ts h. h) in
+    let k5 : IsPut constraint_body (Check v) t4 (ended.tokens ++ []) = put_as (is_word (codes "check") ▸ check_body) constraint_body (Check v) (Check v) t4 (ended.tokens ++ []) k4 (λ ts h. inl h) in
     let t6 = t4 ++ 59 ∷ [] in
     let k6 = close_put constraint_body semicolon (Check v) t4 (59 ∷ []) [] ended k5 in
     let t7 = added_text n t6 in

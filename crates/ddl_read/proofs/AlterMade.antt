@@ -7,15 +7,21 @@ use Rattle.ddl_parts.specs.Parts.{Part, seen, ◌then◌, ◌▸◌, ◌◂◌}
 use Rattle.ddl_parts.specs.Leaves.{name, qualified}
 use Rattle.ddl_parts.specs.Expressions.{expression, default_text}
 use Rattle.ddl_read.specs.declared.alters.Constraint.{Constraint}
-use Rattle.ddl_read.specs.declared.alters.Constraint.TheVariants.{Check}
+use Rattle.ddl_read.specs.declared.alters.Constraint.TheVariants.{Check, Primary, Unique}
 use Rattle.ddl_read.specs.declared.alters.TableChange.{TableChange}
 use Rattle.ddl_read.specs.declared.alters.TableChange.TheVariants.{Owner, Default, Added}
 use Rattle.ddl_read.specs.Clauses.{semicolon, new_owner}
-use Rattle.ddl_read.specs.AlterGrammar.{check_body, constraint_body, added_of, added, default_of, new_default, own_change, table_change, table_changed, only_name, other_name, path_of, other_path, BehindOnly, in_schema, key_word, behind_only, only_changed, altered_table}
-use Rattle.ddl_read.specs.Respelling.{IsPath, IsExpressionText, IsDefaultText, IsWritable}
+use Rattle.ddl_read.specs.AlterGrammar.{check_body, Keyed, primary_of, primary_body, unique_of, unique_body, constraint_body, added_of, added, default_of, new_default, own_change, table_change, table_changed, only_name, other_name, path_of, other_path, BehindOnly, in_schema, key_word, behind_only, only_changed, altered_table}
+use Rattle.ddl_read.specs.Respelling.{IsPath, IsExpressionText, IsDefaultText, AreColumns, IsRest, IsWritable}
+use Rattle.ddl_read.specs.declared.rests.RestSpot.TheVariants.{Begin}
+use Rattle.std.specs.List.{AllByRecursion}
+use Rattle.ddl_parts.specs.Lists.{comma}
+use Rattle.ddl_read.specs.Columns.{more_names, further, names_of, columns}
+use Rattle.ddl_read.specs.Rests.{key_rest}
+use Rattle.ddl_read.proofs.RestTexts.{key_rest_yields}
 use Rattle.ddl_read.proofs.AlterLaws.{only_is, other_is}
 use Rattle.ddl_read.proofs.Defaults.{default_is_read}
-use Rattle.ddl_read.proofs.Yielding.{Yields, then_yields, seen_yields, lead_yields, end_yields, choose_yields, one_of_yields, name_yields, expression_yields, qualified_yields}
+use Rattle.ddl_read.proofs.Yielding.{Yields, then_yields, seen_yields, lead_yields, end_yields, choose_yields, one_of_yields, name_yields, expression_yields, qualified_yields, many_yields}
 
 pub new_owner_yields : Yields IsName new_owner
 unfolding new_owner
@@ -27,6 +33,8 @@ new_owner_yields =
 
 abbrev IsConstraint : Constraint → Type 0
 IsConstraint (Check v) = IsExpressionText v
+IsConstraint (Primary columns rest) = AreColumns columns × IsRest Begin rest
+IsConstraint (Unique columns rest) = AreColumns columns × IsRest Begin rest
 
 abbrev IsChange : TableChange → Type 0
 IsChange (Owner role) = IsName role
@@ -39,9 +47,37 @@ check_body_yields =
     seen_yields IsConstraint Check (is_sign 40 ▸ (expression ◂ is_sign 41))
     (lead_yields IsExpressionText (is_sign 40) (expression ◂ is_sign 41) (end_yields IsExpressionText (is_sign 41) expression expression_yields))
 
+abbrev IsKeyed : Keyed → Type 0
+IsKeyed x = AreColumns x.0 × IsRest Begin x.1
+
+abbrev AreNamed : List ℕ × List (List ℕ) → Type 0
+AreNamed x = IsName x.0 × AllByRecursion IsName x.1
+
+columns_yield : Yields AreColumns columns
+unfolding columns
+columns_yield =
+    lead_yields AreColumns (is_sign 40) (seen names_of (name then further) ◂ is_sign 41)
+    (end_yields AreColumns (is_sign 41) (seen names_of (name then further))
+    (seen_yields AreColumns names_of (name then further)
+    (then_yields IsName (AllByRecursion IsName) name further name_yields (many_yields IsName comma more_names (λ s. lead_yields IsName comma name name_yields)))))
+
+keyed_yields : Yields IsKeyed (columns then key_rest)
+keyed_yields = then_yields AreColumns (IsRest Begin) columns key_rest columns_yield key_rest_yields
+
+primary_body_yields : Yields IsConstraint primary_body
+unfolding primary_body
+primary_body_yields = seen_yields IsConstraint primary_of (is_word (codes "key") ▸ (columns then key_rest)) (lead_yields IsKeyed (is_word (codes "key")) (columns then key_rest) keyed_yields)
+
+unique_body_yields : Yields IsConstraint unique_body
+unfolding unique_body
+unique_body_yields = seen_yields IsConstraint unique_of (columns then key_rest) keyed_yields
+
 constraint_body_yields : Yields IsConstraint constraint_body
 unfolding constraint_body
-constraint_body_yields = one_of_yields IsConstraint (record { key = codes "check"; part = check_body }) [] check_body_yields
+constraint_body_yields =
+    one_of_yields IsConstraint (record { key = codes "check"; part = check_body })
+    (record { key = codes "primary"; part = primary_body } ∷ record { key = codes "unique"; part = unique_body } ∷ [])
+    (check_body_yields, (primary_body_yields, unique_body_yields))
 
 abbrev IsNamed : List ℕ × Constraint → Type 0
 IsNamed x = IsName x.0 × IsConstraint x.1
@@ -80,6 +116,8 @@ changed : (q : QName) (change : TableChange) → IsPath q → IsChange change �
 changed q (Owner role) path is = (path, is)
 changed q (Default n v) path is = (path, is.0, is.1)
 changed q (Added n (Check v)) path is = (path, is.0, is.1)
+changed q (Added n (Primary cs rest)) path is = (path, is.0, is.1.0, is.1.1)
+changed q (Added n (Unique cs rest)) path is = (path, is.0, is.1.0, is.1.1)
 
 -- ---- which table
 

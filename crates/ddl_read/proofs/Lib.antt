@@ -1,6 +1,8 @@
 pub mod Statements
 pub mod Telling
 pub mod TableLaws
+pub mod RestScans
+pub mod ColumnLaws
 pub mod AlterLaws
 pub mod GrammarLaws
 pub mod Closing
@@ -24,6 +26,8 @@ pub mod Yielding
 pub mod Bracketed
 pub mod RelationLayouts
 pub mod Respelled
+pub mod KeyLayouts
+pub mod RestTexts
 pub mod TableMade
 pub mod AlterMade
 pub mod RelationLayouts

@@ -20,3 +20,9 @@ pub record AlterExamples : Type 0 where
   -- NOT NULL may not follow a default, nor a second one
   pub not_null : statements_of (codes "ALTER TABLE a.t ALTER COLUMN b SET DEFAULT 1 NOT NULL;") ≡ Err (Unknown 49)
   pub second : statements_of (codes "ALTER TABLE a.t ALTER COLUMN b SET DEFAULT 1 DEFAULT 2;") ≡ Err (Unknown 45)
+  pub primary : statements_of (codes "ALTER TABLE ONLY a.t ADD CONSTRAINT c PRIMARY KEY (x, y);") ≡ Ok (located (stmt.AddPrimary (record { schema = codes "a"; name = codes "t" }) (codes "c") (codes "x" ∷ codes "y" ∷ []) []) 0 57 ∷ [])
+  -- what follows is kept as it stands
+  pub unique : statements_of (codes "ALTER TABLE a.t ADD CONSTRAINT c UNIQUE (x) DEFERRABLE  initially deferred ;") ≡ Ok (located (stmt.AddUnique (record { schema = codes "a"; name = codes "t" }) (codes "c") (codes "x" ∷ []) (codes "DEFERRABLE  initially deferred")) 0 76 ∷ [])
+  -- a column at least, and INITIALLY takes DEFERRED
+  pub no_column : statements_of (codes "ALTER TABLE a.t ADD CONSTRAINT c UNIQUE ();") ≡ Err (Unknown 41)
+  pub undue : statements_of (codes "ALTER TABLE a.t ADD CONSTRAINT c UNIQUE (x) DEFERRABLE INITIALLY IMMEDIATE;") ≡ Err (Unknown 65)

@@ -10,10 +10,12 @@ use Rattle.ddl_parts.specs.Parts.{Part, one, seen, choose, one_of, ◌then◌, �
 use Rattle.ddl_parts.specs.Leaves.{name, name_value, qualified}
 use Rattle.ddl_parts.specs.Expressions.{expression, default_text}
 use Rattle.ddl_read.specs.declared.alters.Constraint.{Constraint}
-use Rattle.ddl_read.specs.declared.alters.Constraint.TheVariants.{Check}
+use Rattle.ddl_read.specs.declared.alters.Constraint.TheVariants.{Check, Primary, Unique}
 use Rattle.ddl_read.specs.declared.alters.TableChange.{TableChange}
 use Rattle.ddl_read.specs.declared.alters.TableChange.TheVariants.{Owner, Default, Added}
 use Rattle.ddl_read.specs.Clauses.{semicolon, new_owner}
+use Rattle.ddl_read.specs.Columns.{columns}
+use Rattle.ddl_read.specs.Rests.{key_rest}
 
 -- ---- what changes
 
@@ -21,9 +23,29 @@ use Rattle.ddl_read.specs.Clauses.{semicolon, new_owner}
 unfoldable pub check_body : Part Constraint
 check_body = seen Check (is_sign 40 ▸ (expression ◂ is_sign 41))
 
+-- columns of a key, and what follows
+abbrev pub Keyed : Type 0
+Keyed = List (List ℕ) × List ℕ
+
+abbrev pub primary_of : Keyed → Constraint
+primary_of x = Primary x.0 x.1
+
+abbrev pub unique_of : Keyed → Constraint
+unique_of x = Unique x.0 x.1
+
+-- KEY (columns) and what follows
+unfoldable pub primary_body : Part Constraint
+primary_body = seen primary_of (is_word (codes "key") ▸ (columns then key_rest))
+
+-- (columns) and what follows
+unfoldable pub unique_body : Part Constraint
+unique_body = seen unique_of (columns then key_rest)
+
 -- what a constraint says
 unfoldable pub constraint_body : Part Constraint
-constraint_body = one_of (record { key = codes "check"; part = check_body }) []
+constraint_body =
+    one_of (record { key = codes "check"; part = check_body })
+    (record { key = codes "primary"; part = primary_body } ∷ record { key = codes "unique"; part = unique_body } ∷ [])
 
 abbrev pub added_of : List ℕ × Constraint → TableChange
 added_of x = Added x.0 x.1
@@ -50,6 +72,8 @@ table_change = choose (is_word (codes "owner")) (seen Owner new_owner) own_chang
 
 abbrev pub constrained : QName → List ℕ → Constraint → Stmt
 constrained q n (Check text) = stmt.AddCheck q n text
+constrained q n (Primary columns rest) = stmt.AddPrimary q n columns rest
+constrained q n (Unique columns rest) = stmt.AddUnique q n columns rest
 
 abbrev pub table_changed : QName → TableChange → Stmt
 table_changed q (Owner role) = stmt.OwnerTo (owned.Table q) role

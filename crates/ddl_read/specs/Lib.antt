@@ -1,5 +1,7 @@
 pub mod Clauses
 pub mod TableGrammar
+pub mod Columns
+pub mod Rests
 pub mod AlterGrammar
 pub mod RelationGrammar
 pub mod Grammar

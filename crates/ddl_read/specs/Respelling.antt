@@ -19,6 +19,9 @@ use Rattle.ddl_parts.specs.Expressions.{nested}
 use Rattle.ddl_parts.specs.Types.{typing, type_of}
 use Rattle.ddl_write.specs.Spelling.{spelling}
 use Rattle.ddl_read.specs.declared.located.Located.{Located}
+use Rattle.ddl_read.specs.declared.rests.RestSpot.{RestSpot}
+use Rattle.ddl_read.specs.declared.rests.RestSpot.TheVariants.{Begin}
+use Rattle.ddl_read.specs.Rests.{resting}
 use Rattle.ddl_read.specs.Reading.{first_start}
 
 -- both parts of a path are names
@@ -57,6 +60,16 @@ pub record IsTypeText (v : List ℕ) : Type 0 where
   pub run : IsRunText typing v
   pub words : type_of (lexemes v (collected v 0).pieces) ≡ type_name.Words v
 
+-- columns of a key: names, one at least
+abbrev pub AreColumns : List (List ℕ) → Type 0
+AreColumns [] = ⊥
+AreColumns (n ∷ more) = IsName n × AllByRecursion IsName more
+
+-- what may follow the columns of a key, or nothing
+abbrev pub IsRest : RestSpot → List ℕ → Type 0
+IsRest s [] = Unit {0}
+IsRest s (b ∷ rest) = IsRunText (resting s) (b ∷ rest)
+
 -- words that are a type, or a path
 abbrev pub IsType : TypeName → Type 0
 IsType (type_name.Words v) = IsTypeText v
@@ -81,6 +94,8 @@ IsWritable (stmt.CreateEnum q labels) = IsPath q × AllByRecursion IsText labels
 IsWritable (stmt.CreateDomain q base not_null default checks) = IsPath q × IsType base × IsDefault default × AllByRecursion IsCheck checks
 IsWritable (stmt.CreateTable q columns checks) = IsPath q × AllByRecursion IsColumn columns × AllByRecursion IsCheck checks
 IsWritable (stmt.SetDefault q n v) = IsPath q × IsName n × IsDefaultText v
+IsWritable (stmt.AddPrimary q n columns rest) = IsPath q × IsName n × AreColumns columns × IsRest Begin rest
+IsWritable (stmt.AddUnique q n columns rest) = IsPath q × IsName n × AreColumns columns × IsRest Begin rest
 IsWritable (stmt.AddCheck q n v) = IsPath q × IsName n × IsExpressionText v
 IsWritable (stmt.Set n v) = IsName n × IsExpressionText v
 IsWritable (stmt.SetConfig n v) = IsText n × IsText v

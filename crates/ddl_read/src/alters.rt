@@ -3,9 +3,11 @@ ghost use Rattle.std.specs.Prelude.{◌≡◌, drop};
 ghost use Rattle.ddl_parts.specs.Parts.{seen};
 ghost use Rattle.ddl_parts.specs.Pieces.{GivesPart, GivesPlace};
 ghost use Rattle.ddl_read.specs.Clauses.{new_owner};
-ghost use Rattle.ddl_read.specs.AlterGrammar.{check_body, constraint_body, constrained, added, new_default, own_change, table_change, table_changed, only_value, only_name, other_value, other_name, other_path, behind_only, only_changed, altered_table};
+ghost use Rattle.ddl_read.specs.AlterGrammar.{check_body, primary_body, unique_body, constraint_body, constrained, added, new_default, own_change, table_change, table_changed, only_value, only_name, other_value, other_name, other_path, behind_only, only_changed, altered_table};
 
-use cat_model::{Owned, QName, Stmt};
+use crate::columns::columns;
+use crate::rests::key_rest;
+use cat_model::{Items, Owned, QName, Stmt};
 use copy_text::{Name, Text};
 use ddl_parts::{Halt, Pieces, ReadError, qualified_name};
 use std::alloc::Global;
@@ -15,6 +17,10 @@ use std::alloc::Global;
 pub enum Constraint {
     /// CHECK with its expression.
     Check(Text),
+    /// PRIMARY KEY with its columns and what follows them.
+    Primary(Items<Name>, Text),
+    /// UNIQUE with its columns and what follows them.
+    Unique(Items<Name>, Text),
 }
 
 /// What changes of a table.
@@ -59,6 +65,35 @@ fn check_body(
     Ok((Constraint::Check(text), at))
 }
 
+/// The columns of a primary key, and what follows them.
+#[tactic(auto, unfolding(crate::specs::AlterGrammar::primary_body))]
+fn primary_body(
+    alloc: Global,
+    pieces: &Pieces<'_>,
+    at: usize,
+) -> Result<(Constraint, usize), ReadError>
+    ensures { GivesPart pieces.now (λ c. c) result (primary_body.read (drop at pieces.now)) }
+{
+    let at = pieces.word(at, "key")?;
+    let (columns, at) = columns(alloc, pieces, at)?;
+    let (rest, at) = key_rest(alloc, pieces, at)?;
+    Ok((Constraint::Primary(Items::new(columns), rest), at))
+}
+
+/// The columns of a unique constraint, and what follows them.
+#[tactic(auto, unfolding(crate::specs::AlterGrammar::unique_body))]
+fn unique_body(
+    alloc: Global,
+    pieces: &Pieces<'_>,
+    at: usize,
+) -> Result<(Constraint, usize), ReadError>
+    ensures { GivesPart pieces.now (λ c. c) result (unique_body.read (drop at pieces.now)) }
+{
+    let (columns, at) = columns(alloc, pieces, at)?;
+    let (rest, at) = key_rest(alloc, pieces, at)?;
+    Ok((Constraint::Unique(Items::new(columns), rest), at))
+}
+
 /// What a constraint says.
 #[tactic(auto, unfolding(crate::specs::AlterGrammar::constraint_body))]
 fn constraint_body(
@@ -68,8 +103,16 @@ fn constraint_body(
 ) -> Result<(Constraint, usize), ReadError>
     ensures { GivesPart pieces.now (λ c. c) result (constraint_body.read (drop at pieces.now)) }
 {
-    let at = pieces.word(at, "check")?;
-    check_body(alloc, pieces, at)
+    if pieces.is_word(at, "check") {
+        let at = pieces.word(at, "check")?;
+        return check_body(alloc, pieces, at);
+    }
+    if pieces.is_word(at, "primary") {
+        let at = pieces.word(at, "primary")?;
+        return primary_body(alloc, pieces, at);
+    }
+    let at = pieces.word(at, "unique")?;
+    unique_body(alloc, pieces, at)
 }
 
 /// A constraint that is added.
@@ -141,6 +184,18 @@ fn constrained(q: QName, name: Name, constraint: Constraint) -> Stmt
 {
     match constraint {
         Constraint::Check(text) => Stmt::AddCheck { q, name, text },
+        Constraint::Primary(columns, rest) => Stmt::AddPrimary {
+            q,
+            name,
+            columns,
+            rest,
+        },
+        Constraint::Unique(columns, rest) => Stmt::AddUnique {
+            q,
+            name,
+            columns,
+            rest,
+        },
     }
 }
 

@@ -2,12 +2,14 @@
 #![tactic(auto)]
 
 mod alters;
+mod columns;
 mod fault;
 mod kinds;
 pub mod laws;
 mod located;
 mod reading;
 mod relations;
+mod rests;
 mod tables;
 
 pub use fault::{DdlFault, ReadStmtsError};

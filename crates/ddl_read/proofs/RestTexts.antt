@@ -1,0 +1,102 @@
+-- What follows the columns of a key is written with the tokens that it has; and what is read can be written.
+use Rattle.std.proofs.Common.{◌≡◌, ℕ, Bool, true, false, List, [], ◌∷◌, ◌++◌, Option, Some, None, refl, sym, ap, subst, ◌∙◌, eqb-true, inl, inr, ◌⊎◌, codes}
+use Rattle.sql_lex.specs.declared.token.TokenKind.{TokenKind}
+use Rattle.sql_lex.specs.declared.token.TokenKind.TheVariants.{Word, QuotedName, Literal, Number, Sign, MetaLine}
+use Rattle.sql_lex.specs.Meaning.{is_keyword_of}
+use Rattle.ddl_parts.specs.Lexemes.{Lexeme, spelled, source, is_sign, is_sign_kind, is_word}
+use Rattle.ddl_parts.specs.Parts.{nothing, seen, runs_of}
+use Rattle.ddl_write.specs.Keys.{rest_text}
+use Rattle.ddl_read.specs.declared.rests.RestSpot.{RestSpot}
+use Rattle.ddl_read.specs.declared.rests.RestSpot.TheVariants.{Begin, Deferrable, Initially, Ended}
+use Rattle.ddl_read.specs.Grammar.{semicolon}
+use Rattle.ddl_read.specs.Rests.{rest_step, rest_done, resting, key_rest}
+use Rattle.ddl_read.specs.Respelling.{IsRunText, IsRest}
+use Rattle.ddl_read.proofs.Standing.{is_safe_byte, placed}
+use Rattle.ddl_read.proofs.Tokens.{space}
+use Rattle.ddl_read.proofs.RunTexts.{IsPlainMachine, not_some, run_kept, run_read, plain_last}
+use Rattle.ddl_read.proofs.Putting.{begins_by, safe_behind, Follows, IsPut, put_as, nothing_put}
+use Rattle.ddl_read.proofs.Yielding.{Yields}
+
+-- ---- the machine
+
+same_rest_step : (s : RestSpot) (gap : List ℕ) (start : ℕ) (t : Lexeme) → rest_step s (record { gap = gap; kind = t.kind; word = t.word; start = start }) ≡ rest_step s t
+unfolding rest_step is_word
+same_rest_step Begin gap start t = refl
+same_rest_step Deferrable gap start t = refl
+same_rest_step Initially gap start t = refl
+same_rest_step Ended gap start t = refl
+
+-- the step by the kind and the bytes of a token
+abbrev step_of : RestSpot → TokenKind → List ℕ → Option RestSpot
+step_of s kind word = rest_step s (record { gap = []; kind = kind; word = word; start = 0 })
+
+semicolon_none : (s : RestSpot) (word : List ℕ) → step_of s (Sign 59) word ≡ None
+unfolding rest_step is_word is_keyword_of
+semicolon_none Begin word = refl
+semicolon_none Deferrable word = refl
+semicolon_none Initially word = refl
+semicolon_none Ended word = refl
+
+line_none : (s : RestSpot) (word : List ℕ) → step_of s MetaLine word ≡ None
+unfolding rest_step is_word is_keyword_of
+line_none Begin word = refl
+line_none Deferrable word = refl
+line_none Initially word = refl
+line_none Ended word = refl
+
+kind_is : (b : ℕ) (k : TokenKind) → is_sign_kind b k ≡ true → k ≡ Sign b
+kind_is b (Sign c) e = ap Sign (sym (eqb-true b c e))
+kind_is b Word e = absurd cc
+kind_is b QuotedName e = absurd cc
+kind_is b Literal e = absurd cc
+kind_is b Number e = absurd cc
+kind_is b MetaLine e = absurd cc
+
+by_kind : (s : RestSpot) (t : Lexeme) (k : TokenKind) → t.kind ≡ k → step_of s k t.word ≡ None → rest_step s t ≡ None
+by_kind s t k is stops = sym (same_rest_step s [] 0 t) ∙ ap (λ (x : TokenKind). step_of s x t.word) is ∙ stops
+
+no_semicolon : (s x : RestSpot) (t : Lexeme) → rest_step s t ≡ Some x → semicolon t ≡ false
+unfolding is_sign
+no_semicolon s x t e = by (is_sign_kind 59 t.kind) refl
+  where
+    by : (b : Bool) → is_sign_kind 59 t.kind ≡ b → b ≡ false
+    by false is = refl
+    by true is = absurd (not_some x (rest_step s t) e (by_kind s t (Sign 59) (kind_is 59 t.kind is) (semicolon_none s t.word)))
+
+resting_plain : IsPlainMachine (resting Begin)
+unfolding rest_done
+resting_plain = record {
+  ends = no_semicolon;
+  line = λ s x t e is. not_some x (rest_step s t) e (by_kind s t MetaLine is (line_none s t.word));
+  same = same_rest_step;
+  begins = refl;
+}
+
+-- ---- what is written
+
+pub rest_put : (v : List ℕ) (others : List Lexeme) → IsRest Begin v → Follows others → begins_by is_safe_byte (spelled others) ≡ true → IsPut key_rest v (rest_text v) others
+unfolding key_rest
+rest_put [] others is follows e = put_as (nothing (is_word (codes "deferrable")) []) key_rest [] [] [] others (nothing_put (is_word (codes "deferrable")) [] others follows) (λ ts h. inr h)
+rest_put (b ∷ v) others is follows e =
+    let k = run_kept (resting Begin) resting_plain (32 ∷ []) (b ∷ v) others space is follows.stood (safe_behind others e) in
+    record { tokens = k.tokens; bytes = k.bytes; stood = k.stood; spells = λ at. inl (placed at k.tokens, sym (k.whole at), (refl, k.runs at)); last = plain_last k.tokens others k.plain follows.last }
+
+pub rest_safe : (v rest : List ℕ) → begins_by is_safe_byte rest ≡ true → begins_by is_safe_byte (rest_text v ++ rest) ≡ true
+rest_safe [] rest e = e
+rest_safe (b ∷ v) rest e = refl
+
+-- ---- what is read
+
+is_rest : (v : List ℕ) → IsRunText (resting Begin) v → IsRest Begin v
+is_rest [] is = tt
+is_rest (b ∷ v) is = is
+
+pub key_rest_yields : Yields (IsRest Begin) key_rest
+unfolding key_rest
+key_rest_yields v ts r came spells = by spells
+  where
+    by : (seen source (runs_of (resting Begin))).Spells v ts ⊎ (nothing (is_word (codes "deferrable")) []).Spells v ts → IsRest Begin v
+    by (inl h) =
+        let text = (run_read (resting Begin) resting_plain ts r came h.2.1).text in
+        subst (IsRest Begin) (ap source (sym h.2.0) ∙ sym h.1) (is_rest (source ts) text)
+    by (inr h) = subst (IsRest Begin) (sym h.0) tt
