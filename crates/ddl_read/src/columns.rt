@@ -12,11 +12,7 @@ use ddl_parts::{Pieces, ReadError};
 use std::alloc::Global;
 
 /// A comma and a name.
-fn next_name(
-    alloc: Global,
-    pieces: &Pieces<'_>,
-    at: usize,
-) -> Result<(Name, usize), ReadError>
+fn next_name(alloc: Global, pieces: &Pieces<'_>, at: usize) -> Result<(Name, usize), ReadError>
     ensures { GivesPart pieces.now (λ n. n) result ((comma ▸ name).read (drop at pieces.now)) }
 {
     let at = pieces.sign(at, b',')?;
@@ -24,11 +20,7 @@ fn next_name(
 }
 
 /// Names behind the first, each with its comma.
-fn further(
-    alloc: Global,
-    pieces: &Pieces<'_>,
-    from: usize,
-) -> Result<(Vec<Name>, usize), ReadError>
+fn further(alloc: Global, pieces: &Pieces<'_>, from: usize) -> Result<(Vec<Name>, usize), ReadError>
     ensures { GivesPart pieces.now (λ v. v.items) result (further.read (drop from pieces.now)) }
 {
     let mut names = Vec::new(alloc);

@@ -537,6 +537,22 @@ const RELATIONS_2: &[(&str, &str)] = &[
 /// The same of changes of tables.
 const CHANGES: &[(&str, &str)] = &[
     (
+        "ALTER TABLE public.m ADD CONSTRAINT k UNIQUE (y) DEFERRABLE;",
+        "0..60 ALTER TABLE ONLY public.m\n    ADD CONSTRAINT k UNIQUE (y) DEFERRABLE;\n",
+    ),
+    (
+        "ALTER TABLE a.k ADD CONSTRAINT t PRIMARY KEY (y, x);",
+        "0..52 ALTER TABLE ONLY a.k\n    ADD CONSTRAINT t PRIMARY KEY (y, x);\n",
+    ),
+    (
+        "ALTER TABLE a.u ADD CONSTRAINT m UNIQUE (z, y);",
+        "0..47 ALTER TABLE ONLY a.u\n    ADD CONSTRAINT m UNIQUE (z, y);\n",
+    ),
+    (
+        "ALTER TABLE a.u ADD CONSTRAINT m UNIQUE (z,, y);",
+        "Unknown(43)",
+    ),
+    (
         "ALTER TABLE a.u ALTER COLUMN z SET DEFAULT 'm'::public.u;",
         "0..57 ALTER TABLE ONLY a.u ALTER COLUMN z SET DEFAULT 'm'::public.u;\n",
     ),
@@ -557,8 +573,32 @@ const CHANGES: &[(&str, &str)] = &[
         "Unknown(56)",
     ),
     (
+        "ALTER TABLE public.m ADD CONSTRAINT u PRIMARY KEY (y, z);",
+        "0..57 ALTER TABLE ONLY public.m\n    ADD CONSTRAINT u PRIMARY KEY (y, z);\n",
+    ),
+    (
+        "ALTER TABLE public.m ADD CONSTRAINT u PRIMARY KEY (y, ",
+        "Incomplete(54)",
+    ),
+    (
+        "ALTER TABLE public.n ADD CONSTRAINT u UNIQUE (y) DEFERRABLE;",
+        "0..60 ALTER TABLE ONLY public.n\n    ADD CONSTRAINT u UNIQUE (y) DEFERRABLE;\n",
+    ),
+    (
+        "ALTER TABLE public.n ADD CONSTRAINT u UNIQUE (y) DEFERRAB;LE;",
+        "Unknown(49)",
+    ),
+    (
         "ALTER TABLE a.v ADD CONSTRAINT m CHECK (1);",
         "0..43 ALTER TABLE ONLY a.v\n    ADD CONSTRAINT m CHECK (1);\n",
+    ),
+    (
+        "ALTER TABLE public.u ADD CONSTRAINT m PRIMARY KEY (y, x);",
+        "0..57 ALTER TABLE ONLY public.u\n    ADD CONSTRAINT m PRIMARY KEY (y, x);\n",
+    ),
+    (
+        "ALTER TABLE public.u ADD CONSTRAINT m PRIMARY KEY (y, x);;",
+        "0..57 ALTER TABLE ONLY public.u\n    ADD CONSTRAINT m PRIMARY KEY (y, x);\n",
     ),
     (
         "ALTER TABLE a.n ALTER COLUMN z SET DEFAULT (VALUE > 0);",
@@ -569,17 +609,70 @@ const CHANGES: &[(&str, &str)] = &[
         "Unknown(55)",
     ),
     (
+        "ALTER TABLE a.m ADD CONSTRAINT t PRIMARY KEY (x);",
+        "0..49 ALTER TABLE ONLY a.m\n    ADD CONSTRAINT t PRIMARY KEY (x);\n",
+    ),
+    (
+        "ALTER TABLE public.v ADD CONSTRAINT t PRIMARY KEY (z, y);",
+        "0..57 ALTER TABLE ONLY public.v\n    ADD CONSTRAINT t PRIMARY KEY (z, y);\n",
+    ),
+    (
+        "ALTER TABLE public.m ADD CONSTRAINT u UNIQUE (y, z) DEFERRABLE;",
+        "0..63 ALTER TABLE ONLY public.m\n    ADD CONSTRAINT u UNIQUE (y, z) DEFERRABLE;\n",
+    ),
+    (
+        "ALTER TABLE a.v ADD CONSTRAINT k PRIMARY KEY (y);",
+        "0..49 ALTER TABLE ONLY a.v\n    ADD CONSTRAINT k PRIMARY KEY (y);\n",
+    ),
+    (
+        "ALTER TABLE a.t ADD CONSTRAINT m UNIQUE (z) DEFERRABLE;",
+        "0..55 ALTER TABLE ONLY a.t\n    ADD CONSTRAINT m UNIQUE (z) DEFERRABLE;\n",
+    ),
+    (
+        "ALTER TABLE public.u ADD CONSTRAINT u PRIMARY KEY (x, z);",
+        "0..57 ALTER TABLE ONLY public.u\n    ADD CONSTRAINT u PRIMARY KEY (x, z);\n",
+    ),
+    (
+        "ALTER TABLE a.t ADD CONSTRAINT k PRIMARY KEY (y);",
+        "0..49 ALTER TABLE ONLY a.t\n    ADD CONSTRAINT k PRIMARY KEY (y);\n",
+    ),
+    ("ALTER TABLE a.t ADD CONSTRAINT k PRIMARY K", "Unknown(41)"),
+    (
+        "ALTER TABLE a.m ADD CONSTRAINT n UNIQUE (z, y);",
+        "0..47 ALTER TABLE ONLY a.m\n    ADD CONSTRAINT n UNIQUE (z, y);\n",
+    ),
+    (
+        "ALTER TABLE a.u ADD CONSTRAINT n UNIQUE (x);",
+        "0..44 ALTER TABLE ONLY a.u\n    ADD CONSTRAINT n UNIQUE (x);\n",
+    ),
+    (
+        "ALTER TABLE a.m ADD CONSTRAINT u PRIMARY KEY (x);",
+        "0..49 ALTER TABLE ONLY a.m\n    ADD CONSTRAINT u PRIMARY KEY (x);\n",
+    ),
+    (
         "ALTER TABLE public.n ALTER COLUMN z SET DEFAULT nextval('a.u'::regclass);",
         "0..73 ALTER TABLE ONLY public.n ALTER COLUMN z SET DEFAULT nextval('a.u'::regclass);\n",
+    ),
+    (
+        "ALTER TABLE public.u ADD CONSTRAINT u UNIQUE (x, y) DEFERRABLE;",
+        "0..63 ALTER TABLE ONLY public.u\n    ADD CONSTRAINT u UNIQUE (x, y) DEFERRABLE;\n",
     ),
     (
         "ALTER TABLE a.m ALTER COLUMN x SET DEFAULT 1;",
         "0..45 ALTER TABLE ONLY a.m ALTER COLUMN x SET DEFAULT 1;\n",
     ),
     (
+        "ALTER TABLE public.v ADD CONSTRAINT u UNIQUE (z, y);",
+        "0..52 ALTER TABLE ONLY public.v\n    ADD CONSTRAINT u UNIQUE (z, y);\n",
+    ),
+    (
         "ALTER TABLE public.v ADD CONSTRAINT k CHECK ((VALUE > 0));",
         "0..58 ALTER TABLE ONLY public.v\n    ADD CONSTRAINT k CHECK ((VALUE > 0));\n",
     ),
+];
+
+/// The same of changes of tables.
+const CHANGES_2: &[(&str, &str)] = &[
     (
         "ALTER TABLE public.v ADD CONSTRAINT k CHECK ((,VALUE > 0));",
         "0..59 ALTER TABLE ONLY public.v\n    ADD CONSTRAINT k CHECK ((,VALUE > 0));\n",
@@ -589,6 +682,86 @@ const CHANGES: &[(&str, &str)] = &[
         "0..56 ALTER TABLE ONLY public.t ALTER COLUMN x SET DEFAULT E'a\\'b';\n",
     ),
     ("ALTER TABLE public.t ALTER COLUMN x ", "Incomplete(36)"),
+    (
+        "ALTER TABLE a.v ADD CONSTRAINT u UNIQUE (y, x) DEFERRABLE;",
+        "0..58 ALTER TABLE ONLY a.v\n    ADD CONSTRAINT u UNIQUE (y, x) DEFERRABLE;\n",
+    ),
+    (
+        "ALTER TABLE a.v ADD CONSTRAINT u UNIQUE (y, x) DEFERRAB",
+        "Unknown(47)",
+    ),
+    (
+        "ALTER TABLE public.u ADD CONSTRAINT m PRIMARY KEY (x, y);",
+        "0..57 ALTER TABLE ONLY public.u\n    ADD CONSTRAINT m PRIMARY KEY (x, y);\n",
+    ),
+    (
+        "ALTER TABLE public.u ADD CONSTRAINT t PRIMARY KEY (x);",
+        "0..54 ALTER TABLE ONLY public.u\n    ADD CONSTRAINT t PRIMARY KEY (x);\n",
+    ),
+    (
+        "ALTER TABLE public.u ADD CONSTRAINT t PRIMARY KE 7Y (x);",
+        "Unknown(46)",
+    ),
+    (
+        "ALTER TABLE public.n ADD CONSTRAINT v PRIMARY KEY (z);",
+        "0..54 ALTER TABLE ONLY public.n\n    ADD CONSTRAINT v PRIMARY KEY (z);\n",
+    ),
+    (
+        "ALTER TABLE public.m ADD CONSTRAINT u UNIQUE (x);",
+        "0..49 ALTER TABLE ONLY public.m\n    ADD CONSTRAINT u UNIQUE (x);\n",
+    ),
+    (
+        "ALTER TABLE a.t ADD CONSTRAINT k UNIQUE (z);",
+        "0..44 ALTER TABLE ONLY a.t\n    ADD CONSTRAINT k UNIQUE (z);\n",
+    ),
+    (
+        "ALTER TABLE public.v ADD CONSTRAINT n UNIQUE (y) DEFERRABLE;",
+        "0..60 ALTER TABLE ONLY public.v\n    ADD CONSTRAINT n UNIQUE (y) DEFERRABLE;\n",
+    ),
+    (
+        "ALTER TABLE public.v ADD CONSTRAINT n UNIQUE (y) DEFERRABL",
+        "Unknown(49)",
+    ),
+    (
+        "ALTER TABLE public.t ADD CONSTRAINT k UNIQUE (y) DEFERRABLE;",
+        "0..60 ALTER TABLE ONLY public.t\n    ADD CONSTRAINT k UNIQUE (y) DEFERRABLE;\n",
+    ),
+    (
+        "ALTER TABLE public.v ADD CONSTRAINT t PRIMARY KEY (x, y);",
+        "0..57 ALTER TABLE ONLY public.v\n    ADD CONSTRAINT t PRIMARY KEY (x, y);\n",
+    ),
+    (
+        "ALTER TABLE public.u ADD CONSTRAINT k PRIMARY KEY (z);",
+        "0..54 ALTER TABLE ONLY public.u\n    ADD CONSTRAINT k PRIMARY KEY (z);\n",
+    ),
+    (
+        "ALTER TABLE public.u ADD CONSTRAINT ,k PRIMARY KEY (z);",
+        "Unknown(36)",
+    ),
+    (
+        "ALTER TABLE public.m ADD CONSTRAINT t UNIQUE (z) DEFERRABLE;",
+        "0..60 ALTER TABLE ONLY public.m\n    ADD CONSTRAINT t UNIQUE (z) DEFERRABLE;\n",
+    ),
+    (
+        "ALTER TABLE public.m ADD CONSTRAINT t UNIQUE  x(z) DEFERRABLE;",
+        "Unknown(46)",
+    ),
+    (
+        "ALTER TABLE public.k ADD CONSTRAINT u UNIQUE (x);",
+        "0..49 ALTER TABLE ONLY public.k\n    ADD CONSTRAINT u UNIQUE (x);\n",
+    ),
+    (
+        "ALTER TABLE public.k ADD CONSTRAINT u UNIQUE (x); x",
+        "Unknown(50)",
+    ),
+    (
+        "ALTER TABLE public.k ADD CONSTRAINT n PRIMARY KEY (y);",
+        "0..54 ALTER TABLE ONLY public.k\n    ADD CONSTRAINT n PRIMARY KEY (y);\n",
+    ),
+    (
+        "ALTER TABLE public.t ADD CONSTRAINT k PRIMARY KEY (z);",
+        "0..54 ALTER TABLE ONLY public.t\n    ADD CONSTRAINT k PRIMARY KEY (z);\n",
+    ),
     (
         "ALTER TABLE a.u ALTER COLUMN y SET DEFAULT 'm'::a.k;",
         "0..52 ALTER TABLE ONLY a.u ALTER COLUMN y SET DEFAULT 'm'::a.k;\n",
@@ -600,6 +773,18 @@ const CHANGES: &[(&str, &str)] = &[
     (
         "ALTER TABLE a.m ALTER COLUMN y SET DEFAULT (VALUE > 0);",
         "0..55 ALTER TABLE ONLY a.m ALTER COLUMN y SET DEFAULT (VALUE > 0);\n",
+    ),
+    (
+        "ALTER TABLE public.u ADD CONSTRAINT v UNIQUE (z) DEFERRABLE;",
+        "0..60 ALTER TABLE ONLY public.u\n    ADD CONSTRAINT v UNIQUE (z) DEFERRABLE;\n",
+    ),
+    (
+        "ALTER TABLE public.u ADD CONSTRAINT v UNIQUE (z) DEFE",
+        "Unknown(49)",
+    ),
+    (
+        "ALTER TABLE public.m ADD CONSTRAINT m PRIMARY KEY (x);",
+        "0..54 ALTER TABLE ONLY public.m\n    ADD CONSTRAINT m PRIMARY KEY (x);\n",
     ),
 ];
 
@@ -675,6 +860,15 @@ fn views_and_indexes_are_read_2(rt: HostRuntime) -> Result<(), Fail> {
 #[test]
 fn changes_of_tables_are_read(rt: HostRuntime) -> Result<(), Fail> {
     for (text, want) in CHANGES {
+        let got = told(rt.alloc(), text).ok().ok_or("memory")?;
+        assert_eq!(rt; got.as_str(), *want);
+    }
+    Ok(())
+}
+
+#[test]
+fn changes_of_tables_are_read_2(rt: HostRuntime) -> Result<(), Fail> {
+    for (text, want) in CHANGES_2 {
         let got = told(rt.alloc(), text).ok().ok_or("memory")?;
         assert_eq!(rt; got.as_str(), *want);
     }
