@@ -4,9 +4,10 @@ pub mod Lookups
 pub mod Rights
 pub mod Roles
 pub mod Schemas
-pub mod Cluster
+pub mod Kinds
 pub mod Enums
 pub mod Relations
+pub mod Cluster
 pub mod Gives
 pub mod Indexed
 pub mod Grants
