@@ -14,7 +14,10 @@ use Rattle.cat_rows.specs.declared.types.TypeRow.{TypeRow}
 use Rattle.cat_rows.specs.declared.types.EnumRow.{EnumRow}
 use Rattle.cat_rows.specs.declared.relations.ClassRow.{ClassRow}
 use Rattle.cat_rows.specs.declared.sequences.SequenceRow.{SequenceRow}
+use Rattle.cat_rows.specs.declared.relations.AttributeRow.{AttributeRow}
+use Rattle.cat_rows.specs.declared.constraints.ConstraintRow.{ConstraintRow}
 use Rattle.cat_rows.specs.declared.notes.DependRow.{DependRow}
+use Rattle.cat_rows.specs.declared.notes.DescriptionRow.{DescriptionRow}
 use Rattle.cat_rows.specs.Catalogues.{no_rows}
 use Rattle.cat_model.specs.declared.words.What.TheVariants as what
 use Rattle.cat_model.specs.Values.{Bytes}
@@ -25,6 +28,7 @@ use Rattle.cat_names.specs.declared.fault.FaultKind.TheVariants as kind
 use Rattle.cat_names.specs.Cluster.{cluster_fault}
 use Rattle.cat_names.specs.Enums.{labels_fault}
 use Rattle.cat_names.specs.Relations.{relations_fault, depends_fault}
+use Rattle.cat_names.specs.Comments.{comments_fault}
 use Rattle.std.specs.FinMap.{from_entries}
 use Rattle.cat_model.specs.declared.key.Key.TheVariants as key
 use Rattle.cat_model.specs.declared.object.Object.TheVariants as object
@@ -190,3 +194,39 @@ pub record Relations : Type 0 where
   pub serial : depends_found (depend 3 0 1 97) ≡ None
   pub inheritance : depends_found (depend 1 0 2 110) ≡ at_line 1 (kind.OutOfProfile what.Inheritance)
   pub column : depends_found (depend 1 1 2 110) ≡ None
+
+-- ---- comments
+
+abbrev pub column : ℕ → ℕ → Bytes → AttributeRow
+column of number name = record { attrelid = of; attnum = pos number; attname = name; atttypid = 0; typtext = codes "text"; attnotnull = false }
+
+-- a check of a table, or of a domain
+abbrev pub check_of : ℕ → ℕ → ℕ → ConstraintRow
+check_of oid table domain = record { oid = oid; conname = codes "c"; contype = 99; conrelid = table; contypid = domain; conindid = 0; confrelid = 0; condef = codes "CHECK (true)" }
+
+-- a schema 2200, a type 16384, a table 1 and a view 4 with a column each, a sequence 3, checks 7 of the table and 8 of a domain
+abbrev pub with_comments : List DescriptionRow → Catalogue
+with_comments comments = record (with_relations (relation 1 (codes "t") 114 ∷ relation 4 (codes "v") 118 ∷ relation 3 (codes "s") 83 ∷ []) []) {
+  pg_type = status ∷ email ∷ [];
+  pg_attribute = column 1 1 (codes "a") ∷ column 4 1 (codes "a") ∷ [];
+  pg_constraint = check_of 7 1 0 ∷ check_of 8 0 16388 ∷ [];
+  pg_description = comments;
+}
+
+abbrev pub comment : ℕ → ℕ → ℕ → DescriptionRow
+comment class oid number = record { objoid = oid; classoid = class; objsubid = pos number; description = codes "x" }
+
+abbrev pub comments_found : List DescriptionRow → Option LineFault
+comments_found comments = comments_fault (with_comments comments)
+
+pub record Comments : Type 0 where
+  pub on_each : comments_found (comment 2615 2200 0 ∷ comment 1247 16384 0 ∷ comment 1259 1 0 ∷ comment 1259 1 1 ∷ comment 1259 4 0 ∷ comment 1259 3 0 ∷ comment 2606 7 0 ∷ []) ≡ None
+  pub twice : comments_found (comment 1259 1 0 ∷ comment 1259 1 0 ∷ []) ≡ at_line 2 kind.RepeatedName
+  pub of_two_classes : comments_found (comment 2615 2200 0 ∷ comment 1259 2200 0 ∷ []) ≡ at_line 2 kind.Dangling
+  pub no_column : comments_found (comment 1259 1 2 ∷ []) ≡ at_line 1 kind.Dangling
+  pub column_of_view : comments_found (comment 1259 4 1 ∷ []) ≡ at_line 1 (kind.OutOfProfile what.CommentKind)
+  pub no_column_of_view : comments_found (comment 1259 4 2 ∷ []) ≡ at_line 1 kind.Dangling
+  pub column_of_sequence : comments_found (comment 1259 3 1 ∷ []) ≡ at_line 1 kind.Dangling
+  pub column_of_schema : comments_found (comment 2615 2200 1 ∷ []) ≡ at_line 1 kind.Dangling
+  pub of_domain : comments_found (comment 2606 8 0 ∷ []) ≡ at_line 1 (kind.OutOfProfile what.CommentKind)
+  pub other_class : comments_found (comment 1260 10 0 ∷ []) ≡ at_line 1 (kind.OutOfProfile what.CommentKind)

@@ -1,5 +1,5 @@
 -- What a relation is, by its letter and by its oid.
-use Rattle.std.specs.Prelude.{ℕ, Bool, ◌==◌, List, map, Option, Some, None, option_map, if◌then◌else◌}
+use Rattle.std.specs.Prelude.{ℕ, Bool, true, false, ◌==◌, List, map, Option, Some, None, option_map, if◌then◌else◌}
 use Rattle.std.specs.List.{find}
 use Rattle.cat_rows.specs.declared.relations.ClassRow.{ClassRow}
 use Rattle.cat_names.specs.declared.class_index.RelationKind.{RelationKind}
@@ -24,3 +24,15 @@ class_of classes oid = find (λ r. same_oid oid r.oid) classes
 -- what the relation of an oid is; nothing where there is none
 abbrev pub kind_of : List ClassRow → ℕ → Option RelationKind
 kind_of classes oid = option_map (λ r. relation_kind r.relkind) (class_of classes oid)
+
+abbrev pub is_table : Option RelationKind → Bool
+is_table (Some Table) = true
+is_table _ = false
+
+abbrev pub is_view : Option RelationKind → Bool
+is_view (Some View) = true
+is_view _ = false
+
+abbrev pub is_index : Option RelationKind → Bool
+is_index (Some Index) = true
+is_index _ = false

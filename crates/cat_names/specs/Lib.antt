@@ -7,6 +7,8 @@ pub mod Schemas
 pub mod Kinds
 pub mod Enums
 pub mod Relations
+pub mod Comments
+pub mod Rewrites
 pub mod Cluster
 pub mod Gives
 pub mod Indexed

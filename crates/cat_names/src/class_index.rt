@@ -1,7 +1,7 @@
 //! Relations, found by oid, and what they are.
 ghost use Rattle.std.specs.Prelude.{◌≡◌, option_map};
 ghost use Rattle.std.specs.List.{slice_get};
-ghost use Rattle.cat_names.specs.Kinds.{class_oids, class_of, kind_of, relation_kind};
+ghost use Rattle.cat_names.specs.Kinds.{class_oids, class_of, kind_of, relation_kind, is_table, is_view, is_index};
 ghost use Rattle.cat_names.specs.Lookups.{has_oid};
 
 use crate::oid_index::OidIndex;
@@ -32,6 +32,24 @@ pub(crate) fn relation_kind(letter: Letter) -> RelationKind
     }
 }
 
+pub(crate) fn is_table(kind: Option<RelationKind>) -> bool
+    ensures { result ≡ is_table kind }
+{
+    matches!(kind, Some(RelationKind::Table))
+}
+
+pub(crate) fn is_view(kind: Option<RelationKind>) -> bool
+    ensures { result ≡ is_view kind }
+{
+    matches!(kind, Some(RelationKind::View))
+}
+
+pub(crate) fn is_index(kind: Option<RelationKind>) -> bool
+    ensures { result ≡ is_index kind }
+{
+    matches!(kind, Some(RelationKind::Index))
+}
+
 /// The relations of a catalogue, found without going through them. A contract sees the list of their rows.
 #[derive(Drop)]
 pub(crate) struct ClassIndex<'a> {
@@ -58,6 +76,13 @@ impl<'a> ClassIndex<'a> {
         ensures { result ≡ rows.now }
     {
         ClassIndex { rows, oids }
+    }
+
+    /// Whether there is a relation of this oid.
+    pub(crate) fn has(&self, oid: u32) -> bool
+        ensures { result ≡ has_oid (class_oids self.now) oid }
+    {
+        self.oids.has(oid)
     }
 
     /// The first relation of this oid.

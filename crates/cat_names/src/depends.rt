@@ -43,7 +43,11 @@ fn depend_left_out(classes: &ClassIndex<'_>, row: &DependRow) -> Option<What>
     ensures { result ≡ depend_left_out classes.now row.now }
 {
     if row.classid == CLASS_OF_RELATIONS && row.refclassid == CLASS_OF_RELATIONS {
-        dependency_left_out(classes.kind_of(row.objid), classes.kind_of(row.refobjid), row)
+        dependency_left_out(
+            classes.kind_of(row.objid),
+            classes.kind_of(row.refobjid),
+            row,
+        )
     } else {
         None
     }

@@ -3,6 +3,7 @@
 
 mod class_index;
 mod cluster;
+mod comments;
 mod data_set;
 mod depends;
 mod enums;
@@ -12,12 +13,13 @@ pub mod laws;
 mod oid_counts;
 mod oid_index;
 mod relations;
+mod rewrites;
 mod rights;
 mod role_index;
 mod roles;
 mod schemas;
 
-pub use cluster::{check_cluster, check_cluster_and_relations};
+pub use cluster::{check_cluster, check_cluster_and_relations, check_names_and_oids};
 pub use data_set::DataSet;
 pub use fault::{CatFault, CheckError, FaultKind};
 

@@ -20,7 +20,10 @@ use crate::rights::{GrantKind, is_bad_acl, is_by_other};
 use crate::role_index::RoleIndex;
 use crate::roles::go_on;
 use cat_model::What;
-use cat_rows::{Acl, AttributeRow, Catalogue, ClassRow, ConstraintRow, IndexRow, Letter, RewriteRow, SequenceRow};
+use cat_rows::{
+    Acl, AttributeRow, Catalogue, ClassRow, ConstraintRow, IndexRow, Letter, RewriteRow,
+    SequenceRow,
+};
 use copy_text::Name;
 use std::alloc::{AllocError, Global};
 use std::collections::BTreeSet;
@@ -80,7 +83,8 @@ fn constraint_indexes(alloc: Global, rows: &[&ConstraintRow]) -> Result<OidIndex
     OidIndex::of(alloc, &oids)
 }
 
-fn key_index_oids(alloc: Global, cat: &Catalogue) -> Result<OidIndex, AllocError>
+/// The indexes of primary keys and unique constraints.
+pub(crate) fn key_index_oids(alloc: Global, cat: &Catalogue) -> Result<OidIndex, AllocError>
     ensures { IfOk result (λ oids. oids ≡ key_indexes cat.now) }
 {
     let keys = keys(alloc, cat.pg_constraint.as_slice())?;

@@ -24,4 +24,16 @@ returns c = record {
     inheritance = refl;
     column = refl;
   };
+  comments = record {
+    on_each = refl;
+    twice = refl;
+    of_two_classes = refl;
+    no_column = refl;
+    column_of_view = refl;
+    no_column_of_view = refl;
+    column_of_sequence = refl;
+    column_of_schema = refl;
+    of_domain = refl;
+    other_class = refl;
+  };
 }
