@@ -33,6 +33,10 @@ abbrev pub is_view : Option RelationKind → Bool
 is_view (Some View) = true
 is_view _ = false
 
+abbrev pub is_sequence : Option RelationKind → Bool
+is_sequence (Some Sequence) = true
+is_sequence _ = false
+
 abbrev pub is_index : Option RelationKind → Bool
 is_index (Some Index) = true
 is_index _ = false

@@ -1,7 +1,7 @@
 //! Relations, found by oid, and what they are.
 ghost use Rattle.std.specs.Prelude.{◌≡◌, option_map};
 ghost use Rattle.std.specs.List.{slice_get};
-ghost use Rattle.cat_names.specs.Kinds.{class_oids, class_of, kind_of, relation_kind, is_table, is_view, is_index};
+ghost use Rattle.cat_names.specs.Kinds.{class_oids, class_of, kind_of, relation_kind, is_table, is_view, is_sequence, is_index};
 ghost use Rattle.cat_names.specs.Lookups.{has_oid};
 
 use crate::oid_index::OidIndex;
@@ -42,6 +42,12 @@ pub(crate) fn is_view(kind: Option<RelationKind>) -> bool
     ensures { result ≡ is_view kind }
 {
     matches!(kind, Some(RelationKind::View))
+}
+
+pub(crate) fn is_sequence(kind: Option<RelationKind>) -> bool
+    ensures { result ≡ is_sequence kind }
+{
+    matches!(kind, Some(RelationKind::Sequence))
 }
 
 pub(crate) fn is_index(kind: Option<RelationKind>) -> bool

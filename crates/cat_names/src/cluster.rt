@@ -16,6 +16,7 @@ use crate::rewrites::{check_index_oids, check_rewrite_oids};
 use crate::role_index::RoleIndex;
 use crate::roles::{check_databases, check_members, check_roles};
 use crate::schemas::check_schemas;
+use crate::sequences::check_sequence_numbers;
 use cat_rows::{Catalogue, SysTable};
 use std::alloc::Global;
 
@@ -102,8 +103,8 @@ pub fn check_cluster_and_relations(alloc: Global, cat: &Catalogue) -> Result<(),
 }
 
 /// Goes on where the tables of `check_cluster_and_relations` are well-formed and so are the oids of pg_index and
-/// pg_rewrite; else `Fault` is the first fault among these, in the order of the tables. The texts of indexes and views
-/// aren't tried, nor are the other tables.
+/// pg_rewrite and the oids and numbers of pg_sequence; else `Fault` is the first fault among these, in the order of the
+/// tables. The texts of indexes and views and the types of sequences aren't tried, nor are the other tables.
 pub fn check_names_and_oids(alloc: Global, cat: &Catalogue) -> Result<(), CheckError>
     ensures { GivesTable result (names_and_oids_fault cat.now) }
 {
@@ -117,6 +118,10 @@ pub fn check_names_and_oids(alloc: Global, cat: &Catalogue) -> Result<(), CheckE
         check_relations(alloc, cat, &cluster.roles, &cluster.schemas),
     )?;
     at(SysTable::PgIndex, check_index_oids(alloc, cat, &classes))?;
+    at(
+        SysTable::PgSequence,
+        check_sequence_numbers(alloc, cat, &classes),
+    )?;
     at(
         SysTable::PgRewrite,
         check_rewrite_oids(alloc, &classes, cat.pg_rewrite.as_slice()),

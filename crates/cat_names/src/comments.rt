@@ -107,7 +107,11 @@ fn add_column(set: &mut BTreeSet<(u32, i64)>, row: &AttributeRow) -> Result<(), 
     Ok(())
 }
 
-fn column_set(alloc: Global, rows: &[AttributeRow]) -> Result<BTreeSet<(u32, i64)>, AllocError>
+/// The set of the columns, by their relations and numbers.
+pub(crate) fn column_set(
+    alloc: Global,
+    rows: &[AttributeRow],
+) -> Result<BTreeSet<(u32, i64)>, AllocError>
     ensures { IfOk result (λ set. AreKeys column_cmp set (map column rows.now)) }
 {
     let mut set = BTreeSet::new(alloc);

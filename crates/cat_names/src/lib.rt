@@ -18,6 +18,7 @@ mod rights;
 mod role_index;
 mod roles;
 mod schemas;
+mod sequences;
 
 pub use cluster::{check_cluster, check_cluster_and_relations, check_names_and_oids};
 pub use data_set::DataSet;

@@ -1,5 +1,5 @@
-//! A small shop's tables by their lines, and changes to one line of them: what stands in its place, and the first fault,
-//! with its table, line and kind, of the tables that are tried.
+//! A small shop's tables by their lines, and changes to one line of them: what stands in its place, and the first
+//! fault, with its table, line and kind, of the tables that are tried.
 
 use cat_rows::SysTable;
 
@@ -138,7 +138,7 @@ pub(super) type LineChange = (
     (SysTable, u64, &'static str),
 );
 
-pub(super) static LINE_CHANGES: [LineChange; 73] = [
+pub(super) static LINE_CHANGES: [LineChange; 81] = [
     (
         SysTable::PgIndex,
         1,
@@ -174,6 +174,12 @@ pub(super) static LINE_CHANGES: [LineChange; 73] = [
         15,
         b"16412\tstock_pkey\t2200\ti\t10\tp\t{}\n",
         (SysTable::PgClass, 15, "BadText"),
+    ),
+    (
+        SysTable::PgSequence,
+        1,
+        b"16396\tbigint\t-1\t1\t9223372036854775807\t1\t1\tf\t10\tt\t16390\t1\n",
+        (SysTable::PgSequence, 1, "BadText"),
     ),
     (
         SysTable::PgDescription,
@@ -254,6 +260,12 @@ pub(super) static LINE_CHANGES: [LineChange; 73] = [
         (SysTable::PgClass, 4, "Dangling"),
     ),
     (
+        SysTable::PgSequence,
+        4,
+        b"16396\tbigint\t1\t1\t9223372036854775807\t1\t1\tf\t10\tt\t16390\t1\n",
+        (SysTable::PgSequence, 4, "RepeatedOid"),
+    ),
+    (
         SysTable::PgType,
         1,
         b"16399\tstatus\t2200\t10\te\tf\t0\t\t\\N\t{postgres=U/postgres}\n",
@@ -285,6 +297,12 @@ pub(super) static LINE_CHANGES: [LineChange; 73] = [
         (SysTable::PgClass, 17, "OutOfProfile(RelKind)"),
     ),
     (
+        SysTable::PgSequence,
+        3,
+        b"16400\tbigint\t1\t1\t9223372036854775807\t2\t1\tf\t10\tt\t16392\t1\n",
+        (SysTable::PgSequence, 3, "BadText"),
+    ),
+    (
         SysTable::PgClass,
         18,
         b"16418\ttotals\t2200\tv\t10\tm\t\\N\n",
@@ -309,6 +327,12 @@ pub(super) static LINE_CHANGES: [LineChange; 73] = [
         (SysTable::PgClass, 6, "OutOfProfile(Persistence)"),
     ),
     (
+        SysTable::PgSequence,
+        2,
+        b"16398\tbigint\t1\t1\t9223372036854775807\t2\t1\tf\t10\tt\t16391\t1\n",
+        (SysTable::PgSequence, 2, "BadText"),
+    ),
+    (
         SysTable::PgIndex,
         2,
         b"16406\t16393\tf\tCREATE INDEX lines_product ON public.order_lines USING btree (product)\n",
@@ -325,6 +349,12 @@ pub(super) static LINE_CHANGES: [LineChange; 73] = [
         1,
         b"16420\t2200\tf\tCREATE INDEX orders_customer ON public.orders USING btree (customer)\n",
         (SysTable::PgIndex, 1, "Dangling"),
+    ),
+    (
+        SysTable::PgSequence,
+        2,
+        b"16398\tbigint\t1\t1\t9223372036854775807\t1\t1\tf\t-1\tt\t16391\t1\n",
+        (SysTable::PgSequence, 2, "BadText"),
     ),
     (
         SysTable::PgEnum,
@@ -367,6 +397,12 @@ pub(super) static LINE_CHANGES: [LineChange; 73] = [
         4,
         b"16390\t1259\t2\thow to reach\n",
         (SysTable::PgDescription, 4, "RepeatedName"),
+    ),
+    (
+        SysTable::PgSequence,
+        4,
+        b"16400\tbigint\t1\t1\t9223372036854775807\t1\t1\tf\t10\tt\t16392\t1\n",
+        (SysTable::PgSequence, 4, "RepeatedOid"),
     ),
     (
         SysTable::PgIndex,
@@ -436,6 +472,12 @@ pub(super) static LINE_CHANGES: [LineChange; 73] = [
         (SysTable::PgClass, 9, "Dangling"),
     ),
     (
+        SysTable::PgSequence,
+        1,
+        b"16396\tbigint\t1\t1\t9223372036854775807\t1\t1\tf\t10\tt\t16390\t3\n",
+        (SysTable::PgSequence, 1, "Dangling"),
+    ),
+    (
         SysTable::PgConstraint,
         6,
         b"",
@@ -494,6 +536,12 @@ pub(super) static LINE_CHANGES: [LineChange; 73] = [
         1,
         b"16419\t16405\t SELECT o.id FROM public.orders o;\n",
         (SysTable::PgClass, 18, "Dangling"),
+    ),
+    (
+        SysTable::PgSequence,
+        3,
+        b"16400\tbigint\t1\t1\t3\t1\t1\tf\t10\tt\t16392\t1\n",
+        (SysTable::PgSequence, 3, "BadText"),
     ),
     (
         SysTable::PgRewrite,
