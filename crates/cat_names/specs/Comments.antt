@@ -1,6 +1,6 @@
 -- What is wrong with rows of pg_description. A comment is on a schema, a type, a relation, a column or a constraint,
 -- by the system table that the object's row stands in. All its conditions are here.
-use Rattle.std.specs.Prelude.{ℕ, ℤ, Bool, true, false, not, ◌||◌, ◌&&◌, ◌==◌, List, map, Option, Some, None, if◌then◌else◌}
+use Rattle.std.specs.Prelude.{ℕ, ℤ, Bool, true, false, not, ◌&&◌, ◌==◌, List, map, Option, Some, None, if◌then◌else◌}
 use Rattle.std.specs.List.{filter}
 use Rattle.std.specs.declared.cmp.Ordering.{Ordering}
 use Rattle.std.specs.Ordering.{nat_cmp, int_cmp, ordering_then}
@@ -10,7 +10,7 @@ use Rattle.cat_rows.specs.declared.notes.DescriptionRow.{DescriptionRow}
 use Rattle.cat_model.specs.declared.words.What.{What}
 use Rattle.cat_model.specs.declared.words.What.TheVariants as what
 use Rattle.cat_names.specs.declared.class_index.RelationKind.{RelationKind}
-use Rattle.cat_names.specs.declared.class_index.RelationKind.TheVariants.{Table, View, Sequence, Index, Other}
+use Rattle.cat_names.specs.declared.class_index.RelationKind.TheVariants.{Table, View}
 use Rattle.cat_names.specs.declared.comments.CommentClass.{CommentClass}
 use Rattle.cat_names.specs.declared.comments.CommentClass.TheVariants as kind
 use Rattle.cat_names.specs.declared.comments.Commentable.{Commentable}

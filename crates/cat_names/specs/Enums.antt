@@ -1,6 +1,6 @@
 -- What is wrong with rows of pg_enum.
-use Rattle.std.specs.Prelude.{ℕ, ℤ, pos, negsuc, Bool, true, false, not, ◌||◌, ◌&&◌, ◌≤◌, ◌==◌, nat_le, List, map, Option, None}
-use Rattle.std.specs.List.{list_any, filter}
+use Rattle.std.specs.Prelude.{ℕ, ℤ, pos, negsuc, Bool, false, not, ◌||◌, ◌&&◌, ◌==◌, nat_le, List, map, Option, None}
+use Rattle.std.specs.List.{filter}
 use Rattle.std.specs.declared.cmp.Ordering.{Ordering}
 use Rattle.std.specs.Ordering.{nat_cmp, int_cmp, ordering_then}
 use Rattle.cat_rows.specs.declared.types.TypeRow.{TypeRow}

@@ -1,5 +1,5 @@
 -- What a relation is, by its letter and by its oid.
-use Rattle.std.specs.Prelude.{ℕ, Bool, true, false, ◌==◌, List, map, Option, Some, None, option_map, if◌then◌else◌}
+use Rattle.std.specs.Prelude.{ℕ, Bool, true, false, ◌==◌, List, map, Option, Some, option_map, if◌then◌else◌}
 use Rattle.std.specs.List.{find}
 use Rattle.cat_rows.specs.declared.relations.ClassRow.{ClassRow}
 use Rattle.cat_names.specs.declared.class_index.RelationKind.{RelationKind}

@@ -1,6 +1,6 @@
 -- What is wrong with rows of pg_sequence, as far as their oids and numbers show it. That the text of the type names
 -- one, and that the numbers fit it, isn't tried.
-use Rattle.std.specs.Prelude.{ℕ, ℤ, pos, Bool, true, false, not, ◌&&◌, ◌==◌, List, map, Option, None, if◌then◌else◌}
+use Rattle.std.specs.Prelude.{ℤ, pos, Bool, true, false, not, ◌&&◌, ◌==◌, List, map, Option, None, if◌then◌else◌}
 use Rattle.std.specs.Ordering.{int_cmp, is_le}
 use Rattle.cat_rows.specs.declared.catalogue.Catalogue.{Catalogue}
 use Rattle.cat_rows.specs.declared.sequences.SequenceRow.{SequenceRow}

@@ -2,8 +2,6 @@
 use Rattle.std.proofs.Common.{◌≡◌, ◌+◌, take, drop, map, None}
 use Rattle.cat_names.specs.Findings.{first_from}
 use Rattle.cat_names.specs.Sequences.{sequence_number_findings, sequence_numbers_fault}
-use Rattle.cat_names.specs.Comments.{column, column_cmp, column_keys}
-use Rattle.cat_names.specs.Indexed.{AreKeys}
 use Rattle.cat_names.proofs.sequences.check_sequence_numbers.Given as goal
 
 abbrev pub invariant-loop-row : goal.invariant-loop-row

@@ -1,6 +1,5 @@
-use Rattle.std.proofs.Common.{◌≡◌, [], ◌∷◌, ◌++◌, ◌≤◌, ◌+◌, length, ap, sym, subst, ◌∙◌, arith, rules}
-use Rattle.cat_names.specs.Lookups.{count_of}
-use Rattle.cat_names.proofs.Counts.{count_most, counts_push}
+use Rattle.std.proofs.Common.{◌≤◌, length, sym, subst, arith}
+use Rattle.cat_names.proofs.Counts.{count_most}
 use Rattle.cat_names.proofs.oid_counts.OidCounts.push.Goals as goal
 
 pub overflow_add-count : goal.overflow_add-count
