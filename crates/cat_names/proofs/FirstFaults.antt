@@ -7,7 +7,7 @@ use Rattle.cat_names.specs.declared.fault.FaultKind.{FaultKind}
 use Rattle.cat_names.specs.declared.fault.LineFault.{LineFault}
 use Rattle.cat_names.specs.declared.fault.Findings.{Findings}
 use Rattle.cat_names.specs.Findings.{first_kind, fault_or, first_from, first_fault}
-use Rattle.cat_names.specs.Firsts.{AreClean, IsFirstRow, IsFirstFault, IsCleanTable}
+use Rattle.cat_names.specs.Firsts.{IsFirstRow, IsFirstFault, IsCleanTable}
 use Rattle.cat_names.proofs.Steps.{passed, stopped, ended}
 
 inside : {A : Type 0} (x y : A) → Some x ≡ Some y → x ≡ y

@@ -3,3 +3,5 @@ pub mod Mapped
 pub mod Places
 pub mod Items
 pub mod FirstFaults
+pub mod Counts
+pub mod Classes

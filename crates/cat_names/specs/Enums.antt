@@ -1,6 +1,6 @@
 -- What is wrong with rows of pg_enum.
-use Rattle.std.specs.Prelude.{ℕ, ℤ, pos, negsuc, Bool, true, false, not, ◌||◌, ◌&&◌, ◌≤◌, ◌==◌, nat_le, List, [], ◌∷◌, map, length, Option, None}
-use Rattle.std.specs.List.{list_any, filter}
+use Rattle.std.specs.Prelude.{ℕ, ℤ, pos, negsuc, Bool, false, not, ◌||◌, ◌&&◌, ◌==◌, nat_le, List, map, Option, None}
+use Rattle.std.specs.List.{filter}
 use Rattle.std.specs.declared.cmp.Ordering.{Ordering}
 use Rattle.std.specs.Ordering.{nat_cmp, int_cmp, ordering_then}
 use Rattle.cat_rows.specs.declared.types.TypeRow.{TypeRow}
@@ -9,7 +9,7 @@ use Rattle.cat_model.specs.Values.{Bytes, bytes_cmp}
 use Rattle.cat_names.specs.declared.fault.Findings.{Findings}
 use Rattle.cat_names.specs.declared.fault.LineFault.{LineFault}
 use Rattle.cat_names.specs.Findings.{first_fault}
-use Rattle.cat_names.specs.Lookups.{same_oid, has_key, has_oid}
+use Rattle.cat_names.specs.Lookups.{has_key, has_oid, count_of}
 use Rattle.cat_names.specs.Roles.{is_no_oid}
 
 -- the letter of an enum among the types
@@ -35,7 +35,7 @@ place row = (row.enumtypid, row.enumpos)
 
 -- how many of the labels are of a type
 abbrev pub label_count : List EnumRow → ℕ → ℕ
-label_count labels type = length (filter (λ e. same_oid type e.enumtypid) labels)
+label_count labels type = count_of (map (λ e. e.enumtypid) labels) type
 
 -- places run from 1 to the number of the type's labels
 abbrev pub is_place : ℕ → ℤ → Bool

@@ -1,6 +1,6 @@
 -- The grants that a list of rights stands for: by its holders, without the grantors. Null is the default, and the
 -- owner's item stands under OWNER, whoever the owner is.
-use Rattle.std.specs.Prelude.{Bool, true, false, List, [], ◌∷◌, map, Option, Some, None, if◌then◌else◌}
+use Rattle.std.specs.Prelude.{true, List, [], ◌∷◌, map, Option, Some, None, if◌then◌else◌}
 use Rattle.std.specs.FinMap.{from_entries}
 use Rattle.acl_text.specs.declared.rights.Privilege.{Privilege}
 use Rattle.acl_text.specs.declared.rights.Privilege.TheVariants.{Insert, Select, Update, Delete, Truncate, References, Trigger, Usage, Create}

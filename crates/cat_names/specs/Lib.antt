@@ -4,9 +4,13 @@ pub mod Lookups
 pub mod Rights
 pub mod Roles
 pub mod Schemas
-pub mod Cluster
+pub mod Kinds
 pub mod Enums
 pub mod Relations
+pub mod Comments
+pub mod Rewrites
+pub mod Sequences
+pub mod Cluster
 pub mod Gives
 pub mod Indexed
 pub mod Grants

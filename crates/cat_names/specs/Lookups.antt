@@ -1,6 +1,6 @@
 -- How rows are found by their oids and names.
-use Rattle.std.specs.Prelude.{ℕ, suc, Bool, List, [], ◌∷◌, map, Option, Some, None, option_map, if◌then◌else◌}
-use Rattle.std.specs.List.{list_any, slice_get}
+use Rattle.std.specs.Prelude.{ℕ, suc, Bool, List, [], ◌∷◌, map, length, Option, Some, None, option_map, if◌then◌else◌}
+use Rattle.std.specs.List.{list_any, filter, slice_get}
 use Rattle.std.specs.declared.cmp.Ordering.{Ordering}
 use Rattle.std.specs.Ordering.{nat_cmp, eq_by_cmp}
 use Rattle.cat_model.specs.Values.{Bytes, bytes_cmp}
@@ -21,6 +21,10 @@ has_oid = has_key nat_cmp
 
 abbrev pub has_name : List Bytes → Bytes → Bool
 has_name = has_key bytes_cmp
+
+-- how many of these oids are the given one
+abbrev pub count_of : List ℕ → ℕ → ℕ
+count_of oids oid = length (filter (same_oid oid) oids)
 
 abbrev pub role_oids : List AuthidRow → List ℕ
 role_oids roles = map (λ r. r.oid) roles

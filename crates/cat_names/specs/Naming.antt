@@ -1,6 +1,6 @@
 -- The catalogue by names that the tables of roles, memberships, databases and schemas stand for: each row gives its
 -- keys and values, and each oid is replaced by the name of the row that it leads to. No oid is left.
-use Rattle.std.specs.Prelude.{ℕ, Bool, List, [], ◌∷◌, ◌++◌, Option, Some, None}
+use Rattle.std.specs.Prelude.{List, [], ◌∷◌, ◌++◌, Option, Some, None}
 use Rattle.std.specs.List.{flat_map}
 use Rattle.std.specs.FinMap.{from_entries}
 use Rattle.cat_rows.specs.declared.catalogue.Catalogue.{Catalogue}

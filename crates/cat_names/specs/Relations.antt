@@ -1,6 +1,6 @@
 -- What is wrong with rows of pg_class, and of pg_depend.
-use Rattle.std.specs.Prelude.{ℕ, ℤ, pos, negsuc, Bool, true, false, not, ◌||◌, ◌&&◌, ◌==◌, nat_lt, List, [], ◌∷◌, map, length, Option, Some, None, is_some, if◌then◌else◌}
-use Rattle.std.specs.List.{list_any, find, filter}
+use Rattle.std.specs.Prelude.{ℕ, ℤ, pos, negsuc, Bool, true, false, not, ◌||◌, ◌&&◌, ◌==◌, nat_lt, List, map, Option, Some, None, is_some, if◌then◌else◌}
+use Rattle.std.specs.List.{filter}
 use Rattle.std.specs.declared.cmp.Ordering.{Ordering}
 use Rattle.std.specs.Ordering.{nat_cmp, ordering_then}
 use Rattle.acl_text.specs.declared.list.AclItem.{AclItem}
@@ -16,22 +16,14 @@ use Rattle.cat_names.specs.declared.fault.Findings.{Findings}
 use Rattle.cat_names.specs.declared.fault.LineFault.{LineFault}
 use Rattle.cat_names.specs.declared.rights.GrantKind.TheVariants as on
 use Rattle.cat_names.specs.Findings.{first_fault}
-use Rattle.cat_names.specs.Lookups.{same_oid, has_key, has_oid, is_role, role_name}
+use Rattle.cat_names.specs.declared.class_index.RelationKind.{RelationKind}
+use Rattle.cat_names.specs.declared.class_index.RelationKind.TheVariants.{Table, View, Sequence, Index, Other}
+use Rattle.cat_names.specs.declared.relations.OwnRows.{OwnRows}
+use Rattle.cat_names.specs.Kinds.{relation_kind, kind_of, class_oids}
+use Rattle.cat_names.specs.Lookups.{same_oid, has_key, has_oid, count_of, is_role, role_name}
 use Rattle.cat_names.specs.Rights.{is_bad_acl, is_by_other}
 use Rattle.cat_names.specs.Roles.{is_no_oid}
-
--- what a relation is, by its letter
-pub data RelationKind : Type 0 where
-  table view sequence index : RelationKind
-  other : ℕ → RelationKind
-
-abbrev pub relation_kind : ℕ → RelationKind
-relation_kind letter =
-    if letter == 114 then table
-    else if letter == 118 then view
-    else if letter == 83 then sequence
-    else if letter == 105 then index
-    else other letter
+use Rattle.cat_names.specs.Schemas.{schema_oids}
 
 -- a relation's schema and name
 abbrev pub path_cmp : ℕ × Bytes → ℕ × Bytes → Ordering
@@ -50,26 +42,36 @@ key_indexes cat = map (λ c. c.conindid) (filter is_key cat.pg_constraint)
 
 -- each view has a row of pg_rewrite, each sequence one of pg_sequence, each index one of pg_index or a constraint
 abbrev pub has_own_row : Catalogue → RelationKind → ℕ → Bool
-has_own_row cat table oid = true
-has_own_row cat view oid = has_oid (map (λ r. r.ev_class) cat.pg_rewrite) oid
-has_own_row cat sequence oid = has_oid (map (λ s. s.seqrelid) cat.pg_sequence) oid
-has_own_row cat index oid = has_oid (map (λ i. i.indexrelid) cat.pg_index) oid || has_oid (key_indexes cat) oid
-has_own_row cat (other letter) oid = true
+has_own_row cat Table oid = true
+has_own_row cat View oid = has_oid (map (λ r. r.ev_class) cat.pg_rewrite) oid
+has_own_row cat Sequence oid = has_oid (map (λ s. s.seqrelid) cat.pg_sequence) oid
+has_own_row cat Index oid = has_oid (map (λ i. i.indexrelid) cat.pg_index) oid || has_oid (key_indexes cat) oid
+has_own_row cat (Other letter) oid = true
+
+-- what the rows of relations need in other tables: the oids that have such a row, and the relations of the columns
+abbrev pub own_rows : Catalogue → OwnRows
+own_rows cat = record {
+  rewrites = map (λ r. r.ev_class) cat.pg_rewrite;
+  sequences = map (λ s. s.seqrelid) cat.pg_sequence;
+  indexes = map (λ i. i.indexrelid) cat.pg_index;
+  key_indexes = key_indexes cat;
+  columns = map (λ a. a.attrelid) cat.pg_attribute;
+}
 
 -- an index has no rights, not even none
 abbrev pub is_bad_relation_acl : RelationKind → List AuthidRow → Option (List AclItem) → Bool
-is_bad_relation_acl table roles acl = is_bad_acl on.Table roles acl
-is_bad_relation_acl view roles acl = is_bad_acl on.Table roles acl
-is_bad_relation_acl sequence roles acl = is_bad_acl on.Sequence roles acl
-is_bad_relation_acl index roles acl = is_some acl
-is_bad_relation_acl (other letter) roles acl = false
+is_bad_relation_acl Table roles acl = is_bad_acl on.Table roles acl
+is_bad_relation_acl View roles acl = is_bad_acl on.Table roles acl
+is_bad_relation_acl Sequence roles acl = is_bad_acl on.Sequence roles acl
+is_bad_relation_acl Index roles acl = is_some acl
+is_bad_relation_acl (Other letter) roles acl = false
 
 abbrev pub left_out_first : Option What → Option What → Option What
 left_out_first (Some what) later = Some what
 left_out_first None later = later
 
 abbrev pub kind_left_out : RelationKind → Option What
-kind_left_out (other letter) = Some (what.RelKind letter)
+kind_left_out (Other letter) = Some (what.RelKind letter)
 kind_left_out _ = None
 
 -- relations are permanent
@@ -81,13 +83,13 @@ grants_left_out by_other = if by_other then Some what.GrantByOther else None
 
 -- how many columns a relation has
 abbrev pub column_count : Catalogue → ℕ → ℕ
-column_count cat oid = length (filter (λ a. same_oid oid a.attrelid) cat.pg_attribute)
+column_count cat oid = count_of (map (λ a. a.attrelid) cat.pg_attribute) oid
 
 abbrev pub most_columns : ℕ
 most_columns = 1600
 
 abbrev pub columns_left_out : Catalogue → RelationKind → ℕ → Option What
-columns_left_out cat table oid = if nat_lt most_columns (column_count cat oid) then Some what.Columns else None
+columns_left_out cat Table oid = if nat_lt most_columns (column_count cat oid) then Some what.Columns else None
 columns_left_out cat _ oid = None
 
 -- the first of what is left out, in the order of the columns, and the number of columns last
@@ -98,11 +100,15 @@ relation_left_out cat row =
     (left_out_first (grants_left_out (is_by_other (role_name cat.pg_authid row.relowner) row.relacl))
     (columns_left_out cat (relation_kind row.relkind) row.oid)))
 
+-- whether the schema, the owner and the row in another table are there
+abbrev pub is_there : Catalogue → RelationKind → ClassRow → Bool
+is_there cat kind row = has_oid (schema_oids cat.pg_namespace) row.relnamespace && (is_role cat.pg_authid row.relowner && has_own_row cat kind row.oid)
+
 abbrev pub relation_findings : Catalogue → List ClassRow → ClassRow → Findings
 relation_findings cat before row = record {
-  repeated_oid = has_oid (map (λ r. r.oid) before) row.oid;
+  repeated_oid = has_oid (class_oids before) row.oid;
   repeated_name = has_key path_cmp (map path before) (path row);
-  dangling = not (has_oid (map (λ s. s.oid) cat.pg_namespace) row.relnamespace && (is_role cat.pg_authid row.relowner && has_own_row cat (relation_kind row.relkind) row.oid));
+  dangling = not (is_there cat (relation_kind row.relkind) row);
   bad_text = is_no_oid row.oid || is_bad_relation_acl (relation_kind row.relkind) cat.pg_authid row.relacl;
   left_out = relation_left_out cat row;
 }
@@ -111,14 +117,6 @@ abbrev pub relations_fault : Catalogue → Option LineFault
 relations_fault cat = first_fault (relation_findings cat) None cat.pg_class
 
 -- ---- pg_depend
-
--- what the relation of an oid is; nothing where there is none
-abbrev pub kind_or_none : Option ClassRow → Option RelationKind
-kind_or_none (Some row) = Some (relation_kind row.relkind)
-kind_or_none None = None
-
-abbrev pub kind_of : List ClassRow → ℕ → Option RelationKind
-kind_of classes oid = kind_or_none (find (λ r. same_oid oid r.oid) classes)
 
 -- the class of relations among the system tables
 abbrev pub class_of_relations : ℕ
@@ -131,8 +129,8 @@ is_zero (negsuc n) = false
 -- a sequence that belongs to a table by an internal dependency is an identity column's, and a table that depends on
 -- a whole table inherits from it
 abbrev pub dependency_left_out : Option RelationKind → Option RelationKind → ℤ → ℕ → Option What
-dependency_left_out (Some sequence) (Some table) objsubid deptype = if deptype == 105 then Some what.Identity else None
-dependency_left_out (Some table) (Some table) objsubid deptype = if is_zero objsubid then Some what.Inheritance else None
+dependency_left_out (Some Sequence) (Some Table) objsubid deptype = if deptype == 105 then Some what.Identity else None
+dependency_left_out (Some Table) (Some Table) objsubid deptype = if is_zero objsubid then Some what.Inheritance else None
 dependency_left_out _ _ objsubid deptype = None
 
 abbrev pub depend_left_out : List ClassRow → DependRow → Option What

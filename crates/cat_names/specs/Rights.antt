@@ -1,12 +1,11 @@
 -- What is wrong with a list of rights. An item without rights gives nothing, and its names aren't tried.
 -- https://www.postgresql.org/docs/16/ddl-priv.html
-use Rattle.std.specs.Prelude.{Bool, true, false, not, ◌||◌, ◌&&◌, List, [], ◌∷◌, ◌++◌, map, Option, Some, None, if◌then◌else◌}
+use Rattle.std.specs.Prelude.{Bool, true, false, not, ◌||◌, ◌&&◌, List, [], ◌∷◌, ◌++◌, map, Option, Some, None}
 use Rattle.std.specs.List.{list_any, list_all, filter}
 use Rattle.std.specs.declared.cmp.Ordering.{Ordering}
 use Rattle.std.specs.Option.{option_cmp}
 use Rattle.acl_text.specs.declared.rights.Privilege.{Privilege}
-use Rattle.acl_text.specs.declared.rights.Privilege.TheVariants.{Insert, Select, Update, Delete, Truncate, References, Trigger, Usage, Create}
-use Rattle.acl_text.specs.declared.rights.Right.{Right}
+use Rattle.acl_text.specs.declared.rights.Privilege.TheVariants.{Select, Update, Usage, Create}
 use Rattle.acl_text.specs.declared.list.AclItem.{AclItem}
 use Rattle.cat_rows.specs.declared.roles.AuthidRow.{AuthidRow}
 use Rattle.cat_model.specs.Values.{Bytes, bytes_cmp}

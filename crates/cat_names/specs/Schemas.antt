@@ -1,5 +1,5 @@
 -- What is wrong with rows of pg_namespace.
-use Rattle.std.specs.Prelude.{Bool, not, ◌||◌, List, map, Option, Some, None, if◌then◌else◌}
+use Rattle.std.specs.Prelude.{ℕ, Bool, not, ◌||◌, List, map, Option, Some, None, if◌then◌else◌}
 use Rattle.cat_rows.specs.declared.roles.AuthidRow.{AuthidRow}
 use Rattle.cat_rows.specs.declared.schemas.NamespaceRow.{NamespaceRow}
 use Rattle.cat_model.specs.declared.words.What.{What}
@@ -15,6 +15,9 @@ use Rattle.cat_names.specs.Roles.{is_no_oid}
 
 abbrev pub other_left_out : Bool → Option What
 other_left_out by_other = if by_other then Some what.GrantByOther else None
+
+abbrev pub schema_oids : List NamespaceRow → List ℕ
+schema_oids schemas = map (λ s. s.oid) schemas
 
 -- the schemas of the system's own have no rows
 abbrev pub schema_findings : List AuthidRow → List NamespaceRow → NamespaceRow → Findings

@@ -48,6 +48,24 @@ impl OidIndex {
         Ok(first)
     }
 
+    /// These oids.
+    pub(crate) fn of(alloc: Global, oids: &[u32]) -> Result<OidIndex, AllocError>
+        ensures { IfOk result (λ index. index ≡ oids.now) }
+    {
+        let mut index = OidIndex::new(alloc);
+        for oid in oids {
+            index.push(*oid)?;
+        }
+        Ok(index)
+    }
+
+    /// Whether there is such an oid.
+    pub(crate) fn has(&self, oid: u32) -> bool
+        ensures { result ≡ has_oid self.now oid }
+    {
+        self.find(oid).is_some()
+    }
+
     /// The place of the first such oid, counted from 0.
     pub(crate) fn find(&self, oid: u32) -> Option<usize>
         ensures { result ≡ place_of oid self.now }

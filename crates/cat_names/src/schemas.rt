@@ -5,7 +5,7 @@ ghost use Rattle.cat_model.specs.Values.{Bytes, bytes_cmp};
 ghost use Rattle.cat_rows.specs.declared.schemas.NamespaceRow.{NamespaceRow as Schema};
 ghost use Rattle.cat_names.specs.Gives.{GivesLine};
 ghost use Rattle.cat_names.specs.Indexed.{AreKeys};
-ghost use Rattle.cat_names.specs.Schemas.{other_left_out, schema_findings, schemas_fault};
+ghost use Rattle.cat_names.specs.Schemas.{other_left_out, schema_oids, schema_findings, schemas_fault};
 
 use crate::fault::{Findings, LineError};
 use crate::keys::add_key;
@@ -69,7 +69,7 @@ pub(crate) fn check_schemas(
     rows: &[NamespaceRow],
 ) -> Result<OidIndex, LineError>
     ensures fault { GivesLine result (schemas_fault roles.now rows.now) }
-    ensures oids { IfOk result (λ oids. oids ≡ map (λ s. s.oid) rows.now) }
+    ensures oids { IfOk result (λ oids. oids ≡ schema_oids rows.now) }
 {
     let mut oids = OidIndex::new(alloc);
     let mut names = BTreeSet::new(alloc);

@@ -1,4 +1,5 @@
 mod shop;
+mod shop_lines;
 
 use super::*;
 use cat_model::What;
@@ -37,6 +38,9 @@ fn kind_text(kind: &FaultKind) -> &'static str {
         FaultKind::Dangling => "Dangling",
         FaultKind::BadText => "BadText",
         FaultKind::OutOfProfile(What::Encoding) => "OutOfProfile(Encoding)",
+        FaultKind::OutOfProfile(What::RelKind(_)) => "OutOfProfile(RelKind)",
+        FaultKind::OutOfProfile(What::Persistence) => "OutOfProfile(Persistence)",
+        FaultKind::OutOfProfile(What::CommentKind) => "OutOfProfile(CommentKind)",
         FaultKind::OutOfProfile(_) => "OutOfProfile",
     }
 }
@@ -59,6 +63,40 @@ fn changes_to_the_shop_are_found(rt: HostRuntime) -> Result<(), Fail> {
         read_table(rt.alloc(), &mut cat, *table, *text)?;
         let answer = check_cluster(rt.alloc(), &cat);
         assert!(rt; is_due(&answer, due), "of {table:?}");
+    }
+    Ok(())
+}
+
+// The lines of a table, one of them in another form. A line behind the last is one more.
+fn changed_text(
+    alloc: Global,
+    lines: &[&'static [u8]],
+    line: usize,
+    text: &[u8],
+) -> Result<Vec<u8>, Fail> {
+    let mut all = Vec::new(alloc);
+    for (i, old) in lines.iter().enumerate() {
+        let new = if i + 1 == line { text } else { *old };
+        all.extend_from_slice(new)?;
+    }
+    if line > lines.len() {
+        all.extend_from_slice(text)?;
+    }
+    Ok(all)
+}
+
+#[test]
+fn changes_to_lines_of_the_shop_are_found(rt: HostRuntime) -> Result<(), Fail> {
+    for (table, line, text, due) in &shop_lines::LINE_CHANGES {
+        let mut cat = Catalogue::new(rt.alloc());
+        for (name, lines) in &shop_lines::SHOP {
+            let line = if name == table { *line } else { usize::MAX };
+            let new = if name == table { *text } else { b"".as_slice() };
+            let all = changed_text(rt.alloc(), *lines, line, new)?;
+            read_table(rt.alloc(), &mut cat, *name, &all)?;
+        }
+        let answer = check_names_and_oids(rt.alloc(), &cat);
+        assert!(rt; is_due(&answer, &Some(*due)), "of {table:?}");
     }
     Ok(())
 }

@@ -24,4 +24,30 @@ returns c = record {
     inheritance = refl;
     column = refl;
   };
+  comments = record {
+    on_each = refl;
+    twice = refl;
+    of_two_classes = refl;
+    no_column = refl;
+    column_of_view = refl;
+    no_column_of_view = refl;
+    column_of_sequence = refl;
+    column_of_schema = refl;
+    of_domain = refl;
+    other_class = refl;
+  };
+  oids = record {
+    view = refl;
+    view_twice = refl;
+    rewrite_of_table = refl;
+    own_index = refl;
+    key_index = refl;
+    index_on_index = refl;
+    two_sequences = refl;
+    sequence_twice = refl;
+    no_owner = refl;
+    no_step = refl;
+    start_too_low = refl;
+    value_too_high = refl;
+  };
 }

@@ -1,4 +1,4 @@
-use Rattle.std.proofs.Common.{◌≡◌, true, false, ◌||◌, [], map, take, drop, length, ◌+◌, ◌≤◌, sym, ap, subst, ◌∙◌, arith}
+use Rattle.std.proofs.Common.{◌||◌, map, take, drop, length, ◌+◌, ◌≤◌, sym, ap, subst, ◌∙◌, arith}
 use Rattle.std.proofs.lemmas.List.{drop_all}
 use Rattle.cat_names.specs.Indexed.{AreKeys}
 use Rattle.cat_names.specs.Rights.{has_bad_item, grantee_cmp}

@@ -1,13 +1,13 @@
-use Rattle.std.proofs.Common.{◌≡◌, [], ◌∷◌, ◌++◌, ◌+◌, ◌<◌, ◌≤◌, length, map, take, drop, None, sym, ap, subst, ◌∙◌, arith}
+use Rattle.std.proofs.Common.{◌≡◌, [], ◌∷◌, ◌++◌, ◌+◌, ◌≤◌, length, map, take, None, sym, ap, subst, ◌∙◌, arith}
 use Rattle.std.proofs.lemmas.List.{take_all, drop_all}
 use Rattle.std.proofs.lemmas.Result.{err_from_is_err_and}
 use Rattle.cat_rows.specs.declared.schemas.NamespaceRow.{NamespaceRow}
 use Rattle.cat_model.specs.Values.{bytes_cmp}
 use Rattle.cat_names.specs.Findings.{first_kind, fault_or}
-use Rattle.cat_names.specs.Gives.{GivesLine, IsLineDue}
+use Rattle.cat_names.specs.Gives.{IsLineDue}
 use Rattle.cat_names.specs.Indexed.{AreKeys}
 use Rattle.cat_names.specs.Schemas.{schema_findings, schemas_fault}
-use Rattle.cat_names.proofs.Steps.{passed_at, failed_at, ended_at, column_more, any_more}
+use Rattle.cat_names.proofs.Steps.{passed_at, failed_at, ended_at, column_more}
 use Rattle.cat_names.proofs.schemas.check_schemas.Goals as goal
 
 pub returns-in_err-go_on-clause-fault : goal.returns-in_err-go_on-clause-fault

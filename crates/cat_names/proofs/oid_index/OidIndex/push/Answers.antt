@@ -1,5 +1,5 @@
-use Rattle.std.proofs.Common.{◌≡◌, [], ◌∷◌, ◌++◌, not, is_some, ap, sym, ◌∙◌, rules}
-use Rattle.cat_names.specs.Lookups.{has_oid, place_of}
+use Rattle.std.proofs.Common.{◌≡◌, [], ◌∷◌, ◌++◌, not, is_some, ap, ◌∙◌, rules}
+use Rattle.cat_names.specs.Lookups.{has_oid}
 use Rattle.cat_names.proofs.Places.{is_some-place, indexed_push}
 use Rattle.cat_names.proofs.oid_index.OidIndex.push.Goals as goal
 

@@ -1,4 +1,4 @@
-use Rattle.std.proofs.Common.{ap, sym, ◌∙◌, is_some}
+use Rattle.std.proofs.Common.{ap, ◌∙◌, is_some}
 use Rattle.cat_names.specs.Lookups.{has_oid, role_oids}
 use Rattle.cat_names.proofs.Places.{is_some-place}
 use Rattle.cat_names.proofs.role_index.RoleIndex.has.Goals as goal

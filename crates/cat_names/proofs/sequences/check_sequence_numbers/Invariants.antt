@@ -1,0 +1,10 @@
+-- No fault stands in the rows so far, which the oids are of.
+use Rattle.std.proofs.Common.{◌≡◌, ◌+◌, take, drop, map, None}
+use Rattle.cat_names.specs.Findings.{first_from}
+use Rattle.cat_names.specs.Sequences.{sequence_number_findings, sequence_numbers_fault}
+use Rattle.cat_names.proofs.sequences.check_sequence_numbers.Given as goal
+
+abbrev pub invariant-loop-row : goal.invariant-loop-row
+invariant-loop-row l = (sequence_numbers_fault l.cat ≡ first_from (sequence_number_findings l.cat) None (take l.row-index l.rows) (drop l.row-index l.rows))
+    × (l.oids ≡ map (λ r. r.seqrelid) (take l.row-index l.rows))
+    × (l.line ≡ l.row-index + 1)
