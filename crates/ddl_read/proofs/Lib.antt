@@ -30,6 +30,5 @@ pub mod KeyLayouts
 pub mod RestTexts
 pub mod TableMade
 pub mod AlterMade
-pub mod RelationLayouts
 pub mod RelationMade
 pub mod Made

@@ -1,5 +1,5 @@
 -- What follows the columns of a key, token by token.
-use Rattle.std.proofs.Common.{◌≡◌, ℕ, zero, suc, ◌+◌, ◌<◌, ◌≤◌, List, [], ◌∷◌, length, drop, false, Option, Some, None, refl, sym, ap, ◌∙◌, arith}
+use Rattle.std.proofs.Common.{◌≡◌, ℕ, zero, suc, ◌+◌, ◌<◌, ◌≤◌, List, [], ◌∷◌, length, drop, false, Option, refl, sym, ap, ◌∙◌, arith}
 use Rattle.ddl_parts.specs.Lexemes.{Lexeme}
 use Rattle.ddl_read.specs.declared.rests.RestSpot.{RestSpot}
 use Rattle.ddl_read.specs.declared.rests.RestSpot.TheVariants.{Begin, Deferrable, Initially, Ended}

@@ -1,4 +1,4 @@
-use Rattle.std.proofs.Common.{◌≡◌, ℕ, ◌+◌, ◌≤◌, ◌<◌, length, drop, Some, None, refl, sym, ap, ◌∙◌, arith}
+use Rattle.std.proofs.Common.{drop, Some, None, refl, arith}
 use Rattle.ddl_parts.specs.Parts.{scan}
 use Rattle.ddl_parts.proofs.Scanning.{all_left, at_token, at_end, at_stop, none_left}
 use Rattle.ddl_read.specs.declared.rests.RestSpot.TheVariants.{Begin}
