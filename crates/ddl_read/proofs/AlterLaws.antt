@@ -5,6 +5,7 @@ use Rattle.std.proofs.Math.Utf8.{encode}
 use Rattle.sql_lex.specs.declared.token.TokenKind.{TokenKind}
 use Rattle.sql_lex.specs.declared.token.TokenKind.TheVariants.{Word, QuotedName, Literal, Number, Sign, MetaLine}
 use Rattle.sql_lex.specs.Meaning.{is_keyword_of, name_of}
+use Rattle.cat_model.specs.declared.object.QName.{QName}
 use Rattle.ddl_parts.specs.Lexemes.{Lexeme, is_word, is_sign, is_sign_kind}
 use Rattle.ddl_parts.specs.Parts.{Part, seen, ◌then◌, ◌▸◌, ◌◂◌}
 use Rattle.ddl_parts.specs.Laws.{Lawful, Apart, Avoids, Begins}
@@ -21,9 +22,9 @@ use Rattle.ddl_read.specs.declared.alters.Constraint.TheVariants.{Check}
 use Rattle.ddl_read.specs.declared.alters.TableChange.TheVariants.{Owner}
 use Rattle.ddl_read.specs.Clauses.{semicolon, new_owner}
 use Rattle.ddl_read.specs.Columns.{columns}
-use Rattle.ddl_read.specs.Rests.{key_rest}
-use Rattle.ddl_read.proofs.ColumnLaws.{columns_laws, columns_free, avoids_where, key_rest_laws, key_rest_ends}
-use Rattle.ddl_read.specs.AlterGrammar.{check_body, primary_of, primary_body, unique_of, unique_body, constraint_body, added_of, added, default_of, new_default, own_change, table_change, table_changed, only_value, only_name, other_value, other_name, path_of, other_path, in_schema, key_word, behind_only, only_changed, altered_table}
+use Rattle.ddl_read.specs.Rests.{key_rest, foreign_rest}
+use Rattle.ddl_read.proofs.ColumnLaws.{columns_laws, columns_free, avoids_where, key_rest_laws, key_rest_ends, foreign_rest_laws, foreign_rest_ends}
+use Rattle.ddl_read.specs.AlterGrammar.{check_body, Keyed, primary_of, primary_body, unique_of, unique_body, foreign_of, foreign_body, constraint_body, added_of, added, default_of, new_default, own_change, table_change, table_changed, only_value, only_name, other_value, other_name, path_of, other_path, in_schema, key_word, behind_only, only_changed, altered_table}
 use Rattle.ddl_read.proofs.Telling.{free}
 
 pub new_owner_laws : Lawful new_owner
@@ -50,16 +51,32 @@ unique_body_laws : Lawful unique_body
 unfolding unique_body
 unique_body_laws = seen_laws unique_of (columns then key_rest) keyed_laws
 
+abbrev parents : Part (QName × Keyed)
+parents = is_word (codes "references") ▸ (qualified then (columns then foreign_rest))
+
+parents_laws : Lawful parents
+parents_laws =
+    word_laws (codes "references") (qualified then (columns then foreign_rest))
+    (then_laws qualified (columns then foreign_rest) qualified_laws
+    (then_laws columns foreign_rest columns_laws foreign_rest_laws (avoids_where columns.goes_on foreign_rest columns_free))
+    (avoids_never (columns then foreign_rest)))
+
+foreign_body_laws : Lawful foreign_body
+unfolding foreign_body
+foreign_body_laws =
+    seen_laws foreign_of (is_word (codes "key") ▸ (columns then parents))
+    (word_laws (codes "key") (columns then parents) (then_laws columns parents columns_laws parents_laws (avoids_where columns.goes_on parents columns_free)))
+
 constraint_body_laws : Lawful constraint_body
 unfolding constraint_body
 constraint_body_laws =
     one_of_laws (record { key = codes "check"; part = check_body })
-    (record { key = codes "primary"; part = primary_body } ∷ record { key = codes "unique"; part = unique_body } ∷ [])
-    refl (check_body_laws, (primary_body_laws, unique_body_laws))
+    (record { key = codes "primary"; part = primary_body } ∷ record { key = codes "unique"; part = unique_body } ∷ record { key = codes "foreign"; part = foreign_body } ∷ [])
+    refl (check_body_laws, (primary_body_laws, (unique_body_laws, foreign_body_laws)))
 
 constraint_ends : Apart semicolon constraint_body.goes_on
-unfolding constraint_body check_body primary_body unique_body
-constraint_ends t e = rw (key_rest_ends t e) refl
+unfolding constraint_body check_body primary_body unique_body foreign_body
+constraint_ends t e = rw (key_rest_ends t e, foreign_rest_ends t e) refl
 
 added_laws : Lawful added
 unfolding added

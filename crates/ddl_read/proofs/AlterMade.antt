@@ -7,18 +7,18 @@ use Rattle.ddl_parts.specs.Parts.{Part, seen, ◌then◌, ◌▸◌, ◌◂◌}
 use Rattle.ddl_parts.specs.Leaves.{name, qualified}
 use Rattle.ddl_parts.specs.Expressions.{expression, default_text}
 use Rattle.ddl_read.specs.declared.alters.Constraint.{Constraint}
-use Rattle.ddl_read.specs.declared.alters.Constraint.TheVariants.{Check, Primary, Unique}
+use Rattle.ddl_read.specs.declared.alters.Constraint.TheVariants.{Check, Primary, Unique, Foreign as ForeignKey}
 use Rattle.ddl_read.specs.declared.alters.TableChange.{TableChange}
 use Rattle.ddl_read.specs.declared.alters.TableChange.TheVariants.{Owner, Default, Added}
 use Rattle.ddl_read.specs.Clauses.{semicolon, new_owner}
-use Rattle.ddl_read.specs.AlterGrammar.{check_body, Keyed, primary_of, primary_body, unique_of, unique_body, constraint_body, added_of, added, default_of, new_default, own_change, table_change, table_changed, only_name, other_name, path_of, other_path, BehindOnly, in_schema, key_word, behind_only, only_changed, altered_table}
+use Rattle.ddl_read.specs.AlterGrammar.{check_body, Keyed, primary_of, primary_body, unique_of, unique_body, Linked, foreign_of, foreign_body, constraint_body, added_of, added, default_of, new_default, own_change, table_change, table_changed, only_name, other_name, path_of, other_path, BehindOnly, in_schema, key_word, behind_only, only_changed, altered_table}
 use Rattle.ddl_read.specs.Respelling.{IsPath, IsExpressionText, IsDefaultText, AreColumns, IsRest, IsWritable}
-use Rattle.ddl_read.specs.declared.rests.RestSpot.TheVariants.{Begin}
+use Rattle.ddl_read.specs.declared.rests.RestSpot.TheVariants.{Begin, Foreign}
 use Rattle.std.specs.List.{AllByRecursion}
 use Rattle.ddl_parts.specs.Lists.{comma}
 use Rattle.ddl_read.specs.Columns.{more_names, further, names_of, columns}
-use Rattle.ddl_read.specs.Rests.{key_rest}
-use Rattle.ddl_read.proofs.RestTexts.{key_rest_yields}
+use Rattle.ddl_read.specs.Rests.{key_rest, foreign_rest}
+use Rattle.ddl_read.proofs.RestTexts.{key_rest_yields, foreign_rest_yields}
 use Rattle.ddl_read.proofs.AlterLaws.{only_is, other_is}
 use Rattle.ddl_read.proofs.Defaults.{default_is_read}
 use Rattle.ddl_read.proofs.Yielding.{Yields, then_yields, seen_yields, lead_yields, end_yields, choose_yields, one_of_yields, name_yields, expression_yields, qualified_yields, many_yields}
@@ -35,6 +35,7 @@ abbrev IsConstraint : Constraint → Type 0
 IsConstraint (Check v) = IsExpressionText v
 IsConstraint (Primary columns rest) = AreColumns columns × IsRest Begin rest
 IsConstraint (Unique columns rest) = AreColumns columns × IsRest Begin rest
+IsConstraint (ForeignKey columns parent parents rest) = AreColumns columns × (IsPath parent × (AreColumns parents × IsRest Foreign rest))
 
 abbrev IsChange : TableChange → Type 0
 IsChange (Owner role) = IsName role
@@ -72,12 +73,36 @@ unique_body_yields : Yields IsConstraint unique_body
 unfolding unique_body
 unique_body_yields = seen_yields IsConstraint unique_of (columns then key_rest) keyed_yields
 
+abbrev AreParents : Keyed → Type 0
+AreParents x = AreColumns x.0 × IsRest Foreign x.1
+
+abbrev HasParents : QName × Keyed → Type 0
+HasParents x = IsPath x.0 × AreParents x.1
+
+abbrev IsLinked : Linked → Type 0
+IsLinked x = AreColumns x.0 × HasParents x.1
+
+abbrev parents : Part (QName × Keyed)
+parents = is_word (codes "references") ▸ (qualified then (columns then foreign_rest))
+
+parents_yield : Yields HasParents parents
+parents_yield =
+    lead_yields HasParents (is_word (codes "references")) (qualified then (columns then foreign_rest))
+    (then_yields IsPath AreParents qualified (columns then foreign_rest) qualified_yields
+    (then_yields AreColumns (IsRest Foreign) columns foreign_rest columns_yield foreign_rest_yields))
+
+foreign_body_yields : Yields IsConstraint foreign_body
+unfolding foreign_body
+foreign_body_yields =
+    seen_yields IsConstraint foreign_of (is_word (codes "key") ▸ (columns then parents))
+    (lead_yields IsLinked (is_word (codes "key")) (columns then parents) (then_yields AreColumns HasParents columns parents columns_yield parents_yield))
+
 constraint_body_yields : Yields IsConstraint constraint_body
 unfolding constraint_body
 constraint_body_yields =
     one_of_yields IsConstraint (record { key = codes "check"; part = check_body })
-    (record { key = codes "primary"; part = primary_body } ∷ record { key = codes "unique"; part = unique_body } ∷ [])
-    (check_body_yields, (primary_body_yields, unique_body_yields))
+    (record { key = codes "primary"; part = primary_body } ∷ record { key = codes "unique"; part = unique_body } ∷ record { key = codes "foreign"; part = foreign_body } ∷ [])
+    (check_body_yields, (primary_body_yields, (unique_body_yields, foreign_body_yields)))
 
 abbrev IsNamed : List ℕ × Constraint → Type 0
 IsNamed x = IsName x.0 × IsConstraint x.1
@@ -118,6 +143,7 @@ changed q (Default n v) path is = (path, is.0, is.1)
 changed q (Added n (Check v)) path is = (path, is.0, is.1)
 changed q (Added n (Primary cs rest)) path is = (path, is.0, is.1.0, is.1.1)
 changed q (Added n (Unique cs rest)) path is = (path, is.0, is.1.0, is.1.1)
+changed q (Added n (ForeignKey cs parent theirs rest)) path is = (path, is.0, is.1.0, is.1.1.0, is.1.1.1.0, is.1.1.1.1)
 
 -- ---- which table
 

@@ -1,16 +1,46 @@
 -- What follows the columns of a key, token by token.
-use Rattle.std.proofs.Common.{◌≡◌, ℕ, zero, suc, ◌+◌, ◌<◌, ◌≤◌, List, [], ◌∷◌, length, drop, false, Option, refl, sym, ap, ◌∙◌, arith}
+use Rattle.std.proofs.Common.{◌≡◌, ℕ, zero, suc, ◌+◌, ◌<◌, ◌≤◌, Bool, List, [], ◌∷◌, length, drop, false, Option, Some, None, Result, Ok, Err, refl, sym, ap, ◌∙◌, arith}
+use Rattle.std.specs.Option.{ok_or}
 use Rattle.ddl_parts.specs.Lexemes.{Lexeme}
+use Rattle.ddl_parts.specs.Leaves.{name_value}
+use Rattle.ddl_parts.specs.Parts.{first_by}
 use Rattle.ddl_read.specs.declared.rests.RestSpot.{RestSpot}
-use Rattle.ddl_read.specs.declared.rests.RestSpot.TheVariants.{Begin, Deferrable, Initially, Ended}
-use Rattle.ddl_read.specs.Rests.{rest_step, step_first, rest_done}
+use Rattle.ddl_read.specs.declared.rests.RestSpot.TheVariants.{Begin, Deferrable, Initially, Ended, Foreign, FirstOn, Update, UpdateNo, UpdateSet, Updated, SecondOn, Delete, DeleteNo, DeleteSet, Chosen, Opened, Named, Deleted}
+use Rattle.ddl_read.specs.Rests.{if_name, if_read, is_long_by, is_long_read, rest_step, rest_long, step_first, long_first}
 
-pub first_step : (s : RestSpot) (t : Lexeme) (ts : List Lexeme) → step_first s (t ∷ ts) ≡ rest_step s t
+first_name : (r : Result (List ℕ) Bool) (t : Lexeme) (ts : List Lexeme) → if_read (first_by t ts r) Named ≡ if_name r Named
+first_name (Ok n) t ts = refl
+first_name (Err long) t ts = refl
+
+long_name : (r : Result (List ℕ) Bool) (t : Lexeme) (ts : List Lexeme) → is_long_read (first_by t ts r) ≡ is_long_by r
+long_name (Ok n) t ts = refl
+long_name (Err long) t ts = refl
+
+first_step : (s : RestSpot) (t : Lexeme) (ts : List Lexeme) → step_first s (t ∷ ts) ≡ rest_step s t
 unfolding step_first rest_step
 first_step Begin t ts = refl
 first_step Deferrable t ts = refl
 first_step Initially t ts = refl
 first_step Ended t ts = refl
+first_step Foreign t ts = refl
+first_step FirstOn t ts = refl
+first_step Update t ts = refl
+first_step UpdateNo t ts = refl
+first_step UpdateSet t ts = refl
+first_step Updated t ts = refl
+first_step SecondOn t ts = refl
+first_step Delete t ts = refl
+first_step DeleteNo t ts = refl
+first_step DeleteSet t ts = refl
+first_step Chosen t ts = refl
+first_step Opened t ts = first_name (name_value t) t ts
+first_step Named t ts = refl
+first_step Deleted t ts = refl
+
+first_long : (s : RestSpot) (t : Lexeme) (ts : List Lexeme) → long_first s (t ∷ ts) ≡ rest_long s t
+unfolding long_first rest_long
+first_long Opened t ts = long_name (name_value t) t ts
+first_long _ t ts = refl
 
 -- the token at a place before the end
 pub record IsAt (ts : List Lexeme) (at : ℕ) : Type 0 where
@@ -28,10 +58,25 @@ none_behind [] (suc at) low = refl
 none_behind (t ∷ ts) zero low = absurd (omega arith)
 none_behind (t ∷ ts) (suc at) low = none_behind ts at (omega arith)
 
-pub start_undone : rest_done Begin ≡ false
-unfolding rest_done
-start_undone = refl
+abbrev gone : RestSpot → Result RestSpot Bool
+gone s = Ok s
+
+abbrev held : Bool → Result RestSpot Bool
+held long = Err long
+
+goes_by : (next : Option RestSpot) (long : Bool) (x : RestSpot) → gone x ≡ ok_or next long → next ≡ Some x
+goes_by (Some y) long x e = cc
+goes_by None long x e = absurd cc
+
+stays_by : (next : Option RestSpot) (long long' : Bool) → held long' ≡ ok_or next long → (next ≡ None) × (long ≡ long')
+stays_by (Some y) long long' e = absurd cc
+stays_by None long long' e = (refl, cc)
 
 -- the step at a place before the end
-pub steps : (s : RestSpot) (next : Option RestSpot) (ts : List Lexeme) (at : ℕ) (h : IsAt ts at) → next ≡ step_first s (drop at ts) → rest_step s h.token ≡ next
-steps s next ts at h e = sym (first_step s h.token (drop (at + 1) ts)) ∙ ap (step_first s) (sym h.here) ∙ sym e
+pub goes : (s x : RestSpot) (ts : List Lexeme) (at : ℕ) (h : IsAt ts at) → gone x ≡ ok_or (step_first s (drop at ts)) (long_first s (drop at ts)) → rest_step s h.token ≡ Some x
+goes s x ts at h e = sym (first_step s h.token (drop (at + 1) ts)) ∙ ap (step_first s) (sym h.here) ∙ goes_by (step_first s (drop at ts)) (long_first s (drop at ts)) x e
+
+pub stays : (s : RestSpot) (long : Bool) (ts : List Lexeme) (at : ℕ) (h : IsAt ts at) → held long ≡ ok_or (step_first s (drop at ts)) (long_first s (drop at ts)) → (rest_step s h.token ≡ None) × (rest_long s h.token ≡ long)
+stays s long ts at h e =
+    let by = stays_by (step_first s (drop at ts)) (long_first s (drop at ts)) long e in
+    (sym (first_step s h.token (drop (at + 1) ts)) ∙ ap (step_first s) (sym h.here) ∙ by.0, sym (first_long s h.token (drop (at + 1) ts)) ∙ ap (long_first s) (sym h.here) ∙ by.1)

@@ -2,7 +2,7 @@
 use Rattle.std.specs.Prelude.{◌≡◌, [], ◌∷◌, Ok, Err, codes}
 use Rattle.cat_model.specs.declared.grant.Owned.TheVariants as owned
 use Rattle.cat_model.specs.declared.stmt.Stmt.TheVariants as stmt
-use Rattle.ddl_read.specs.declared.fault.DdlFault.TheVariants.{Unknown}
+use Rattle.ddl_read.specs.declared.fault.DdlFault.TheVariants.{Unknown, LongName}
 use Rattle.ddl_read.specs.Reading.{statements_of}
 use Rattle.ddl_read.specs.Examples.{located}
 
@@ -26,3 +26,15 @@ pub record AlterExamples : Type 0 where
   -- a column at least, and INITIALLY takes DEFERRED
   pub no_column : statements_of (codes "ALTER TABLE a.t ADD CONSTRAINT c UNIQUE ();") ≡ Err (Unknown 41)
   pub undue : statements_of (codes "ALTER TABLE a.t ADD CONSTRAINT c UNIQUE (x) DEFERRABLE INITIALLY IMMEDIATE;") ≡ Err (Unknown 65)
+  pub foreign : statements_of (codes "ALTER TABLE ONLY a.t ADD CONSTRAINT c FOREIGN KEY (x, y) REFERENCES b.u(z, w);") ≡ Ok (located (stmt.AddForeign (record { schema = codes "a"; name = codes "t" }) (codes "c") (codes "x" ∷ codes "y" ∷ []) (record { schema = codes "b"; name = codes "u" }) (codes "z" ∷ codes "w" ∷ []) []) 0 78 ∷ [])
+  pub actions : statements_of (codes "ALTER TABLE a.t ADD CONSTRAINT c FOREIGN KEY (x) REFERENCES b.u(y) ON UPDATE CASCADE ON DELETE SET NULL (x) DEFERRABLE INITIALLY DEFERRED;") ≡ Ok (located (stmt.AddForeign (record { schema = codes "a"; name = codes "t" }) (codes "c") (codes "x" ∷ []) (record { schema = codes "b"; name = codes "u" }) (codes "y" ∷ []) (codes "ON UPDATE CASCADE ON DELETE SET NULL (x) DEFERRABLE INITIALLY DEFERRED")) 0 138 ∷ [])
+  pub kept : statements_of (codes "ALTER TABLE a.t ADD CONSTRAINT c FOREIGN KEY (x) REFERENCES b.u(y) on update no action  on delete restrict ;") ≡ Ok (located (stmt.AddForeign (record { schema = codes "a"; name = codes "t" }) (codes "c") (codes "x" ∷ []) (record { schema = codes "b"; name = codes "u" }) (codes "y" ∷ []) (codes "on update no action  on delete restrict")) 0 108 ∷ [])
+  -- ON UPDATE stands before ON DELETE, and each once
+  pub late_update : statements_of (codes "ALTER TABLE a.t ADD CONSTRAINT c FOREIGN KEY (x) REFERENCES b.u(y) ON DELETE CASCADE ON UPDATE CASCADE;") ≡ Err (Unknown 85)
+  pub second_update : statements_of (codes "ALTER TABLE a.t ADD CONSTRAINT c FOREIGN KEY (x) REFERENCES b.u(y) ON UPDATE CASCADE ON UPDATE CASCADE;") ≡ Err (Unknown 88)
+  -- only what ON DELETE sets may be told by columns
+  pub update_columns : statements_of (codes "ALTER TABLE a.t ADD CONSTRAINT c FOREIGN KEY (x) REFERENCES b.u(y) ON UPDATE SET NULL (x);") ≡ Err (Unknown 86)
+  pub no_parents : statements_of (codes "ALTER TABLE a.t ADD CONSTRAINT c FOREIGN KEY (x) REFERENCES b.u;") ≡ Err (Unknown 63)
+  pub no_columns : statements_of (codes "ALTER TABLE a.t ADD CONSTRAINT c FOREIGN KEY REFERENCES b.u(y);") ≡ Err (Unknown 45)
+  -- a name in brackets may be too long too
+  pub long_column : statements_of (codes "ALTER TABLE a.t ADD CONSTRAINT c FOREIGN KEY (x) REFERENCES b.u(y) ON DELETE SET NULL (xxxxxxxxxxxxxxxxxxxxxxxxxxxxxxxxxxxxxxxxxxxxxxxxxxxxxxxxxxxxxxxx);") ≡ Err (LongName 87)

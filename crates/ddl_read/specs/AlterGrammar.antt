@@ -10,12 +10,12 @@ use Rattle.ddl_parts.specs.Parts.{Part, one, seen, choose, one_of, ◌then◌, �
 use Rattle.ddl_parts.specs.Leaves.{name, name_value, qualified}
 use Rattle.ddl_parts.specs.Expressions.{expression, default_text}
 use Rattle.ddl_read.specs.declared.alters.Constraint.{Constraint}
-use Rattle.ddl_read.specs.declared.alters.Constraint.TheVariants.{Check, Primary, Unique}
+use Rattle.ddl_read.specs.declared.alters.Constraint.TheVariants.{Check, Primary, Unique, Foreign}
 use Rattle.ddl_read.specs.declared.alters.TableChange.{TableChange}
 use Rattle.ddl_read.specs.declared.alters.TableChange.TheVariants.{Owner, Default, Added}
 use Rattle.ddl_read.specs.Clauses.{semicolon, new_owner}
 use Rattle.ddl_read.specs.Columns.{columns}
-use Rattle.ddl_read.specs.Rests.{key_rest}
+use Rattle.ddl_read.specs.Rests.{key_rest, foreign_rest}
 
 -- ---- what changes
 
@@ -41,11 +41,24 @@ primary_body = seen primary_of (is_word (codes "key") ▸ (columns then key_rest
 unfoldable pub unique_body : Part Constraint
 unique_body = seen unique_of (columns then key_rest)
 
+-- columns of a foreign key, its parents' path, and theirs with what follows
+abbrev pub Linked : Type 0
+Linked = List (List ℕ) × (QName × Keyed)
+
+abbrev pub foreign_of : Linked → Constraint
+foreign_of x = Foreign x.0 x.1.0 x.1.1.0 x.1.1.1
+
+-- KEY (columns) REFERENCES path (columns) and what follows
+unfoldable pub foreign_body : Part Constraint
+foreign_body =
+    seen foreign_of
+    (is_word (codes "key") ▸ (columns then (is_word (codes "references") ▸ (qualified then (columns then foreign_rest)))))
+
 -- what a constraint says
 unfoldable pub constraint_body : Part Constraint
 constraint_body =
     one_of (record { key = codes "check"; part = check_body })
-    (record { key = codes "primary"; part = primary_body } ∷ record { key = codes "unique"; part = unique_body } ∷ [])
+    (record { key = codes "primary"; part = primary_body } ∷ record { key = codes "unique"; part = unique_body } ∷ record { key = codes "foreign"; part = foreign_body } ∷ [])
 
 abbrev pub added_of : List ℕ × Constraint → TableChange
 added_of x = Added x.0 x.1
@@ -74,6 +87,7 @@ abbrev pub constrained : QName → List ℕ → Constraint → Stmt
 constrained q n (Check text) = stmt.AddCheck q n text
 constrained q n (Primary columns rest) = stmt.AddPrimary q n columns rest
 constrained q n (Unique columns rest) = stmt.AddUnique q n columns rest
+constrained q n (Foreign columns parent parents rest) = stmt.AddForeign q n columns parent parents rest
 
 abbrev pub table_changed : QName → TableChange → Stmt
 table_changed q (Owner role) = stmt.OwnerTo (owned.Table q) role

@@ -20,7 +20,7 @@ use Rattle.ddl_parts.specs.Types.{typing, type_of}
 use Rattle.ddl_write.specs.Spelling.{spelling}
 use Rattle.ddl_read.specs.declared.located.Located.{Located}
 use Rattle.ddl_read.specs.declared.rests.RestSpot.{RestSpot}
-use Rattle.ddl_read.specs.declared.rests.RestSpot.TheVariants.{Begin}
+use Rattle.ddl_read.specs.declared.rests.RestSpot.TheVariants.{Begin, Foreign}
 use Rattle.ddl_read.specs.Rests.{resting}
 use Rattle.ddl_read.specs.Reading.{first_start}
 
@@ -65,7 +65,7 @@ abbrev pub AreColumns : List (List ℕ) → Type 0
 AreColumns [] = ⊥
 AreColumns (n ∷ more) = IsName n × AllByRecursion IsName more
 
--- what may follow the columns of a key, or nothing
+-- what may follow the columns of a key, or those of a foreign key's parents, or nothing
 abbrev pub IsRest : RestSpot → List ℕ → Type 0
 IsRest s [] = Unit {0}
 IsRest s (b ∷ rest) = IsRunText (resting s) (b ∷ rest)
@@ -96,6 +96,7 @@ IsWritable (stmt.CreateTable q columns checks) = IsPath q × AllByRecursion IsCo
 IsWritable (stmt.SetDefault q n v) = IsPath q × IsName n × IsDefaultText v
 IsWritable (stmt.AddPrimary q n columns rest) = IsPath q × IsName n × AreColumns columns × IsRest Begin rest
 IsWritable (stmt.AddUnique q n columns rest) = IsPath q × IsName n × AreColumns columns × IsRest Begin rest
+IsWritable (stmt.AddForeign q n columns parent parents rest) = IsPath q × IsName n × AreColumns columns × IsPath parent × AreColumns parents × IsRest Foreign rest
 IsWritable (stmt.AddCheck q n v) = IsPath q × IsName n × IsExpressionText v
 IsWritable (stmt.Set n v) = IsName n × IsExpressionText v
 IsWritable (stmt.SetConfig n v) = IsText n × IsText v

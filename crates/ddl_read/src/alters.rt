@@ -3,10 +3,10 @@ ghost use Rattle.std.specs.Prelude.{◌≡◌, drop};
 ghost use Rattle.ddl_parts.specs.Parts.{seen};
 ghost use Rattle.ddl_parts.specs.Pieces.{GivesPart, GivesPlace};
 ghost use Rattle.ddl_read.specs.Clauses.{new_owner};
-ghost use Rattle.ddl_read.specs.AlterGrammar.{check_body, primary_body, unique_body, constraint_body, constrained, added, new_default, own_change, table_change, table_changed, only_value, only_name, other_value, other_name, other_path, behind_only, only_changed, altered_table};
+ghost use Rattle.ddl_read.specs.AlterGrammar.{check_body, primary_body, unique_body, foreign_body, constraint_body, constrained, added, new_default, own_change, table_change, table_changed, only_value, only_name, other_value, other_name, other_path, behind_only, only_changed, altered_table};
 
 use crate::columns::columns;
-use crate::rests::key_rest;
+use crate::rests::{foreign_rest, key_rest};
 use cat_model::{Items, Owned, QName, Stmt};
 use copy_text::{Name, Text};
 use ddl_parts::{Halt, Pieces, ReadError, qualified_name};
@@ -21,6 +21,8 @@ pub enum Constraint {
     Primary(Items<Name>, Text),
     /// UNIQUE with its columns and what follows them.
     Unique(Items<Name>, Text),
+    /// FOREIGN KEY with its columns, the table of the parents, their columns and what follows them.
+    Foreign(Items<Name>, QName, Items<Name>, Text),
 }
 
 /// What changes of a table.
@@ -94,6 +96,27 @@ fn unique_body(
     Ok((Constraint::Unique(Items::new(columns), rest), at))
 }
 
+/// The columns of a foreign key, its parents, their columns and what follows them.
+#[tactic(auto, unfolding(crate::specs::AlterGrammar::foreign_body))]
+fn foreign_body(
+    alloc: Global,
+    pieces: &Pieces<'_>,
+    at: usize,
+) -> Result<(Constraint, usize), ReadError>
+    ensures { GivesPart pieces.now (λ c. c) result (foreign_body.read (drop at pieces.now)) }
+{
+    let at = pieces.word(at, "key")?;
+    let (key, at) = columns(alloc, pieces, at)?;
+    let at = pieces.word(at, "references")?;
+    let (parent, at) = qualified_name(alloc, pieces, at)?;
+    let (parents, at) = columns(alloc, pieces, at)?;
+    let (rest, at) = foreign_rest(alloc, pieces, at)?;
+    Ok((
+        Constraint::Foreign(Items::new(key), parent, Items::new(parents), rest),
+        at,
+    ))
+}
+
 /// What a constraint says.
 #[tactic(auto, unfolding(crate::specs::AlterGrammar::constraint_body))]
 fn constraint_body(
@@ -111,8 +134,12 @@ fn constraint_body(
         let at = pieces.word(at, "primary")?;
         return primary_body(alloc, pieces, at);
     }
-    let at = pieces.word(at, "unique")?;
-    unique_body(alloc, pieces, at)
+    if pieces.is_word(at, "unique") {
+        let at = pieces.word(at, "unique")?;
+        return unique_body(alloc, pieces, at);
+    }
+    let at = pieces.word(at, "foreign")?;
+    foreign_body(alloc, pieces, at)
 }
 
 /// A constraint that is added.
@@ -194,6 +221,14 @@ fn constrained(q: QName, name: Name, constraint: Constraint) -> Stmt
             q,
             name,
             columns,
+            rest,
+        },
+        Constraint::Foreign(columns, parent, parent_columns, rest) => Stmt::AddForeign {
+            q,
+            name,
+            columns,
+            parent,
+            parent_columns,
             rest,
         },
     }

@@ -1,15 +1,17 @@
 //! What may follow the columns of a key.
-ghost use Rattle.std.specs.Prelude.{◌≡◌, [], drop, false};
-ghost use Rattle.ddl_read.specs.declared.rests.RestSpot.TheVariants.{Begin};
+ghost use Rattle.std.specs.Prelude.{◌≡◌, ◌≢◌, ◌||◌, [], drop, false, IfOk, codes};
+ghost use Rattle.std.specs.Option.{ok_or};
+ghost use Rattle.ddl_read.specs.declared.rests.RestSpot.TheVariants.{Opened, Deferrable, Deleted};
+ghost use Rattle.ddl_parts.specs.Lexemes.{is_word, is_sign, starts};
 ghost use Rattle.ddl_parts.specs.Parts.{scan};
 ghost use Rattle.ddl_parts.specs.Pieces.{GivesPart, GivesRun, ended};
-ghost use Rattle.ddl_read.specs.Rests.{only_if, step_first, rest_done, resting, key_rest};
+ghost use Rattle.ddl_read.specs.Rests.{only_if, either, action_first, step_first, long_first, rest_done, resting, key_rest, begins_foreign, foreign_rest};
 
 use copy_text::Text;
 use ddl_parts::{Halt, Pieces, ReadError};
-use std::alloc::Global;
+use std::alloc::{AllocError, Global};
 
-/// Where reading what follows the columns of a key stands.
+/// Where reading what follows the columns of a key, or those of a foreign key's parents, stands.
 #[derive(Clone, Copy, Debug, PartialEq, Eq)]
 pub enum RestSpot {
     /// Before its first word.
@@ -20,6 +22,34 @@ pub enum RestSpot {
     Initially,
     /// Behind DEFERRED.
     Ended,
+    /// Before its first word, behind a foreign key.
+    Foreign,
+    /// Behind the first ON.
+    FirstOn,
+    /// Behind ON UPDATE.
+    Update,
+    /// Behind ON UPDATE NO.
+    UpdateNo,
+    /// Behind ON UPDATE SET.
+    UpdateSet,
+    /// Behind the action of ON UPDATE.
+    Updated,
+    /// Behind the ON after it.
+    SecondOn,
+    /// Behind ON DELETE.
+    Delete,
+    /// Behind ON DELETE NO.
+    DeleteNo,
+    /// Behind ON DELETE SET.
+    DeleteSet,
+    /// Behind SET NULL or SET DEFAULT of ON DELETE, which columns in brackets may follow.
+    Chosen,
+    /// Behind the opening bracket, or a comma in it.
+    Opened,
+    /// Behind a column in it.
+    Named,
+    /// Behind the action of ON DELETE.
+    Deleted,
 }
 
 /// The spot behind a token that goes on, or None.
@@ -29,16 +59,172 @@ fn only_if(goes: bool, spot: RestSpot) -> Option<RestSpot>
     if goes { Some(spot) } else { None }
 }
 
-/// The spot behind the token at a place, or None where nothing goes on there.
+/// The spot behind a key word, or None where it doesn't stand at the place.
+fn behind(pieces: &Pieces<'_>, at: usize, key: &str, spot: RestSpot) -> Option<RestSpot>
+    ensures { result ≡ only_if (starts (is_word key.now) (drop at pieces.now)) spot }
+{
+    only_if(pieces.is_word(at, key), spot)
+}
+
+/// The spot behind one of two key words.
+fn behind_either(
+    pieces: &Pieces<'_>,
+    at: usize,
+    key: &str,
+    spot: RestSpot,
+    other: &str,
+    other_spot: RestSpot,
+) -> Option<RestSpot>
+    ensures { result ≡ either (starts (is_word key.now) (drop at pieces.now)) spot (starts (is_word other.now) (drop at pieces.now)) other_spot }
+{
+    if pieces.is_word(at, key) {
+        return Some(spot);
+    }
+    only_if(pieces.is_word(at, other), other_spot)
+}
+
+/// The spot behind the first word of an action: `by_no` behind NO, `by_set` behind SET, `done` behind an action of one word.
+fn behind_action(
+    pieces: &Pieces<'_>,
+    at: usize,
+    by_no: RestSpot,
+    by_set: RestSpot,
+    done: RestSpot,
+) -> Option<RestSpot>
+    ensures { result ≡ action_first by_no by_set done (drop at pieces.now) }
+{
+    if pieces.is_word(at, "no") {
+        return Some(by_no);
+    }
+    if pieces.is_word(at, "set") {
+        return Some(by_set);
+    }
+    only_if(
+        pieces.is_word(at, "cascade") || pieces.is_word(at, "restrict"),
+        done,
+    )
+}
+
+/// The spot behind NULL or DEFAULT.
+fn behind_set(pieces: &Pieces<'_>, at: usize, spot: RestSpot) -> Option<RestSpot>
+    ensures { result ≡ only_if (starts (is_word (codes "null")) (drop at pieces.now) || starts (is_word (codes "default")) (drop at pieces.now)) spot }
+{
+    only_if(
+        pieces.is_word(at, "null") || pieces.is_word(at, "default"),
+        spot,
+    )
+}
+
+/// The spot behind an opening bracket or DEFERRABLE.
+fn behind_chosen(pieces: &Pieces<'_>, at: usize) -> Option<RestSpot>
+    ensures { result ≡ either (starts (is_sign 40) (drop at pieces.now)) Opened (starts (is_word (codes "deferrable")) (drop at pieces.now)) Deferrable }
+{
+    if pieces.is_sign(at, b'(') {
+        return Some(RestSpot::Opened);
+    }
+    only_if(pieces.is_word(at, "deferrable"), RestSpot::Deferrable)
+}
+
+/// The spot behind a comma or a closing bracket.
+fn behind_name(pieces: &Pieces<'_>, at: usize) -> Option<RestSpot>
+    ensures { result ≡ either (starts (is_sign 44) (drop at pieces.now)) Opened (starts (is_sign 41) (drop at pieces.now)) Deleted }
+{
+    if pieces.is_sign(at, b',') {
+        return Some(RestSpot::Opened);
+    }
+    only_if(pieces.is_sign(at, b')'), RestSpot::Deleted)
+}
+
+/// The spot behind the token at a place, where no name is due: None where nothing goes on there.
 #[tactic(auto, unfolding(crate::specs::Rests::step_first))]
-fn step(pieces: &Pieces<'_>, at: usize, spot: RestSpot) -> Option<RestSpot>
+fn word_step(pieces: &Pieces<'_>, at: usize, spot: RestSpot) -> Option<RestSpot>
+    requires { spot ≢ Opened }
     ensures { result ≡ step_first spot (drop at pieces.now) }
 {
     match spot {
-        RestSpot::Begin => only_if(pieces.is_word(at, "deferrable"), RestSpot::Deferrable),
-        RestSpot::Deferrable => only_if(pieces.is_word(at, "initially"), RestSpot::Initially),
-        RestSpot::Initially => only_if(pieces.is_word(at, "deferred"), RestSpot::Ended),
-        RestSpot::Ended => None,
+        RestSpot::Begin | RestSpot::Deleted => {
+            behind(pieces, at, "deferrable", RestSpot::Deferrable)
+        }
+        RestSpot::Deferrable => behind(pieces, at, "initially", RestSpot::Initially),
+        RestSpot::Initially => behind(pieces, at, "deferred", RestSpot::Ended),
+        RestSpot::Foreign => behind_either(
+            pieces,
+            at,
+            "on",
+            RestSpot::FirstOn,
+            "deferrable",
+            RestSpot::Deferrable,
+        ),
+        RestSpot::FirstOn => behind_either(
+            pieces,
+            at,
+            "update",
+            RestSpot::Update,
+            "delete",
+            RestSpot::Delete,
+        ),
+        RestSpot::Update => behind_action(
+            pieces,
+            at,
+            RestSpot::UpdateNo,
+            RestSpot::UpdateSet,
+            RestSpot::Updated,
+        ),
+        RestSpot::UpdateNo => behind(pieces, at, "action", RestSpot::Updated),
+        RestSpot::UpdateSet => behind_set(pieces, at, RestSpot::Updated),
+        RestSpot::Updated => behind_either(
+            pieces,
+            at,
+            "on",
+            RestSpot::SecondOn,
+            "deferrable",
+            RestSpot::Deferrable,
+        ),
+        RestSpot::SecondOn => behind(pieces, at, "delete", RestSpot::Delete),
+        RestSpot::Delete => behind_action(
+            pieces,
+            at,
+            RestSpot::DeleteNo,
+            RestSpot::DeleteSet,
+            RestSpot::Deleted,
+        ),
+        RestSpot::DeleteNo => behind(pieces, at, "action", RestSpot::Deleted),
+        RestSpot::DeleteSet => behind_set(pieces, at, RestSpot::Chosen),
+        RestSpot::Chosen => behind_chosen(pieces, at),
+        RestSpot::Named => behind_name(pieces, at),
+        RestSpot::Ended | RestSpot::Opened => None,
+    }
+}
+
+/// The spot behind a name in brackets. The error is where none stands: whether it is one but for its length.
+#[tactic(auto, unfolding(crate::specs::Rests::step_first, crate::specs::Rests::long_first))]
+fn name_step(
+    alloc: Global,
+    pieces: &Pieces<'_>,
+    at: usize,
+) -> Result<Result<RestSpot, bool>, AllocError>
+    ensures { IfOk result (λ next. next ≡ ok_or (step_first Opened (drop at pieces.now)) (long_first Opened (drop at pieces.now))) }
+{
+    match pieces.name(alloc, at) {
+        Ok(_) => Ok(Ok(RestSpot::Named)),
+        Err(ReadError::Halted(halt)) => Ok(Err(halt.long)),
+        Err(ReadError::Memory) => Err(AllocError),
+    }
+}
+
+/// The spot behind the token at a place. The error is where nothing goes on: whether it is a name there but for its length.
+#[tactic(auto, unfolding(crate::specs::Rests::long_first))]
+fn step(
+    alloc: Global,
+    pieces: &Pieces<'_>,
+    at: usize,
+    spot: RestSpot,
+) -> Result<Result<RestSpot, bool>, AllocError>
+    ensures { IfOk result (λ next. next ≡ ok_or (step_first spot (drop at pieces.now)) (long_first spot (drop at pieces.now))) }
+{
+    match spot {
+        RestSpot::Opened => name_step(alloc, pieces, at),
+        _ => Ok(word_step(pieces, at, spot).ok_or(false)),
     }
 }
 
@@ -47,22 +233,35 @@ fn step(pieces: &Pieces<'_>, at: usize, spot: RestSpot) -> Option<RestSpot>
 fn is_done(spot: RestSpot) -> bool
     ensures { result ≡ rest_done spot }
 {
-    matches!(spot, RestSpot::Deferrable | RestSpot::Ended)
+    matches!(
+        spot,
+        RestSpot::Deferrable
+            | RestSpot::Ended
+            | RestSpot::Updated
+            | RestSpot::Chosen
+            | RestSpot::Deleted
+    )
 }
 
-/// Its end, where it may end.
-fn end_of_rest(spot: RestSpot, at: usize) -> Result<usize, ReadError>
-    ensures { result ≡ ended (rest_done spot) false at }
+/// Its end, where it may end; `long` says that the next token is a name but for its length.
+fn end_of_rest(spot: RestSpot, long: bool, at: usize) -> Result<usize, ReadError>
+    ensures { result ≡ ended (rest_done spot) long at }
 {
     if is_done(spot) {
         return Ok(at);
     }
-    Err(ReadError::Halted(Halt { long: false, at }))
+    Err(ReadError::Halted(Halt { long, at }))
 }
 
-/// The end of what follows from a place on.
-fn rest_end(pieces: &Pieces<'_>, from: usize) -> Result<usize, ReadError>
-    ensures { GivesRun pieces.now from result (scan (resting Begin) Begin (drop from pieces.now)) }
+/// The end of what follows from a place on, behind a key or a foreign key.
+fn rest_end(
+    alloc: Global,
+    pieces: &Pieces<'_>,
+    from: usize,
+    start: RestSpot,
+) -> Result<usize, ReadError>
+    requires { rest_done start ≡ false }
+    ensures { GivesRun pieces.now from result (scan (resting start) start (drop from pieces.now)) }
 {
     if from > pieces.len() {
         return Err(ReadError::Halted(Halt {
@@ -70,16 +269,16 @@ fn rest_end(pieces: &Pieces<'_>, from: usize) -> Result<usize, ReadError>
             at: from,
         }));
     }
-    let mut spot = RestSpot::Begin;
+    let mut spot = start;
     let mut at = from;
     'words: loop {
         if at >= pieces.len() {
-            return end_of_rest(spot, at);
+            return end_of_rest(spot, false, at);
         }
-        let Some(next) = step(pieces, at, spot) else {
-            return end_of_rest(spot, at);
-        };
-        spot = next;
+        match step(alloc, pieces, at, spot)? {
+            Ok(next) => spot = next,
+            Err(long) => return end_of_rest(spot, long, at),
+        }
         at += 1;
     }
 }
@@ -95,7 +294,7 @@ fn no_text(alloc: Global) -> Text
 }
 
 /// What follows the columns of a primary key or a unique constraint, or nothing.
-#[tactic(auto, unfolding(crate::specs::Rests::key_rest))]
+#[tactic(auto, unfolding(crate::specs::Rests::key_rest, crate::specs::Rests::rest_done))]
 pub(crate) fn key_rest(
     alloc: Global,
     pieces: &Pieces<'_>,
@@ -104,7 +303,32 @@ pub(crate) fn key_rest(
     ensures { GivesPart pieces.now (λ t. t) result (key_rest.read (drop at pieces.now)) }
 {
     if pieces.is_word(at, "deferrable") {
-        let end = rest_end(pieces, at)?;
+        let end = rest_end(alloc, pieces, at, RestSpot::Begin)?;
+        let text = pieces.source(alloc, at, end)?;
+        return Ok((text, end));
+    }
+    Ok((no_text(alloc), at))
+}
+
+/// Whether something follows the columns of a foreign key's parents.
+#[tactic(auto, unfolding(crate::specs::Rests::begins_foreign))]
+fn begins_foreign(pieces: &Pieces<'_>, at: usize) -> bool
+    ensures { result ≡ starts begins_foreign (drop at pieces.now) }
+{
+    pieces.is_word(at, "on") || pieces.is_word(at, "deferrable")
+}
+
+/// What follows the columns of a foreign key's parents, or nothing.
+#[tactic(auto, unfolding(crate::specs::Rests::foreign_rest, crate::specs::Rests::rest_done))]
+pub(crate) fn foreign_rest(
+    alloc: Global,
+    pieces: &Pieces<'_>,
+    at: usize,
+) -> Result<(Text, usize), ReadError>
+    ensures { GivesPart pieces.now (λ t. t) result (foreign_rest.read (drop at pieces.now)) }
+{
+    if begins_foreign(pieces, at) {
+        let end = rest_end(alloc, pieces, at, RestSpot::Foreign)?;
         let text = pieces.source(alloc, at, end)?;
         return Ok((text, end));
     }

@@ -1,31 +1,31 @@
-use Rattle.std.proofs.Common.{drop, Some, None, refl, arith}
+use Rattle.std.proofs.Common.{drop, sym, refl, arith}
 use Rattle.ddl_parts.specs.Parts.{scan}
 use Rattle.ddl_parts.proofs.Scanning.{all_left, at_token, at_end, at_stop, none_left}
-use Rattle.ddl_read.specs.declared.rests.RestSpot.TheVariants.{Begin}
 use Rattle.ddl_read.specs.Rests.{rest_done, resting}
-use Rattle.ddl_read.proofs.RestScans.{token_at, none_behind, start_undone, steps}
+use Rattle.ddl_read.proofs.RestScans.{token_at, none_behind, goes, stays}
 use Rattle.ddl_read.proofs.rests.rest_end.Goals as goal
 
 pub returns-then-from-len : goal.returns-then-from-len
 returns-then-from-len c =
-    none_left (resting Begin) c.args.pieces.now c.args.from start_undone (omega (arith, c.if-from-len.true, c.len.ensures))
+    none_left (resting c.args.start) c.args.pieces.now c.args.from c.requires (omega (arith, c.if-from-len.true, c.len.ensures))
 
 pub words-init : goal.words-init
-words-init c = all_left (resting Begin) c.args.pieces.now c.args.from (omega (arith, c.if-from-len.false, c.len.ensures))
+words-init c = all_left (resting c.args.start) c.args.pieces.now c.args.from (omega (arith, c.if-from-len.false, c.len.ensures))
 
 pub returns-then-at-len : goal.returns-then-at-len
 returns-then-at-len c =
     let ts = c.args.pieces.now in
-    rw c.end_of_rest.ensures (at_end (resting Begin) (scan (resting Begin) Begin (drop c.args.from ts)) ts c.args.from c.words.at c.words.spot (rest_done c.words.spot) c.words.invariant (none_behind ts c.words.at (omega (arith, c.if-at-len.true, c.len-in-words.ensures))) refl)
+    rw c.end_of_rest.ensures (at_end (resting c.args.start) (scan (resting c.args.start) c.args.start (drop c.args.from ts)) ts c.args.from c.words.at c.words.spot (rest_done c.words.spot) c.words.invariant (none_behind ts c.words.at (omega (arith, c.if-at-len.true, c.len-in-words.ensures))) refl)
 
-pub returns-in_default : goal.returns-in_default
-returns-in_default c =
+pub returns-in-Err : goal.returns-in-Err
+returns-in-Err c =
     let ts = c.args.pieces.now in
     let h = token_at ts c.words.at (omega (arith, c.if-at-len.false, c.len-in-words.ensures)) in
-    rw c.end_of_rest-in_default.ensures (at_stop (resting Begin) (scan (resting Begin) Begin (drop c.args.from ts)) ts c.args.from c.words.at c.words.spot h.token (rest_done c.words.spot) c.words.invariant h.here (steps c.words.spot None ts c.words.at h c.in_default.ensures) refl)
+    let held = stays c.words.spot c.in-Err.long ts c.words.at h (rw c.in-Err.is at c.in_ok-next.ensures) in
+    rw (c.end_of_rest-in-Err.ensures, sym held.1) (at_stop (resting c.args.start) (scan (resting c.args.start) c.args.start (drop c.args.from ts)) ts c.args.from c.words.at c.words.spot h.token (rest_done c.words.spot) c.words.invariant h.here held.0 refl)
 
 pub words-preserved : goal.words-preserved
 words-preserved c =
     let ts = c.args.pieces.now in
     let h = token_at ts c.words.at (omega (arith, c.if-at-len.false, c.len-in-words.ensures)) in
-    at_token (resting Begin) (scan (resting Begin) Begin (drop c.args.from ts)) ts c.args.from c.words.at c.words.spot c.in-Some.next h.token c.words.invariant h.here (steps c.words.spot (Some c.in-Some.next) ts c.words.at h c.in-Some.ensures)
+    at_token (resting c.args.start) (scan (resting c.args.start) c.args.start (drop c.args.from ts)) ts c.args.from c.words.at c.words.spot c.in-Ok.next h.token c.words.invariant h.here (goes c.words.spot c.in-Ok.next ts c.words.at h (rw c.in-Ok.is at c.in_ok-next.ensures))

@@ -1,13 +1,12 @@
 use Rattle.std.proofs.Common.{◌-◌, length, drop}
 use Rattle.ddl_parts.specs.Parts.{scan}
 use Rattle.ddl_parts.proofs.Scanning.{IsLeft}
-use Rattle.ddl_read.specs.declared.rests.RestSpot.TheVariants.{Begin}
 use Rattle.ddl_read.specs.Rests.{resting}
 use Rattle.ddl_read.proofs.rests.rest_end.Given as goal
 
 -- the tokens so far and those behind the place are what follows
 abbrev pub invariant-words : goal.invariant-words
-invariant-words l = IsLeft (resting Begin) (scan (resting Begin) Begin (drop l.from l.pieces)) l.pieces l.from l.at l.spot
+invariant-words l = IsLeft (resting l.fn.start) (scan (resting l.fn.start) l.fn.start (drop l.from l.pieces)) l.pieces l.from l.at l.spot
 
 abbrev pub decreases-words : goal.decreases-words
 decreases-words l = length l.pieces - l.at
