@@ -1,9 +1,9 @@
 -- The parts of one token with a value, and names of two parts.
-use Rattle.std.specs.Prelude.{ℕ, Bool, true, false, ◌||◌, ◌==◌, nat_lt, List, length, Option, Some, None, Result, Ok, Err, if◌then◌else◌}
+use Rattle.std.specs.Prelude.{ℕ, Bool, true, false, ◌||◌, ◌==◌, nat_lt, List, [], ◌∷◌, length, Option, Some, None, Result, Ok, Err, if◌then◌else◌}
 use Rattle.std.specs.List.{list_any}
 use Rattle.std.specs.Str.{is_utf8}
 use Rattle.sql_lex.specs.declared.token.TokenKind.{TokenKind}
-use Rattle.sql_lex.specs.declared.token.TokenKind.TheVariants.{Word, QuotedName, Literal}
+use Rattle.sql_lex.specs.declared.token.TokenKind.TheVariants.{Word, QuotedName, Literal, Number}
 use Rattle.sql_lex.specs.Meaning.{name_of, literal_of}
 use Rattle.cat_model.specs.declared.object.QName.{QName}
 use Rattle.ddl_parts.specs.Lexemes.{Lexeme, is_sign}
@@ -55,3 +55,12 @@ is_literal t = is_literal_kind t.kind
 -- a schema, a dot and a name
 abbrev pub qualified : Part QName
 qualified = seen (λ x. record { schema = x.0; name = x.1 }) (name then (is_sign 46 ▸ name))
+
+abbrev pub digits_of : TokenKind → List ℕ → Option (List ℕ)
+digits_of Number word = Some word
+digits_of _ word = None
+
+-- the spelling of a number that is the first of some tokens
+abbrev pub number_first : List Lexeme → Option (List ℕ)
+number_first [] = None
+number_first (t ∷ ts) = digits_of t.kind t.word

@@ -2,7 +2,7 @@
 ghost use Rattle.std.specs.Prelude.{◌≡◌, ◌≤◌, ◌<◌, ◌+◌, ◌-◌, ◌∷◌, [], ℕ, List, length, take, drop, false, true, Err, IsTrue, IfOk, IfSome, MatchOption, option_map, ◌||◌, ◌==◌};
 ghost use Rattle.std.specs.List.{list_any};
 ghost use Rattle.ddl_parts.specs.Lexemes.{Lexeme, source, is_word, is_sign, is_sign_kind, starts, start_of};
-ghost use Rattle.ddl_parts.specs.Leaves.{name, literal, name_in, name_value, text_in, is_name, is_name_kind, is_literal, is_literal_kind};
+ghost use Rattle.ddl_parts.specs.Leaves.{name, literal, name_in, name_value, text_in, is_name, is_name_kind, is_literal, is_literal_kind, number_first};
 ghost use Rattle.ddl_parts.specs.Parts.{Part, mark, stop};
 ghost use Rattle.ddl_parts.specs.Expressions.{expression, default_text, default_and_null};
 ghost use Rattle.ddl_parts.specs.Types.{type_part};
@@ -155,6 +155,14 @@ impl<'a> Pieces<'a> {
         ensures { GivesPart self.now (λ x. (x.0, x.1)) result (default_and_null.read (drop at self.now)) }
     {
         default_and_null_at(alloc, self.text, &self.pieces, at)
+    }
+
+    /// The spelling of the number at a place.
+    pub fn number(&self, at: usize) -> Option<&[u8]>
+        ensures exact { option_map (λ w. w.now) result ≡ number_first (drop at self.now) }
+        ensures some { IfSome result (λ w. 0 < length w.now) }
+    {
+        number_at(self.text, &self.pieces, at)
     }
 
     /// The text of the tokens from a place up to another.
@@ -393,5 +401,18 @@ fn text_in(bytes: Option<Vec<u8>>) -> Result<Text, bool>
     match Text::new(bytes) {
         Some(text) => Ok(text),
         None => Err(false),
+    }
+}
+
+#[tactic(auto, unfolding(crate::specs::Lexemes::is_word, sql_lex::specs::Meaning::spelling))]
+fn number_at<'a>(text: &'a [u8], pieces: &[Piece], at: usize) -> Option<&'a [u8]>
+    requires { are_joined (length text.now) pieces.now ≡ true }
+    ensures exact { option_map (λ w. w.now) result ≡ number_first (drop at (lexemes text.now pieces.now)) }
+    ensures some { IfSome result (λ w. 0 < length w.now) }
+{
+    let piece = piece_at(text, pieces, at)?;
+    match piece.token.kind {
+        TokenKind::Number => Some(&text[piece.token.start..piece.token.end]),
+        _ => None,
     }
 }

@@ -20,6 +20,7 @@ use Rattle.ddl_parts.proofs.RunLaws.{expression_laws, expression_ends}
 use Rattle.ddl_parts.proofs.Tables.{AllLawful}
 use Rattle.ddl_read.specs.Clauses.{semicolon}
 use Rattle.ddl_read.specs.RelationGrammar.{owned_by, its_role, its_column, sequence_changed, sequence_change, altered_sequence, view_and_body, create_view, replace_view, begun_by, bracketed, index_parts, index_of, unique_index_of, create_index, create_unique_index, view_branch, more_relations}
+use Rattle.ddl_read.proofs.SequenceLaws.{create_sequence_laws, create_sequence_closes}
 use Rattle.ddl_read.proofs.Telling.{free}
 use Rattle.ddl_read.proofs.Closing.{Closes, then_closes, seen_closes, choose_closes, lead_closes, end_closes, AllClose}
 
@@ -244,7 +245,7 @@ create_unique_index_closes = lead_closes semicolon (is_word (codes "index")) uni
 -- ---- CREATE ..
 
 pub relations_lawful : AllLawful view_branch more_relations
-relations_lawful = (create_view_laws, (replace_view_laws, (create_index_laws, create_unique_index_laws)))
+relations_lawful = (create_view_laws, (replace_view_laws, (create_index_laws, (create_unique_index_laws, create_sequence_laws))))
 
 pub relations_close : AllClose semicolon view_branch more_relations
-relations_close = (create_view_closes, (replace_view_closes, (create_index_closes, create_unique_index_closes)))
+relations_close = (create_view_closes, (replace_view_closes, (create_index_closes, (create_unique_index_closes, create_sequence_closes))))

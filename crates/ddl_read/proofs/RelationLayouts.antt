@@ -227,6 +227,6 @@ unique_index_laid_out g q n m rest gap path_is n_is m_is is =
     let k1 : IsPut create_unique_index s t1 [] = word_lead (codes "index") (codes "INDEX") (32 ∷ []) part s t0 [] index_key space k0 refl in
     let t2 = ((32 ∷ []) ++ codes "UNIQUE") ++ t1 in
     let k2 = word_lead (codes "unique") (codes "UNIQUE") (32 ∷ []) create_unique_index s t1 [] unique_key space k1 refl in
-    let k3 : IsPut created s t2 [] = put_as (is_word (codes "unique") ▸ create_unique_index) created s s t2 [] k2 (λ ts h. inr (inr (inr (inr (inr (inr (inr h))))))) in
+    let k3 : IsPut created s t2 [] = put_as (is_word (codes "unique") ▸ create_unique_index) created s s t2 [] k2 (λ ts h. inr (inr (inr (inr (inr (inr (inr (inl h)))))))) in
     laid_out g (index_text (codes "CREATE UNIQUE INDEX ") q n m rest) s ((g ++ codes "CREATE") ++ t2) (create_put g s t2 gap k3 refl)
     (unique_regrouped g (codes "CREATE") (32 ∷ []) (codes "UNIQUE") (codes "INDEX") (written_name n) (codes "ON") (path q) (codes "USING") (written_name m) rest (59 ∷ []) (10 ∷ []))

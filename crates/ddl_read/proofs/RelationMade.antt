@@ -12,6 +12,7 @@ use Rattle.ddl_read.specs.Clauses.{semicolon}
 use Rattle.ddl_read.specs.RelationGrammar.{owned_by, SequenceChange, its_role, its_column, sequence_changed, sequence_change, altered_sequence, view_and_body, create_view, replace_view, bracketed, Index, index_parts, unique_index_of, create_index, create_unique_index, view_branch, more_relations}
 use Rattle.ddl_read.specs.Respelling.{IsPath, IsExpressionText, IsBracketText, IsWritable}
 use Rattle.ddl_read.proofs.Bracketed.{bracketed_yields}
+use Rattle.ddl_read.proofs.SequenceMade.{create_sequence_yields}
 use Rattle.ddl_read.proofs.Yielding.{Yields, then_yields, seen_yields, lead_yields, end_yields, choose_yields, AllYield, name_yields, expression_yields, qualified_yields}
 
 -- ---- ALTER SEQUENCE
@@ -112,4 +113,4 @@ create_unique_index_yields = lead_yields IsWritable (is_word (codes "index")) un
 -- ---- CREATE ..
 
 pub relations_yield : AllYield IsWritable view_branch more_relations
-relations_yield = (create_view_yields, (replace_view_yields, (create_index_yields, create_unique_index_yields)))
+relations_yield = (create_view_yields, (replace_view_yields, (create_index_yields, (create_unique_index_yields, create_sequence_yields))))

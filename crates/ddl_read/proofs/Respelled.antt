@@ -24,6 +24,7 @@ use Rattle.ddl_read.proofs.ReadingLaws.{only}
 use Rattle.ddl_read.proofs.Standing.{placed, collects}
 use Rattle.ddl_read.proofs.Tokens.{Gap, none, space, newline, spaced, indented, tabbed, indent}
 use Rattle.ddl_read.proofs.RelationLayouts.{owned_by_laid_out, view_laid_out, replaced_laid_out, index_laid_out, unique_index_laid_out}
+use Rattle.ddl_read.proofs.SequenceLayouts.{sequence_laid_out}
 use Rattle.ddl_read.proofs.TableLayouts.{enum_laid_out, domain_laid_out, table_laid_out}
 use Rattle.ddl_read.proofs.KeyLayouts.{primary_laid_out, unique_laid_out, foreign_laid_out}
 use Rattle.ddl_read.proofs.AlterLayouts.{set_default_laid_out, added_check_laid_out}
@@ -42,6 +43,7 @@ can_be_written g (stmt.CreateSchema n) gap is = record { text = _; spells = refl
 can_be_written g (stmt.CreateEnum q labels) gap is = record { text = _; spells = refl; laid_out = enum_laid_out g q labels gap is.0 is.1 }
 can_be_written g (stmt.CreateDomain q base not_null default checks) gap is = record { text = _; spells = refl; laid_out = domain_laid_out g q base not_null default checks gap is.0 is.1 is.2 is.3 }
 can_be_written g (stmt.CreateTable q columns checks) gap is = record { text = _; spells = refl; laid_out = table_laid_out g q columns checks gap is.0 is.1 is.2 }
+can_be_written g (stmt.CreateSequence q kind start step min max cache cycle) gap is = record { text = _; spells = refl; laid_out = sequence_laid_out g q kind start step min max cache cycle gap is.0 is.1 is.2 is.3 is.4 is.5 }
 can_be_written g (stmt.SetDefault q n v) gap is = record { text = _; spells = refl; laid_out = set_default_laid_out g q n v gap is.0 is.1 is.2 }
 can_be_written g (stmt.AddPrimary q n columns rest) gap is = record { text = _; spells = refl; laid_out = primary_laid_out g q n columns rest gap is.0 is.1 is.2 is.3 }
 can_be_written g (stmt.AddUnique q n columns rest) gap is = record { text = _; spells = refl; laid_out = unique_laid_out g q n columns rest gap is.0 is.1 is.2 is.3 }

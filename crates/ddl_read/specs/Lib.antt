@@ -3,10 +3,12 @@ pub mod TableGrammar
 pub mod Columns
 pub mod Rests
 pub mod AlterGrammar
+pub mod SequenceGrammar
 pub mod RelationGrammar
 pub mod Grammar
 pub mod Reading
 pub mod Readings
 pub mod Examples
 pub mod AlterExamples
+pub mod SequenceExamples
 pub mod Respelling

@@ -9,6 +9,7 @@ use Rattle.ddl_parts.specs.Parts.{Part, Branch, seen, choose, choose_at, stop, o
 use Rattle.ddl_parts.specs.Leaves.{name, qualified}
 use Rattle.ddl_parts.specs.Expressions.{expression}
 use Rattle.ddl_read.specs.Clauses.{semicolon}
+use Rattle.ddl_read.specs.SequenceGrammar.{create_sequence}
 
 -- ---- ALTER SEQUENCE ..
 
@@ -88,7 +89,8 @@ view_branch = record { key = codes "view"; part = create_view }
 
 abbrev pub more_relations : List (Branch Stmt)
 more_relations =
-    record { key = codes "or"; part = replace_view } ∷ record { key = codes "index"; part = create_index } ∷ record { key = codes "unique"; part = create_unique_index } ∷ []
+    record { key = codes "or"; part = replace_view } ∷ record { key = codes "index"; part = create_index } ∷ record { key = codes "unique"; part = create_unique_index }
+    ∷ record { key = codes "sequence"; part = create_sequence } ∷ []
 
 abbrev pub created_relation : Part Stmt
 created_relation = one_of view_branch more_relations

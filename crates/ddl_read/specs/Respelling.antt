@@ -1,5 +1,5 @@
 -- Statements that can be written, and the spellings of several joined.
-use Rattle.std.specs.Prelude.{◌≡◌, ℕ, true, false, List, [], ◌∷◌, ◌++◌, map, length, Option, Some, None}
+use Rattle.std.specs.Prelude.{◌≡◌, ℕ, ◌^◌, ℤ, pos, negsuc, Bool, nat_lt, true, false, List, [], ◌∷◌, ◌++◌, map, length, Option, Some, None}
 use Rattle.copy_text.specs.Texts.{IsName, IsText}
 use Rattle.std.specs.List.{AllByRecursion}
 use Rattle.cat_model.specs.declared.object.QName.{QName}
@@ -23,6 +23,14 @@ use Rattle.ddl_read.specs.declared.rests.RestSpot.{RestSpot}
 use Rattle.ddl_read.specs.declared.rests.RestSpot.TheVariants.{Begin, Foreign}
 use Rattle.ddl_read.specs.Rests.{resting}
 use Rattle.ddl_read.specs.Reading.{first_start}
+
+-- whether a number has 64 bits
+abbrev pub is_int : ℤ → Bool
+is_int (pos n) = nat_lt n (2 ^ 63)
+is_int (negsuc n) = nat_lt n (2 ^ 63)
+
+abbrev pub IsInt : ℤ → Type 0
+IsInt z = is_int z ≡ true
 
 -- both parts of a path are names
 abbrev pub IsPath : QName → Type 0
@@ -93,6 +101,7 @@ IsWritable (stmt.CreateSchema n) = IsName n
 IsWritable (stmt.CreateEnum q labels) = IsPath q × AllByRecursion IsText labels
 IsWritable (stmt.CreateDomain q base not_null default checks) = IsPath q × IsType base × IsDefault default × AllByRecursion IsCheck checks
 IsWritable (stmt.CreateTable q columns checks) = IsPath q × AllByRecursion IsColumn columns × AllByRecursion IsCheck checks
+IsWritable (stmt.CreateSequence q kind start step min max cache cycle) = IsPath q × IsInt start × IsInt step × IsInt min × IsInt max × IsInt cache
 IsWritable (stmt.SetDefault q n v) = IsPath q × IsName n × IsDefaultText v
 IsWritable (stmt.AddPrimary q n columns rest) = IsPath q × IsName n × AreColumns columns × IsRest Begin rest
 IsWritable (stmt.AddUnique q n columns rest) = IsPath q × IsName n × AreColumns columns × IsRest Begin rest

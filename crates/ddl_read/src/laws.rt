@@ -8,6 +8,7 @@ ghost use Rattle.cat_model.specs.declared.stmt.Stmt.{Stmt};
 ghost use Rattle.ddl_read.specs.Respelling.{AllWritable, spellings, said};
 ghost use Rattle.ddl_read.specs.Examples.{WorkedExamples};
 ghost use Rattle.ddl_read.specs.AlterExamples.{AlterExamples};
+ghost use Rattle.ddl_read.specs.SequenceExamples.{SequenceExamples};
 
 /// A text is read as statements exactly where it reads as them, so that it reads as one list at most.
 pub fn reading_is_exact()
@@ -28,6 +29,11 @@ pub fn the_definitions_meet_the_examples()
 /// The same of texts that alter tables.
 pub fn altered_tables_meet_the_examples()
     ensures { AlterExamples }
+{}
+
+/// The same of texts that create sequences.
+pub fn sequences_meet_the_examples()
+    ensures { SequenceExamples }
 {}
 
 /// Statements that are written one after another read as these statements: so the spelling of a statement reads as it.

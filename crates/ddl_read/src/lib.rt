@@ -10,6 +10,7 @@ mod located;
 mod reading;
 mod relations;
 mod rests;
+mod sequences;
 mod tables;
 
 pub use fault::{DdlFault, ReadStmtsError};

@@ -5,6 +5,7 @@ ghost use Rattle.ddl_read.specs.Grammar.{new_owner};
 ghost use Rattle.ddl_read.specs.RelationGrammar.{owned_by, altered_sequence, view_and_body, create_view, replace_view, bracketed, index_parts, create_index, create_unique_index, created_relation};
 
 use crate::alters::new_owner;
+use crate::sequences::create_sequence;
 use cat_model::{Owned, QName, Stmt};
 use copy_text::{Name, Text};
 use ddl_parts::{Halt, Pieces, ReadError, qualified_name};
@@ -171,6 +172,10 @@ pub(crate) fn created_relation(
         let at = pieces.word(at, "index")?;
         return create_index(alloc, pieces, at);
     }
-    let at = pieces.word(at, "unique")?;
-    create_unique_index(alloc, pieces, at)
+    if pieces.is_word(at, "unique") {
+        let at = pieces.word(at, "unique")?;
+        return create_unique_index(alloc, pieces, at);
+    }
+    let at = pieces.word(at, "sequence")?;
+    create_sequence(alloc, pieces, at)
 }

@@ -1,0 +1,510 @@
+//! Readers of CREATE SEQUENCE, behind these words.
+ghost use Rattle.std.specs.Prelude.{◌≡◌, ◌<◌, ◌^◌, ◌+◌, length, pos, drop, IfSome};
+ghost use Rattle.std.specs.List.{list_all};
+ghost use Rattle.sql_lex.specs.Bytes.{is_digit};
+ghost use Rattle.ddl_parts.specs.Pieces.{GivesPart};
+ghost use Rattle.cat_model.specs.declared.constraint.SequenceKind.TheVariants.{BigInt};
+ghost use Rattle.ddl_write.specs.Sequences.{falls, usual_min, usual_max};
+ghost use Rattle.ddl_read.specs.SequenceGrammar.{digits_below, count_first, opposite, no_clauses, is_unsaid, with_number, reached, only_if, behind_no, numbered, clause_first, kind_first, lower, upper, usual_first, step_first, is_between, ended_by, sequence_clauses, given_or, bound_or, usual_start, sequence_of, create_sequence};
+
+use cat_model::{QName, SequenceKind, Stmt};
+use ddl_parts::{Halt, Pieces, ReadError, qualified_name};
+use std::alloc::Global;
+
+/// A bound of a sequence, as far as it was said.
+#[derive(Clone, Copy, Debug, PartialEq, Eq)]
+pub enum Bound {
+    /// Nothing was said of it.
+    Unsaid,
+    /// It was said to be the usual one.
+    Usual,
+    /// It was given.
+    Given(i64),
+}
+
+/// What a number of a sequence is.
+#[derive(Clone, Copy, Debug, PartialEq, Eq)]
+pub enum Field {
+    /// Where it starts.
+    First,
+    /// Its step.
+    Step,
+    /// Its least number.
+    Least,
+    /// Its greatest number.
+    Greatest,
+    /// How many are kept ready.
+    Cache,
+}
+
+/// The bounds that may follow NO.
+#[derive(Clone, Copy, Debug, PartialEq, Eq)]
+pub enum Open {
+    /// Each of them.
+    Both,
+    /// MINVALUE.
+    Lower,
+    /// MAXVALUE.
+    Upper,
+}
+
+/// Where reading the clauses of a sequence stands.
+#[derive(Clone, Copy, Debug, PartialEq, Eq)]
+pub enum ClauseSpot {
+    /// Behind a clause, or before the first.
+    Between,
+    /// Behind AS.
+    BehindAs,
+    /// Behind START.
+    BehindStart,
+    /// Behind INCREMENT.
+    BehindIncrement,
+    /// Behind NO.
+    BehindNo(Open),
+    /// Before a number.
+    Due(Field),
+    /// Behind its minus sign.
+    BehindMinus(Field),
+}
+
+/// The clauses of a sequence so far.
+#[derive(Clone, Copy, Debug, PartialEq, Eq)]
+pub struct Clauses {
+    kind: Option<SequenceKind>,
+    start: Option<i64>,
+    step: Option<i64>,
+    least: Bound,
+    greatest: Bound,
+    cache: Option<i64>,
+    cycle: bool,
+}
+
+/// The clauses so far, and where reading them stands.
+#[derive(Clone, Copy, Debug, PartialEq, Eq)]
+pub struct Reached {
+    clauses: Clauses,
+    spot: ClauseSpot,
+}
+
+/// One more than the greatest number.
+const LIMIT: u64 = 1 << 63;
+
+#[tactic(auto, unfolding(sql_lex::specs::Bytes::is_digit))]
+fn is_digit(byte: u8) -> bool
+    ensures { result ≡ is_digit byte }
+{
+    byte.is_ascii_digit()
+}
+
+fn are_digits(word: &[u8]) -> bool
+    ensures { result ≡ list_all is_digit word.now }
+{
+    word.iter().all(|byte| is_digit(*byte))
+}
+
+/// The number of digits, where it is below a limit.
+#[tactic(auto, unfolding(crate::specs::SequenceGrammar::digits_below))]
+fn digits_below(word: &[u8], limit: u64) -> Option<u64>
+    requires some { 0 < length word.now }
+    ensures exact { result ≡ digits_below limit word.now }
+    ensures low { IfSome result (λ n. n < limit) }
+{
+    if !are_digits(word) {
+        return None;
+    }
+    let Ok(text) = str::from_utf8(word) else {
+        return None;
+    };
+    match text.parse::<u64>() {
+        Ok(number) if number < limit => Some(number),
+        _ => None,
+    }
+}
+
+/// The number at a place, where it is below a limit.
+fn count_at(pieces: &Pieces<'_>, at: usize, limit: u64) -> Option<u64>
+    ensures exact { result ≡ count_first limit (drop at pieces.now) }
+    ensures low { IfSome result (λ n. n < limit) }
+{
+    match pieces.number(at) {
+        Some(word) => digits_below(word, limit),
+        None => None,
+    }
+}
+
+/// The number with a minus sign.
+fn opposite(number: u64) -> i64
+    requires { number < 2 ^ 63 + 1 }
+    ensures { result ≡ opposite number }
+{
+    if number == 0 {
+        0
+    } else {
+        -1 - (number - 1) as i64
+    }
+}
+
+/// What was reached where a token goes on, or None.
+fn only_if(goes: bool, clauses: Clauses, spot: ClauseSpot) -> Option<Reached>
+    ensures { result ≡ only_if goes (reached clauses spot) }
+{
+    if goes {
+        Some(Reached { clauses, spot })
+    } else {
+        None
+    }
+}
+
+fn is_unsaid(bound: Bound) -> bool
+    ensures { result ≡ is_unsaid bound }
+{
+    matches!(bound, Bound::Unsaid)
+}
+
+/// The clauses with a number that was given.
+fn with_number(field: Field, number: i64, clauses: Clauses) -> Clauses
+    ensures { result ≡ with_number field number clauses }
+{
+    match field {
+        Field::First => Clauses {
+            start: Some(number),
+            ..clauses
+        },
+        Field::Step => Clauses {
+            step: Some(number),
+            ..clauses
+        },
+        Field::Least => Clauses {
+            least: Bound::Given(number),
+            ..clauses
+        },
+        Field::Greatest => Clauses {
+            greatest: Bound::Given(number),
+            ..clauses
+        },
+        Field::Cache => Clauses {
+            cache: Some(number),
+            ..clauses
+        },
+    }
+}
+
+/// What is reached behind NO, by whether nothing was said of each bound.
+fn behind_no(clauses: Clauses, lower: bool, upper: bool) -> Option<Reached>
+    ensures { result ≡ behind_no clauses lower upper }
+{
+    let which = match (lower, upper) {
+        (true, true) => Open::Both,
+        (true, false) => Open::Lower,
+        (false, true) => Open::Upper,
+        (false, false) => return None,
+    };
+    Some(Reached {
+        clauses,
+        spot: ClauseSpot::BehindNo(which),
+    })
+}
+
+/// What is reached behind the first token of a clause.
+#[tactic(auto, unfolding(crate::specs::SequenceGrammar::clause_first))]
+fn clause_first(pieces: &Pieces<'_>, at: usize, clauses: Clauses) -> Option<Reached>
+    ensures { result ≡ clause_first clauses (drop at pieces.now) }
+{
+    if pieces.is_word(at, "as") {
+        return only_if(clauses.kind.is_none(), clauses, ClauseSpot::BehindAs);
+    }
+    if pieces.is_word(at, "start") {
+        return only_if(clauses.start.is_none(), clauses, ClauseSpot::BehindStart);
+    }
+    if pieces.is_word(at, "increment") {
+        return only_if(clauses.step.is_none(), clauses, ClauseSpot::BehindIncrement);
+    }
+    if pieces.is_word(at, "no") {
+        return behind_no(
+            clauses,
+            is_unsaid(clauses.least),
+            is_unsaid(clauses.greatest),
+        );
+    }
+    if pieces.is_word(at, "minvalue") {
+        return only_if(is_unsaid(clauses.least), clauses, ClauseSpot::Due(Field::Least));
+    }
+    if pieces.is_word(at, "maxvalue") {
+        return only_if(is_unsaid(clauses.greatest), clauses, ClauseSpot::Due(Field::Greatest));
+    }
+    if pieces.is_word(at, "cache") {
+        return only_if(clauses.cache.is_none(), clauses, ClauseSpot::Due(Field::Cache));
+    }
+    let goes = pieces.is_word(at, "cycle") && !clauses.cycle;
+    let clauses = Clauses {
+        cycle: true,
+        ..clauses
+    };
+    only_if(goes, clauses, ClauseSpot::Between)
+}
+
+/// What is reached behind a type.
+#[tactic(auto, unfolding(crate::specs::SequenceGrammar::kind_first))]
+fn kind_first(pieces: &Pieces<'_>, at: usize, clauses: Clauses) -> Option<Reached>
+    ensures { result ≡ kind_first clauses (drop at pieces.now) }
+{
+    if pieces.is_word(at, "smallint") {
+        let clauses = Clauses {
+            kind: Some(SequenceKind::SmallInt),
+            ..clauses
+        };
+        return only_if(true, clauses, ClauseSpot::Between);
+    }
+    let goes = pieces.is_word(at, "integer");
+    let clauses = Clauses {
+        kind: Some(SequenceKind::Integer),
+        ..clauses
+    };
+    only_if(goes, clauses, ClauseSpot::Between)
+}
+
+/// What is reached behind NO MINVALUE.
+fn lower(pieces: &Pieces<'_>, at: usize, clauses: Clauses) -> Option<Reached>
+    ensures { result ≡ lower clauses (drop at pieces.now) }
+{
+    let goes = pieces.is_word(at, "minvalue");
+    let clauses = Clauses {
+        least: Bound::Usual,
+        ..clauses
+    };
+    only_if(goes, clauses, ClauseSpot::Between)
+}
+
+/// What is reached behind NO MAXVALUE.
+fn upper(pieces: &Pieces<'_>, at: usize, clauses: Clauses) -> Option<Reached>
+    ensures { result ≡ upper clauses (drop at pieces.now) }
+{
+    let goes = pieces.is_word(at, "maxvalue");
+    let clauses = Clauses {
+        greatest: Bound::Usual,
+        ..clauses
+    };
+    only_if(goes, clauses, ClauseSpot::Between)
+}
+
+/// What is reached behind a token that follows NO.
+#[tactic(auto, unfolding(crate::specs::SequenceGrammar::usual_first))]
+fn usual_first(
+    pieces: &Pieces<'_>,
+    at: usize,
+    which: Open,
+    clauses: Clauses,
+) -> Option<Reached>
+    ensures { result ≡ usual_first which clauses (drop at pieces.now) }
+{
+    match which {
+        Open::Both if pieces.is_word(at, "minvalue") => lower(pieces, at, clauses),
+        Open::Lower => lower(pieces, at, clauses),
+        Open::Both | Open::Upper => upper(pieces, at, clauses),
+    }
+}
+
+/// What is reached behind a number without a sign.
+fn behind_number(
+    pieces: &Pieces<'_>,
+    at: usize,
+    field: Field,
+    clauses: Clauses,
+) -> Option<Reached>
+    ensures { result ≡ numbered field pos clauses (count_first (2 ^ 63) (drop at pieces.now)) }
+{
+    let number = count_at(pieces, at, LIMIT)? as i64;
+    Some(Reached {
+        clauses: with_number(field, number, clauses),
+        spot: ClauseSpot::Between,
+    })
+}
+
+/// What is reached behind a number with a minus sign.
+fn behind_minus(
+    pieces: &Pieces<'_>,
+    at: usize,
+    field: Field,
+    clauses: Clauses,
+) -> Option<Reached>
+    ensures { result ≡ numbered field opposite clauses (count_first (2 ^ 63 + 1) (drop at pieces.now)) }
+{
+    let number = opposite(count_at(pieces, at, LIMIT + 1)?);
+    Some(Reached {
+        clauses: with_number(field, number, clauses),
+        spot: ClauseSpot::Between,
+    })
+}
+
+/// What is reached behind the token at a place, or None where nothing goes on there.
+#[tactic(auto, unfolding(crate::specs::SequenceGrammar::step_first))]
+fn step(pieces: &Pieces<'_>, at: usize, so_far: Reached) -> Option<Reached>
+    ensures { result ≡ step_first so_far (drop at pieces.now) }
+{
+    let Reached { clauses, spot } = so_far;
+    match spot {
+        ClauseSpot::Between => clause_first(pieces, at, clauses),
+        ClauseSpot::BehindAs => kind_first(pieces, at, clauses),
+        ClauseSpot::BehindStart => only_if(
+            pieces.is_word(at, "with"),
+            clauses,
+            ClauseSpot::Due(Field::First),
+        ),
+        ClauseSpot::BehindIncrement => only_if(
+            pieces.is_word(at, "by"),
+            clauses,
+            ClauseSpot::Due(Field::Step),
+        ),
+        ClauseSpot::BehindNo(which) => usual_first(pieces, at, which, clauses),
+        ClauseSpot::Due(field) if pieces.is_sign(at, b'-') => {
+            only_if(true, clauses, ClauseSpot::BehindMinus(field))
+        }
+        ClauseSpot::Due(field) => behind_number(pieces, at, field, clauses),
+        ClauseSpot::BehindMinus(field) => behind_minus(pieces, at, field, clauses),
+    }
+}
+
+/// Whether the clauses may end at a spot.
+fn is_between(spot: ClauseSpot) -> bool
+    ensures { result ≡ is_between spot }
+{
+    matches!(spot, ClauseSpot::Between)
+}
+
+/// The clauses, where they may end.
+fn clauses_end(so_far: Reached, at: usize) -> Result<(Clauses, usize), ReadError>
+    ensures { result ≡ ended_by so_far at (is_between so_far.spot) }
+{
+    if is_between(so_far.spot) {
+        return Ok((so_far.clauses, at));
+    }
+    Err(ReadError::Halted(Halt { long: false, at }))
+}
+
+/// The clauses at a place, and the place behind them.
+fn sequence_clauses(pieces: &Pieces<'_>, from: usize) -> Result<(Clauses, usize), ReadError>
+    ensures { GivesPart pieces.now (λ c. c) result (sequence_clauses.read (drop from pieces.now)) }
+{
+    let mut so_far = Reached {
+        clauses: Clauses {
+            kind: None,
+            start: None,
+            step: None,
+            least: Bound::Unsaid,
+            greatest: Bound::Unsaid,
+            cache: None,
+            cycle: false,
+        },
+        spot: ClauseSpot::Between,
+    };
+    let mut at = from;
+    'tokens: loop {
+        if at >= pieces.len() {
+            return clauses_end(so_far, at);
+        }
+        let Some(next) = step(pieces, at, so_far) else {
+            return clauses_end(so_far, at);
+        };
+        so_far = next;
+        at += 1;
+    }
+}
+
+/// What NO MINVALUE stands for.
+#[tactic(auto, unfolding(ddl_write::specs::Sequences::usual_min))]
+fn usual_min(kind: SequenceKind, step: i64) -> i64
+    ensures { result ≡ usual_min kind step }
+{
+    match kind {
+        _ if step >= 0 => 1,
+        SequenceKind::SmallInt => i64::from(i16::MIN),
+        SequenceKind::Integer => i64::from(i32::MIN),
+        SequenceKind::BigInt => i64::MIN,
+    }
+}
+
+/// What NO MAXVALUE stands for.
+#[tactic(auto, unfolding(ddl_write::specs::Sequences::usual_max))]
+fn usual_max(kind: SequenceKind, step: i64) -> i64
+    ensures { result ≡ usual_max kind step }
+{
+    match kind {
+        _ if step < 0 => -1,
+        SequenceKind::SmallInt => i64::from(i16::MAX),
+        SequenceKind::Integer => i64::from(i32::MAX),
+        SequenceKind::BigInt => i64::MAX,
+    }
+}
+
+/// The number that was given, or the usual one.
+fn given_or(usual: i64, given: Option<i64>) -> i64
+    ensures { result ≡ given_or usual given }
+{
+    match given {
+        Some(number) => number,
+        None => usual,
+    }
+}
+
+/// The bound that was given, or the usual one.
+fn bound_or(usual: i64, bound: Bound) -> i64
+    ensures { result ≡ bound_or usual bound }
+{
+    match bound {
+        Bound::Given(number) => number,
+        Bound::Unsaid | Bound::Usual => usual,
+    }
+}
+
+/// The type that was given, or bigint.
+fn kind_or_bigint(given: Option<SequenceKind>) -> SequenceKind
+    ensures { result ≡ given_or BigInt given }
+{
+    match given {
+        Some(kind) => kind,
+        None => SequenceKind::BigInt,
+    }
+}
+
+/// Where a sequence starts.
+fn usual_start(step: i64, min: i64, max: i64) -> i64
+    ensures { result ≡ usual_start step min max }
+{
+    if step < 0 { max } else { min }
+}
+
+/// The statement with these clauses.
+#[tactic(auto, unfolding(crate::specs::SequenceGrammar::sequence_of))]
+fn sequence_of(q: QName, clauses: Clauses) -> Stmt
+    ensures { result ≡ sequence_of q clauses }
+{
+    let kind = kind_or_bigint(clauses.kind);
+    let step = given_or(1, clauses.step);
+    let min = bound_or(usual_min(kind, step), clauses.least);
+    let max = bound_or(usual_max(kind, step), clauses.greatest);
+    Stmt::CreateSequence {
+        q,
+        kind,
+        start: given_or(usual_start(step, min, max), clauses.start),
+        step,
+        min,
+        max,
+        cache: given_or(1, clauses.cache),
+        cycle: clauses.cycle,
+    }
+}
+
+/// CREATE SEQUENCE.
+#[tactic(auto, unfolding(crate::specs::SequenceGrammar::create_sequence))]
+pub(crate) fn create_sequence(
+    alloc: Global,
+    pieces: &Pieces<'_>,
+    at: usize,
+) -> Result<(Stmt, usize), ReadError>
+    ensures { GivesPart pieces.now (λ s. s) result (create_sequence.read (drop at pieces.now)) }
+{
+    let (q, at) = qualified_name(alloc, pieces, at)?;
+    let (clauses, at) = sequence_clauses(pieces, at)?;
+    let at = pieces.sign(at, b';')?;
+    Ok((sequence_of(q, clauses), at))
+}
