@@ -1,13 +1,12 @@
 -- CREATE SEQUENCE has the laws of a part, and ends with a semicolon.
-use Rattle.std.proofs.Common.{◌≡◌, ℕ, ◌+◌, ◌<◌, ◌^◌, ℤ, pos, Bool, true, false, ◌||◌, List, [], ◌∷◌, Some, None, refl, sym, ap, arith, codes}
+use Rattle.std.proofs.Common.{◌≡◌, ℕ, ◌+◌, ◌<◌, ◌^◌, pos, true, false, List, [], ◌∷◌, Some, None, refl, arith, codes}
 use Rattle.std.proofs.lemmas.Bool.{lt-ltb, or_parts}
 use Rattle.sql_lex.specs.Bytes.{is_digit}
 use Rattle.sql_lex.specs.Meaning.{is_keyword_of}
 use Rattle.sql_lex.specs.declared.token.TokenKind.TheVariants.{Number}
-use Rattle.cat_model.specs.declared.object.QName.{QName}
 use Rattle.cat_model.specs.declared.constraint.SequenceKind.TheVariants.{SmallInt}
 use Rattle.ddl_parts.specs.Lexemes.{Lexeme, is_word, is_sign}
-use Rattle.ddl_parts.specs.Parts.{Part, run, runs_of, seen, ◌then◌, ◌◂◌}
+use Rattle.ddl_parts.specs.Parts.{Part, run, runs_of, ◌then◌, ◌◂◌}
 use Rattle.ddl_parts.specs.Leaves.{qualified}
 use Rattle.ddl_parts.specs.Laws.{Lawful, Apart}
 use Rattle.ddl_parts.proofs.Steps.{avoids_never}
@@ -21,7 +20,6 @@ use Rattle.ddl_read.specs.declared.sequences.Open.TheVariants.{Both, Lower, Uppe
 use Rattle.ddl_read.specs.declared.sequences.ClauseSpot.{ClauseSpot}
 use Rattle.ddl_read.specs.declared.sequences.ClauseSpot.TheVariants.{Between, BehindAs, BehindStart, BehindIncrement, BehindNo, Due, BehindMinus}
 use Rattle.ddl_read.specs.declared.sequences.Clauses.{Clauses}
-use Rattle.ddl_read.specs.declared.sequences.Reached.{Reached}
 use Rattle.ddl_read.specs.Clauses.{semicolon}
 use Rattle.ddl_read.specs.SequenceGrammar.{digits_below, with_number, reached, clause_first, kind_first, usual_first, step_first, is_between, begins_clause, first_reached, clausing, clauses_of, sequence_clauses, sequence_of, create_sequence}
 use Rattle.ddl_read.proofs.Telling.{sign_no_word}
@@ -120,8 +118,16 @@ sequence_clauses_laws = seen_laws (λ ts. clauses_of (run clausing (Some first_r
 clauses_end : Apart (is_sign 59) sequence_clauses.goes_on
 unfolding sequence_clauses
 clauses_end t e =
-    rw (sign_no_word 59 (codes "as") t e, sign_no_word 59 (codes "start") t e, sign_no_word 59 (codes "increment") t e, sign_no_word 59 (codes "no") t e,
-      sign_no_word 59 (codes "minvalue") t e, sign_no_word 59 (codes "maxvalue") t e, sign_no_word 59 (codes "cache") t e, sign_no_word 59 (codes "cycle") t e) refl
+    rw (
+      sign_no_word 59 (codes "as") t e,
+      sign_no_word 59 (codes "start") t e,
+      sign_no_word 59 (codes "increment") t e,
+      sign_no_word 59 (codes "no") t e,
+      sign_no_word 59 (codes "minvalue") t e,
+      sign_no_word 59 (codes "maxvalue") t e,
+      sign_no_word 59 (codes "cache") t e,
+      sign_no_word 59 (codes "cycle") t e,
+    ) refl
 
 abbrev clauses_closed : Part Clauses
 clauses_closed = sequence_clauses ◂ semicolon

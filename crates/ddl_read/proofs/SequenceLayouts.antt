@@ -1,5 +1,5 @@
 -- CREATE SEQUENCE as it is written, laid out in tokens: each brings its clauses on from one state to another.
-use Rattle.std.proofs.Common.{◌≡◌, ℕ, ℤ, pos, Bool, true, false, List, [], ◌∷◌, ◌++◌, append_assoc, append-nil, Option, Some, None, refl, sym, ap, subst, ◌∙◌, inl, inr, codes, option_and_then}
+use Rattle.std.proofs.Common.{◌≡◌, ℕ, ℤ, Bool, true, false, List, [], ◌∷◌, ◌++◌, append_assoc, append-nil, Option, Some, None, refl, sym, ap, subst, ◌∙◌, inl, inr, codes, option_and_then}
 use Rattle.std.specs.Ordering.{int_eq}
 use Rattle.std.specs.Fmt.{signed_decimal}
 use Rattle.std.specs.Str.{is_utf8, chars}
@@ -14,7 +14,7 @@ use Rattle.cat_model.specs.declared.constraint.SequenceKind.TheVariants.{SmallIn
 use Rattle.cat_model.specs.declared.stmt.Stmt.{Stmt}
 use Rattle.cat_model.specs.declared.stmt.Stmt.TheVariants as stmt
 use Rattle.ddl_parts.specs.Lexemes.{Lexeme, is_word, is_sign, never, spelled}
-use Rattle.ddl_parts.specs.Parts.{Part, stop, run, seen, ◌then◌, ◌▸◌, ◌◂◌}
+use Rattle.ddl_parts.specs.Parts.{Part, stop, run, ◌then◌, ◌▸◌, ◌◂◌}
 use Rattle.ddl_parts.specs.Leaves.{qualified}
 use Rattle.ddl_write.specs.Paths.{path, only_if}
 use Rattle.ddl_write.specs.Sequences.{usual_min, usual_max, type_words, bound, min_text, max_text, sequence_text}

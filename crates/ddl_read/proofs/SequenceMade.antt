@@ -1,5 +1,5 @@
 -- What is read of CREATE SEQUENCE can be written: its numbers have 64 bits.
-use Rattle.std.proofs.Common.{◌≡◌, ℕ, zero, suc, ◌+◌, ◌<◌, ◌^◌, ℤ, pos, negsuc, Bool, true, false, cond, List, [], ◌∷◌, Option, Some, None, refl, sym, ap, subst, ◌∙◌, arith, option_and_then, codes}
+use Rattle.std.proofs.Common.{◌≡◌, ℕ, zero, suc, ◌+◌, ◌<◌, ◌^◌, ℤ, pos, negsuc, Bool, true, false, cond, List, [], ◌∷◌, Option, Some, None, refl, sym, subst, arith, option_and_then, codes}
 use Rattle.std.specs.Prelude.{◌&&◌, not, is_some, nat_lt}
 use Rattle.std.specs.List.{list_all}
 use Rattle.std.specs.Str.Parse.{digits_value}
@@ -8,11 +8,10 @@ use Rattle.sql_lex.specs.Bytes.{is_digit}
 use Rattle.cat_model.specs.declared.object.QName.{QName}
 use Rattle.cat_model.specs.declared.constraint.SequenceKind.{SequenceKind}
 use Rattle.cat_model.specs.declared.constraint.SequenceKind.TheVariants.{SmallInt, Integer, BigInt}
-use Rattle.cat_model.specs.declared.stmt.Stmt.{Stmt}
 use Rattle.ddl_parts.specs.Lexemes.{Lexeme, is_word, is_sign, starts}
-use Rattle.ddl_parts.specs.Parts.{Part, run, ◌then◌, ◌◂◌}
+use Rattle.ddl_parts.specs.Parts.{run, ◌◂◌}
 use Rattle.ddl_parts.specs.Leaves.{qualified, number_first}
-use Rattle.ddl_write.specs.Sequences.{falls, usual_min, usual_max}
+use Rattle.ddl_write.specs.Sequences.{usual_min, usual_max}
 use Rattle.ddl_read.specs.declared.sequences.Bound.{Bound}
 use Rattle.ddl_read.specs.declared.sequences.Bound.TheVariants.{Unsaid, Usual, Given}
 use Rattle.ddl_read.specs.declared.sequences.Field.{Field}

@@ -1,6 +1,6 @@
 -- Whole numbers as they are written, in tokens that stand and bring the clauses of a sequence on.
-use Rattle.std.proofs.Common.{◌≡◌, ℕ, zero, suc, ◌+◌, ◌<◌, ◌^◌, ℤ, pos, negsuc, Bool, true, false, cond, ◌&&◌, List, [], ◌∷◌, ◌++◌, length, append_assoc, Result, Ok, Err, refl, sym, ap, subst, ◌∙◌, ◌⊎◌, arith, inl, inr}
-use Rattle.std.specs.Prelude.{◌==◌, nat_lt, Option, Some, None, option_and_then, if◌then◌else◌}
+use Rattle.std.proofs.Common.{◌≡◌, ℕ, suc, ◌+◌, ◌<◌, ◌^◌, ℤ, pos, negsuc, Bool, true, false, cond, ◌&&◌, List, [], ◌∷◌, ◌++◌, length, append_assoc, Result, Ok, Err, refl, sym, ap, subst, ◌∙◌, ◌⊎◌, arith, inl, inr}
+use Rattle.std.specs.Prelude.{◌==◌, nat_lt, Some, None, option_and_then, if◌then◌else◌}
 use Rattle.std.specs.List.{list_all}
 use Rattle.std.specs.Char.{digit_value}
 use Rattle.std.specs.Fmt.{decimal, signed_decimal}
@@ -34,7 +34,6 @@ use Rattle.ddl_read.proofs.Kept.{safe_ends, spelled-append}
 use Rattle.ddl_read.proofs.Tokens.{Gap, none, Begun, gap_stands, sign_token}
 use Rattle.ddl_read.proofs.Putting.{begins_by, safe_behind, Follows, IsPut, behind, put_as, one_put, same_text, lead_put}
 
-
 -- ---- the number of a token
 
 -- the number of digits, where it is below a limit; a number with a fraction has none
@@ -51,7 +50,6 @@ count limit = one (count_value limit)
 -- digits below 2^63, or a minus sign and digits up to 2^63
 unfoldable pub whole_number : Part ℤ
 whole_number = choose (is_sign 45) (seen opposite (is_sign 45 ▸ count (2 ^ 63 + 1))) (seen pos (count (2 ^ 63)))
-
 
 count_begins : (limit : ℕ) → Begins is_number (count limit)
 unfolding count_value is_number

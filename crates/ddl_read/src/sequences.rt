@@ -227,13 +227,25 @@ fn clause_first(pieces: &Pieces<'_>, at: usize, clauses: Clauses) -> Option<Reac
         );
     }
     if pieces.is_word(at, "minvalue") {
-        return only_if(is_unsaid(clauses.least), clauses, ClauseSpot::Due(Field::Least));
+        return only_if(
+            is_unsaid(clauses.least),
+            clauses,
+            ClauseSpot::Due(Field::Least),
+        );
     }
     if pieces.is_word(at, "maxvalue") {
-        return only_if(is_unsaid(clauses.greatest), clauses, ClauseSpot::Due(Field::Greatest));
+        return only_if(
+            is_unsaid(clauses.greatest),
+            clauses,
+            ClauseSpot::Due(Field::Greatest),
+        );
     }
     if pieces.is_word(at, "cache") {
-        return only_if(clauses.cache.is_none(), clauses, ClauseSpot::Due(Field::Cache));
+        return only_if(
+            clauses.cache.is_none(),
+            clauses,
+            ClauseSpot::Due(Field::Cache),
+        );
     }
     let goes = pieces.is_word(at, "cycle") && !clauses.cycle;
     let clauses = Clauses {
@@ -289,12 +301,7 @@ fn upper(pieces: &Pieces<'_>, at: usize, clauses: Clauses) -> Option<Reached>
 
 /// What is reached behind a token that follows NO.
 #[tactic(auto, unfolding(crate::specs::SequenceGrammar::usual_first))]
-fn usual_first(
-    pieces: &Pieces<'_>,
-    at: usize,
-    which: Open,
-    clauses: Clauses,
-) -> Option<Reached>
+fn usual_first(pieces: &Pieces<'_>, at: usize, which: Open, clauses: Clauses) -> Option<Reached>
     ensures { result ≡ usual_first which clauses (drop at pieces.now) }
 {
     match which {
@@ -305,12 +312,7 @@ fn usual_first(
 }
 
 /// What is reached behind a number without a sign.
-fn behind_number(
-    pieces: &Pieces<'_>,
-    at: usize,
-    field: Field,
-    clauses: Clauses,
-) -> Option<Reached>
+fn behind_number(pieces: &Pieces<'_>, at: usize, field: Field, clauses: Clauses) -> Option<Reached>
     ensures { result ≡ numbered field pos clauses (count_first (2 ^ 63) (drop at pieces.now)) }
 {
     let number = count_at(pieces, at, LIMIT)? as i64;
@@ -321,12 +323,7 @@ fn behind_number(
 }
 
 /// What is reached behind a number with a minus sign.
-fn behind_minus(
-    pieces: &Pieces<'_>,
-    at: usize,
-    field: Field,
-    clauses: Clauses,
-) -> Option<Reached>
+fn behind_minus(pieces: &Pieces<'_>, at: usize, field: Field, clauses: Clauses) -> Option<Reached>
     ensures { result ≡ numbered field opposite clauses (count_first (2 ^ 63 + 1) (drop at pieces.now)) }
 {
     let number = opposite(count_at(pieces, at, LIMIT + 1)?);

@@ -1,4 +1,4 @@
-use Rattle.std.proofs.Common.{◌≡◌, true, sym, ◌∙◌, arith}
+use Rattle.std.proofs.Common.{◌≡◌, true, sym, arith}
 use Rattle.std.specs.List.{list_all}
 use Rattle.sql_lex.specs.Bytes.{is_digit}
 use Rattle.ddl_read.proofs.DigitParsing.{are_utf8, small, large, unparsed}
