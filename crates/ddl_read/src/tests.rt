@@ -289,8 +289,12 @@ const TABLES: &[(&str, &str)] = &[
     ),
 ];
 
-/// The same of views, indexes and owners of sequences.
+/// The same of views, indexes and sequences.
 const RELATIONS: &[(&str, &str)] = &[
+    (
+        "CREATE SEQUENCE a.u;",
+        "0..20 CREATE SEQUENCE a.u\n    START WITH 1\n    INCREMENT BY 1\n    NO MINVALUE\n    NO MAXVALUE\n    CACHE 1;\n",
+    ),
     (
         "CREATE INDEX t ON public.m USING btree (x, z);",
         "0..46 CREATE INDEX t ON public.m USING btree (x, z);\n",
@@ -306,6 +310,14 @@ const RELATIONS: &[(&str, &str)] = &[
     (
         "CREATE INDEX k ON public.m USING btree (y)",
         "Incomplete(42)",
+    ),
+    (
+        "CREATE SEQUENCE public.v CYCLE AS smallint;",
+        "0..43 CREATE SEQUENCE public.v\n    AS smallint\n    START WITH 1\n    INCREMENT BY 1\n    NO MINVALUE\n    NO MAXVALUE\n    CACHE 1\n    CYCLE;\n",
+    ),
+    (
+        "CREATE SEQUENCE, public.v CYCLE AS smallint;",
+        "Unknown(15)",
     ),
     (
         "CREATE VIEW a.m AS SELECT 1 FROM a.k, (public.u JOIN public.u ON true);",
@@ -424,10 +436,6 @@ const RELATIONS: &[(&str, &str)] = &[
         "ALTER SEQUENCE public.u OWNED BY a.v.z;",
         "0..39 ALTER SEQUENCE public.u OWNED BY a.v.z;\n",
     ),
-];
-
-/// The same of views, indexes and owners of sequences.
-const RELATIONS_2: &[(&str, &str)] = &[
     (
         "CREATE UNIQUE INDEX n ON public.u USING btree (y, z) WHERE true;",
         "0..64 CREATE UNIQUE INDEX n ON public.u USING btree (y, z) WHERE true;\n",
@@ -445,6 +453,10 @@ const RELATIONS_2: &[(&str, &str)] = &[
         "CREATE UNIQUE INDEX m ON a.v USING btree (x);",
         "0..45 CREATE UNIQUE INDEX m ON a.v USING btree (x);\n",
     ),
+];
+
+/// The same of views, indexes and sequences.
+const RELATIONS_2: &[(&str, &str)] = &[
     ("CREATE UNIQUE INDEX m ON a.v USING ", "Incomplete(35)"),
     (
         "ALTER SEQUENCE public.m OWNED BY a.v.y;",
@@ -457,6 +469,14 @@ const RELATIONS_2: &[(&str, &str)] = &[
     (
         "CREATE UNIQUE INDEX k ON public.u USIN 7G btree (y);",
         "Unknown(34)",
+    ),
+    (
+        "CREATE SEQUENCE public.m;",
+        "0..25 CREATE SEQUENCE public.m\n    START WITH 1\n    INCREMENT BY 1\n    NO MINVALUE\n    NO MAXVALUE\n    CACHE 1;\n",
+    ),
+    (
+        "CREATE SEQUENCE public.t INCREMENT BY -1;",
+        "0..41 CREATE SEQUENCE public.t\n    START WITH -1\n    INCREMENT BY -1\n    NO MINVALUE\n    NO MAXVALUE\n    CACHE 1;\n",
     ),
     (
         "CREATE OR REPLACE VIEW public.m AS SELECT 1 FROM public.k, (public.m JOIN a.v ON true);",
@@ -529,6 +549,10 @@ const RELATIONS_2: &[(&str, &str)] = &[
         "0..80 CREATE VIEW a.t AS\n SELECT 1 FROM public.v, (public.u JOIN public 'q'.n ON true);\n",
     ),
     (
+        "CREATE SEQUENCE a.n;",
+        "0..20 CREATE SEQUENCE a.n\n    START WITH 1\n    INCREMENT BY 1\n    NO MINVALUE\n    NO MAXVALUE\n    CACHE 1;\n",
+    ),
+    (
         "CREATE UNIQUE INDEX n ON public.n USING btree (y, z) WHERE true;",
         "0..64 CREATE UNIQUE INDEX n ON public.n USING btree (y, z) WHERE true;\n",
     ),
@@ -551,6 +575,14 @@ const CHANGES: &[(&str, &str)] = &[
     (
         "ALTER TABLE a.u ADD CONSTRAINT m UNIQUE (z,, y);",
         "Unknown(43)",
+    ),
+    (
+        "ALTER TABLE public.u ADD CONSTRAINT v FOREIGN KEY (y) REFERENCES public.u(z);",
+        "0..77 ALTER TABLE ONLY public.u\n    ADD CONSTRAINT v FOREIGN KEY (y) REFERENCES public.u(z);\n",
+    ),
+    (
+        "ALTER TABLE public.u ADD CONSTRAINT v FOREIGN KEY ",
+        "Incomplete(50)",
     ),
     (
         "ALTER TABLE a.u ALTER COLUMN z SET DEFAULT 'm'::public.u;",
@@ -601,6 +633,10 @@ const CHANGES: &[(&str, &str)] = &[
         "0..57 ALTER TABLE ONLY public.u\n    ADD CONSTRAINT m PRIMARY KEY (y, x);\n",
     ),
     (
+        "ALTER TABLE public.n ADD CONSTRAINT t FOREIGN KEY (z) REFERENCES a.u(y);",
+        "0..72 ALTER TABLE ONLY public.n\n    ADD CONSTRAINT t FOREIGN KEY (z) REFERENCES a.u(y);\n",
+    ),
+    (
         "ALTER TABLE a.n ALTER COLUMN z SET DEFAULT (VALUE > 0);",
         "0..55 ALTER TABLE ONLY a.n ALTER COLUMN z SET DEFAULT (VALUE > 0);\n",
     ),
@@ -611,6 +647,10 @@ const CHANGES: &[(&str, &str)] = &[
     (
         "ALTER TABLE a.m ADD CONSTRAINT t PRIMARY KEY (x);",
         "0..49 ALTER TABLE ONLY a.m\n    ADD CONSTRAINT t PRIMARY KEY (x);\n",
+    ),
+    (
+        "ALTER TABLE public.t ADD CONSTRAINT v FOREIGN KEY (x) REFERENCES public.n(z);",
+        "0..77 ALTER TABLE ONLY public.t\n    ADD CONSTRAINT v FOREIGN KEY (x) REFERENCES public.n(z);\n",
     ),
     (
         "ALTER TABLE public.v ADD CONSTRAINT t PRIMARY KEY (z, y);",
@@ -625,6 +665,10 @@ const CHANGES: &[(&str, &str)] = &[
         "0..49 ALTER TABLE ONLY a.v\n    ADD CONSTRAINT k PRIMARY KEY (y);\n",
     ),
     (
+        "ALTER TABLE public.k ADD CONSTRAINT m FOREIGN KEY (y) REFERENCES a.m(x);",
+        "0..72 ALTER TABLE ONLY public.k\n    ADD CONSTRAINT m FOREIGN KEY (y) REFERENCES a.m(x);\n",
+    ),
+    (
         "ALTER TABLE a.t ADD CONSTRAINT m UNIQUE (z) DEFERRABLE;",
         "0..55 ALTER TABLE ONLY a.t\n    ADD CONSTRAINT m UNIQUE (z) DEFERRABLE;\n",
     ),
@@ -637,6 +681,10 @@ const CHANGES: &[(&str, &str)] = &[
         "0..49 ALTER TABLE ONLY a.t\n    ADD CONSTRAINT k PRIMARY KEY (y);\n",
     ),
     ("ALTER TABLE a.t ADD CONSTRAINT k PRIMARY K", "Unknown(41)"),
+    (
+        "ALTER TABLE a.u ADD CONSTRAINT u FOREIGN KEY (x) REFERENCES public.m(x);",
+        "0..72 ALTER TABLE ONLY a.u\n    ADD CONSTRAINT u FOREIGN KEY (x) REFERENCES public.m(x);\n",
+    ),
     (
         "ALTER TABLE a.m ADD CONSTRAINT n UNIQUE (z, y);",
         "0..47 ALTER TABLE ONLY a.m\n    ADD CONSTRAINT n UNIQUE (z, y);\n",
@@ -654,9 +702,33 @@ const CHANGES: &[(&str, &str)] = &[
         "0..73 ALTER TABLE ONLY public.n ALTER COLUMN z SET DEFAULT nextval('a.u'::regclass);\n",
     ),
     (
+        "ALTER TABLE a.k ADD CONSTRAINT v FOREIGN KEY (z) REFERENCES public.v(z);",
+        "0..72 ALTER TABLE ONLY a.k\n    ADD CONSTRAINT v FOREIGN KEY (z) REFERENCES public.v(z);\n",
+    ),
+    (
+        "ALTER TABLE public.v ADD CONSTRAINT t FOREIGN KEY (x) REFERENCES public.k(x);",
+        "0..77 ALTER TABLE ONLY public.v\n    ADD CONSTRAINT t FOREIGN KEY (x) REFERENCES public.k(x);\n",
+    ),
+    (
+        "ALTER TABLE public.v ADD CONSTRAINT t FOREIGN KEY (x) REFERENC;ES public.k(x);",
+        "Unknown(54)",
+    ),
+    (
+        "ALTER TABLE a.m ADD CONSTRAINT t FOREIGN KEY (y) REFERENCES a.t(z);",
+        "0..67 ALTER TABLE ONLY a.m\n    ADD CONSTRAINT t FOREIGN KEY (y) REFERENCES a.t(z);\n",
+    ),
+    (
+        "ALTER TABLE a.m ADD CONSTRAINT t FOREIGN KEY (y) ",
+        "Incomplete(49)",
+    ),
+    (
         "ALTER TABLE public.u ADD CONSTRAINT u UNIQUE (x, y) DEFERRABLE;",
         "0..63 ALTER TABLE ONLY public.u\n    ADD CONSTRAINT u UNIQUE (x, y) DEFERRABLE;\n",
     ),
+];
+
+/// The same of changes of tables.
+const CHANGES_2: &[(&str, &str)] = &[
     (
         "ALTER TABLE a.m ALTER COLUMN x SET DEFAULT 1;",
         "0..45 ALTER TABLE ONLY a.m ALTER COLUMN x SET DEFAULT 1;\n",
@@ -669,10 +741,6 @@ const CHANGES: &[(&str, &str)] = &[
         "ALTER TABLE public.v ADD CONSTRAINT k CHECK ((VALUE > 0));",
         "0..58 ALTER TABLE ONLY public.v\n    ADD CONSTRAINT k CHECK ((VALUE > 0));\n",
     ),
-];
-
-/// The same of changes of tables.
-const CHANGES_2: &[(&str, &str)] = &[
     (
         "ALTER TABLE public.v ADD CONSTRAINT k CHECK ((,VALUE > 0));",
         "0..59 ALTER TABLE ONLY public.v\n    ADD CONSTRAINT k CHECK ((,VALUE > 0));\n",
@@ -711,6 +779,10 @@ const CHANGES_2: &[(&str, &str)] = &[
         "0..49 ALTER TABLE ONLY public.m\n    ADD CONSTRAINT u UNIQUE (x);\n",
     ),
     (
+        "ALTER TABLE a.v ADD CONSTRAINT t FOREIGN KEY (x) REFERENCES a.m(y);",
+        "0..67 ALTER TABLE ONLY a.v\n    ADD CONSTRAINT t FOREIGN KEY (x) REFERENCES a.m(y);\n",
+    ),
+    (
         "ALTER TABLE a.t ADD CONSTRAINT k UNIQUE (z);",
         "0..44 ALTER TABLE ONLY a.t\n    ADD CONSTRAINT k UNIQUE (z);\n",
     ),
@@ -720,6 +792,14 @@ const CHANGES_2: &[(&str, &str)] = &[
     ),
     (
         "ALTER TABLE public.v ADD CONSTRAINT n UNIQUE (y) DEFERRABL",
+        "Unknown(49)",
+    ),
+    (
+        "ALTER TABLE a.t ADD CONSTRAINT k FOREIGN KEY (y) REFERENCES public.u(y);",
+        "0..72 ALTER TABLE ONLY a.t\n    ADD CONSTRAINT k FOREIGN KEY (y) REFERENCES public.u(y);\n",
+    ),
+    (
+        "ALTER TABLE a.t ADD CONSTRAINT k FOREIGN KEY (y) REFERENCE",
         "Unknown(49)",
     ),
     (
@@ -737,6 +817,10 @@ const CHANGES_2: &[(&str, &str)] = &[
     (
         "ALTER TABLE public.u ADD CONSTRAINT ,k PRIMARY KEY (z);",
         "Unknown(36)",
+    ),
+    (
+        "ALTER TABLE a.m ADD CONSTRAINT k FOREIGN KEY (x) REFERENCES a.k(x);",
+        "0..67 ALTER TABLE ONLY a.m\n    ADD CONSTRAINT k FOREIGN KEY (x) REFERENCES a.k(x);\n",
     ),
     (
         "ALTER TABLE public.m ADD CONSTRAINT t UNIQUE (z) DEFERRABLE;",
@@ -759,6 +843,14 @@ const CHANGES_2: &[(&str, &str)] = &[
         "0..54 ALTER TABLE ONLY public.k\n    ADD CONSTRAINT n PRIMARY KEY (y);\n",
     ),
     (
+        "ALTER TABLE a.t ADD CONSTRAINT u FOREIGN KEY (x) REFERENCES a.k(x);",
+        "0..67 ALTER TABLE ONLY a.t\n    ADD CONSTRAINT u FOREIGN KEY (x) REFERENCES a.k(x);\n",
+    ),
+    (
+        "ALTER TABLE a.t ADD CONSTRAINT u FOREIGN KEY (x) REFERENCES a.k(x 7);",
+        "Unknown(66)",
+    ),
+    (
         "ALTER TABLE public.t ADD CONSTRAINT k PRIMARY KEY (z);",
         "0..54 ALTER TABLE ONLY public.t\n    ADD CONSTRAINT k PRIMARY KEY (z);\n",
     ),
@@ -771,6 +863,14 @@ const CHANGES_2: &[(&str, &str)] = &[
         "Incomplete(49)",
     ),
     (
+        "ALTER TABLE a.t ADD CONSTRAINT k FOREIGN KEY (x) REFERENCES a.u(x);",
+        "0..67 ALTER TABLE ONLY a.t\n    ADD CONSTRAINT k FOREIGN KEY (x) REFERENCES a.u(x);\n",
+    ),
+    (
+        "ALTER TABLE a.t ADD CONSTRAINT k FOREIGN KEY (x) REFERENC",
+        "Unknown(49)",
+    ),
+    (
         "ALTER TABLE a.m ALTER COLUMN y SET DEFAULT (VALUE > 0);",
         "0..55 ALTER TABLE ONLY a.m ALTER COLUMN y SET DEFAULT (VALUE > 0);\n",
     ),
@@ -781,6 +881,10 @@ const CHANGES_2: &[(&str, &str)] = &[
     (
         "ALTER TABLE public.u ADD CONSTRAINT v UNIQUE (z) DEFE",
         "Unknown(49)",
+    ),
+    (
+        "ALTER TABLE a.t ADD CONSTRAINT n FOREIGN KEY (y) REFERENCES a.u(y);",
+        "0..67 ALTER TABLE ONLY a.t\n    ADD CONSTRAINT n FOREIGN KEY (y) REFERENCES a.u(y);\n",
     ),
     (
         "ALTER TABLE public.m ADD CONSTRAINT m PRIMARY KEY (x);",
@@ -840,7 +944,7 @@ fn tables_are_read(rt: HostRuntime) -> Result<(), Fail> {
 }
 
 #[test]
-fn views_and_indexes_are_read(rt: HostRuntime) -> Result<(), Fail> {
+fn views_indexes_and_sequences_are_read(rt: HostRuntime) -> Result<(), Fail> {
     for (text, want) in RELATIONS {
         let got = told(rt.alloc(), text).ok().ok_or("memory")?;
         assert_eq!(rt; got.as_str(), *want);
@@ -849,7 +953,7 @@ fn views_and_indexes_are_read(rt: HostRuntime) -> Result<(), Fail> {
 }
 
 #[test]
-fn views_and_indexes_are_read_2(rt: HostRuntime) -> Result<(), Fail> {
+fn views_indexes_and_sequences_are_read_2(rt: HostRuntime) -> Result<(), Fail> {
     for (text, want) in RELATIONS_2 {
         let got = told(rt.alloc(), text).ok().ok_or("memory")?;
         assert_eq!(rt; got.as_str(), *want);
