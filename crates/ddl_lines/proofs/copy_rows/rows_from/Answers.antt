@@ -1,0 +1,36 @@
+use Rattle.std.proofs.Common.{arith}
+use Rattle.ddl_lines.proofs.RowLaws.{goes_on, last_row, stops, ends, whole, between}
+use Rattle.ddl_lines.proofs.copy_rows.rows_from.Goals as goal
+
+pub returns-then-end-text-clause-exact : goal.returns-then-end-text-clause-exact
+returns-then-end-text-clause-exact c =
+    let text = c.args.text.now in
+    let h = c.lines.invariant in
+    let n = c.in-Row in
+    let rows = last_row text c.args.from c.lines.at n.start n.end n.next h.low h.within n.ensures.line n.ensures.exact c.if-end-text.true h.same in
+    whole text c.args.from n.end c.in_ok-rows-in-Row.rows.items (omega (arith, h.low, h.within)) c.if-end-text.true rows c.in_ok-rows-in-Row.ensures
+
+pub lines-preserved : goal.lines-preserved
+lines-preserved c =
+    let text = c.args.text.now in
+    let h = c.lines.invariant in
+    let n = c.in-Row in
+    record {
+      low = let line = n.ensures.line in omega (arith, h.low, line.3);
+      within = n.ensures.line.4;
+      same = goes_on text c.args.from c.lines.at n.start n.end n.next h.low h.within n.ensures.line n.ensures.exact c.if-end-text.false h.same;
+    }
+
+pub returns-in-Stop-clause-exact : goal.returns-in-Stop-clause-exact
+returns-in-Stop-clause-exact c =
+    let text = c.args.text.now in
+    let h = c.lines.invariant in
+    let rows = stops text c.args.from c.lines.at c.in-Stop.ensures.line h.same in
+    between text c.args.from c.lines.at c.rows_between.result h.low h.within rows c.rows_between.ensures
+
+pub returns-in-End-clause-exact : goal.returns-in-End-clause-exact
+returns-in-End-clause-exact c =
+    let text = c.args.text.now in
+    let h = c.lines.invariant in
+    let rows = ends text c.args.from c.lines.at c.in-End.ensures.line h.same in
+    between text c.args.from c.lines.at c.rows_between-in-End.result h.low h.within rows c.rows_between-in-End.ensures

@@ -1,0 +1,3 @@
+pub mod CopyRows
+pub mod MetaLines
+pub mod Examples

@@ -1,0 +1,125 @@
+//! Lines that begin with a backslash.
+ghost use Rattle.std.specs.Prelude.{◌≡◌, ◌≤◌, length, not};
+ghost use Rattle.std.specs.List.{list_all};
+ghost use Rattle.sql_lex.specs.Bytes.{is_blank};
+ghost use Rattle.ddl_lines.specs.MetaLines.{Gives, command_len, meta_line, name_alone, said_by, stands_alone};
+ghost use Rattle.ddl_lines.specs.declared.meta_lines.MetaError.TheVariants as errors;
+
+use cat_model::Stmt;
+use copy_text::Name;
+use ddl_parts::{Halt, Piece, Pieces, ReadError, collect};
+use std::alloc::{AllocError, AllocFailed, Global};
+use thiserror::Error;
+
+/// Why a line says nothing.
+#[derive(Debug, Drop, Error)]
+pub enum MetaError {
+    /// No such line is known.
+    #[error("the line is unknown")]
+    Unknown,
+    /// Its name has more than 63 bytes.
+    #[error("the line's name is too long")]
+    LongName,
+    /// Memory ran out.
+    #[error("out of memory")]
+    Memory,
+}
+
+impl From<AllocError> for MetaError {
+    ghost from_gives = { λ _ error. error ≡ errors.Memory };
+
+    fn from(_error: AllocError) -> MetaError {
+        MetaError::Memory
+    }
+}
+
+impl<T: Drop> From<AllocFailed<T>> for MetaError {
+    ghost from_gives = { λ _ error. error ≡ errors.Memory };
+
+    fn from(_error: AllocFailed<T>) -> MetaError {
+        MetaError::Memory
+    }
+}
+
+/// Whether the byte is white space.
+#[tactic(auto, unfolding(sql_lex::specs::Bytes::is_blank))]
+fn is_blank(byte: u8) -> bool
+    ensures { result ≡ is_blank byte }
+{
+    matches!(byte, b' ' | b'\t' | b'\n' | b'\r' | b'\x0c')
+}
+
+/// Whether all the text is white space.
+fn are_blank(text: &[u8]) -> bool
+    ensures { result ≡ list_all is_blank text.now }
+{
+    text.iter().all(|b| is_blank(*b))
+}
+
+/// How many bytes the line has before its first white space.
+#[tactic(auto, unfolding(crate::specs::MetaLines::command_len))]
+fn command_len(line: &[u8]) -> usize
+    ensures len { result ≡ command_len line.now }
+    ensures high { result ≤ length line.now }
+{
+    line.iter().take_while(|b| !is_blank(**b)).count()
+}
+
+/// Whether white space alone stands before the token and behind it.
+#[tactic(auto, unfolding(crate::specs::MetaLines::stands_alone))]
+fn stands_alone(text: &[u8], piece: Piece) -> bool
+    requires low { piece.token.start ≤ length text.now }
+    requires high { piece.token.end ≤ length text.now }
+    ensures { result ≡ stands_alone text.now piece }
+{
+    are_blank(&text[..piece.token.start]) && are_blank(&text[piece.token.end..])
+}
+
+/// The one name of a text that has nothing else.
+#[tactic(auto, unfolding(crate::specs::MetaLines::name_alone))]
+fn name_alone(alloc: Global, text: &[u8]) -> Result<Name, MetaError>
+    ensures { Gives (λ n. n) result (name_alone text.now) }
+{
+    let found = collect(alloc, text, 0)?;
+    let piece = match found.pieces.as_slice() {
+        [piece] => *piece,
+        _ => return Err(MetaError::Unknown),
+    };
+    if !stands_alone(text, piece) {
+        return Err(MetaError::Unknown);
+    }
+    match Pieces::new(text, found.pieces).name(alloc, 0) {
+        Ok((name, _)) => Ok(name),
+        Err(ReadError::Halted(Halt { long: true, .. })) => Err(MetaError::LongName),
+        Err(ReadError::Halted(_)) => Err(MetaError::Unknown),
+        Err(ReadError::Memory) => Err(MetaError::Memory),
+    }
+}
+
+/// What a command says with what stands behind it.
+#[tactic(auto, unfolding(crate::specs::MetaLines::said_by))]
+fn said_by(alloc: Global, command: &[u8], behind: &[u8]) -> Result<Option<Stmt>, MetaError>
+    ensures { Gives (λ s. s) result (said_by command.now behind.now) }
+{
+    if command == b"\\restrict".as_slice() || command == b"\\unrestrict".as_slice() {
+        return Ok(None);
+    }
+    if command != b"\\connect".as_slice() {
+        return Err(MetaError::Unknown);
+    }
+    let name = name_alone(alloc, behind)?;
+    Ok(Some(Stmt::Connect { name }))
+}
+
+/// The statement of a line that begins with a backslash, or `None` where the line is passed over.
+///
+/// `\connect` has a name behind white space; `\restrict` and `\unrestrict` are passed over with all that stands behind
+/// them. Another line is `Unknown`, and `LongName` where only its name's length is wrong.
+/// <https://www.postgresql.org/docs/16/app-psql.html>
+#[tactic(auto, unfolding(crate::specs::MetaLines::meta_line))]
+pub fn meta_line(alloc: Global, line: &[u8]) -> Result<Option<Stmt>, MetaError>
+    ensures { Gives (λ s. s) result (meta_line line.now) }
+{
+    let (command, behind) = line.split_at(command_len(line));
+    said_by(alloc, command, behind)
+}
