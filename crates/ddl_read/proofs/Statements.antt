@@ -1,6 +1,10 @@
 -- A text read statement by statement: those so far and those behind are those of the text.
 use Rattle.std.proofs.Common.{◌≡◌, ℕ, zero, suc, ◌+◌, ◌-◌, ◌<◌, ◌≤◌, List, [], ◌∷◌, ◌++◌, length, Option, Some, None, Result, Ok, Err, refl, sym, ap, ◌∙◌, arith, append_assoc, append-nil}
 use Rattle.sql_lex.specs.declared.fault.LexFault.{LexFault}
+use Rattle.sql_lex.specs.declared.token.Token.{Token}
+use Rattle.sql_lex.specs.Meaning.{spelling}
+use Rattle.cat_model.specs.declared.object.QName.{QName}
+use Rattle.cat_model.specs.declared.stmt.Stmt.TheVariants as stmt
 use Rattle.cat_model.specs.declared.stmt.Stmt.{Stmt}
 use Rattle.ddl_parts.specs.declared.pieces.Piece.{Piece}
 use Rattle.ddl_parts.specs.Pieces.{lexemes}
@@ -9,7 +13,8 @@ use Rattle.ddl_read.specs.declared.located.Located.{Located}
 use Rattle.ddl_read.specs.declared.fault.DdlFault.{DdlFault}
 use Rattle.ddl_read.specs.declared.fault.ReadStmtsError.{ReadStmtsError}
 use Rattle.ddl_read.specs.declared.fault.ReadStmtsError.TheVariants as errors
-use Rattle.ddl_read.specs.Reading.{◌>>=◌, Fails, listed, first_start, no_more, statement_of, statements_by, statements_from, statements_within, statements_of}
+use Rattle.ddl_lines.specs.MetaLines.{meta_line}
+use Rattle.ddl_read.specs.Reading.{◌>>=◌, Fails, Whole, whole, whole_of, completed, line_at, line_said, statements_at, listed, first_start, no_more, statement_of, statements_by, statements_from, statements_within, statements_of}
 
 -- statements so far, before what is read behind them
 abbrev pub behind : List Located → Result (List Located) DdlFault → Result (List Located) DdlFault
@@ -21,14 +26,15 @@ pub record IsLeft (whole : Result (List Located) DdlFault) (text : List ℕ) (so
   pub enough : length text - at < fuel
   pub same : whole ≡ behind so_far (statements_within fuel text at)
 
-abbrev turn : ℕ → List ℕ → List Located → Collected → Result (List Located) DdlFault
-turn n text so_far c = behind so_far (statements_from (statements_within n text) text c)
+-- how they go on, by the line that stands next
+abbrev turn : ℕ → List ℕ → List Located → ℕ → Option Token → Result (List Located) DdlFault
+turn n text so_far at line = behind so_far (statements_at (statements_within n text) text at line)
 
-opened : (whole : Result (List Located) DdlFault) (text : List ℕ) (so_far : List Located) (at : ℕ) → IsLeft whole text so_far at → (n : ℕ) × (length text - at < suc n) × (whole ≡ turn n text so_far (collected text at))
+opened : (whole : Result (List Located) DdlFault) (text : List ℕ) (so_far : List Located) (at : ℕ) → IsLeft whole text so_far at → (n : ℕ) × (length text - at < suc n) × (whole ≡ turn n text so_far at (line_at text at))
 unfolding statements_within
 opened whole text so_far at left = by_fuel left.fuel left.enough left.same
   where
-    by_fuel : (n : ℕ) → length text - at < n → whole ≡ behind so_far (statements_within n text at) → (m : ℕ) × (length text - at < suc m) × (whole ≡ turn m text so_far (collected text at))
+    by_fuel : (n : ℕ) → length text - at < n → whole ≡ behind so_far (statements_within n text at) → (m : ℕ) × (length text - at < suc m) × (whole ≡ turn m text so_far at (line_at text at))
     by_fuel zero h e = absurd (omega arith)
     by_fuel (suc m) h e = (m, h, e)
 
@@ -44,6 +50,20 @@ all_left text = record { fuel = length text + 1; enough = omega arith; same = sy
 abbrev by_start : ℕ → List ℕ → List Located → Collected → Option ℕ → Result (List Located) DdlFault
 by_start n text so_far c start = behind so_far (statements_by (statements_within n text) text c start)
 
+abbrev collecting : ℕ → List ℕ → List Located → Collected → Result (List Located) DdlFault
+collecting n text so_far c = by_start n text so_far c (first_start c.pieces)
+
+-- no line with a backslash stands next, and these tokens are collected
+pub record IsNext (text : List ℕ) (at : ℕ) (c : Collected) (start : Option ℕ) : Type 0 where
+  pub no_line : line_at text at ≡ None
+  pub tokens : collected text at ≡ c
+  pub first : first_start c.pieces ≡ start
+
+begun : (whole : Result (List Located) DdlFault) (text : List ℕ) (so_far : List Located) (at : ℕ) (c : Collected) (start : Option ℕ) → IsLeft whole text so_far at → IsNext text at c start → (n : ℕ) × (length text - at < suc n) × (whole ≡ by_start n text so_far c start)
+begun whole text so_far at c start left next =
+    let o = opened whole text so_far at left in
+    (o.0, o.1, o.2 ∙ ap (turn o.0 text so_far at) next.no_line ∙ ap (collecting o.0 text so_far) next.tokens ∙ ap (by_start o.0 text so_far c) next.first)
+
 ends_ok : (so_far : List Located) (fault : Option LexFault) → no_more fault ≡ Ok [] → behind so_far (no_more fault) ≡ Ok so_far
 ends_ok so_far None e = ap Ok (append-nil so_far)
 ends_ok so_far (Some fault) e = absurd cc
@@ -53,44 +73,63 @@ ends_fault so_far fault errors.Memory e = tt
 ends_fault so_far None (errors.Fault f) e = absurd cc
 ends_fault so_far (Some fault) (errors.Fault f) e = e
 
-pub at_end : (whole : Result (List Located) DdlFault) (text : List ℕ) (so_far : List Located) (at : ℕ) (c : Collected) → IsLeft whole text so_far at → collected text at ≡ c → first_start c.pieces ≡ None → no_more c.fault ≡ Ok [] → whole ≡ Ok so_far
-at_end whole text so_far at c left e none done =
-    let o = opened whole text so_far at left in
-    o.2 ∙ ap (turn o.0 text so_far) e ∙ ap (by_start o.0 text so_far c) none ∙ ends_ok so_far c.fault done
+pub at_end : (whole : Result (List Located) DdlFault) (text : List ℕ) (so_far : List Located) (at : ℕ) (c : Collected) → IsLeft whole text so_far at → IsNext text at c None → no_more c.fault ≡ Ok [] → whole ≡ Ok so_far
+at_end whole text so_far at c left next done = (begun whole text so_far at c None left next).2 ∙ ends_ok so_far c.fault done
 
-pub at_fault : (whole : Result (List Located) DdlFault) (text : List ℕ) (so_far : List Located) (at : ℕ) (c : Collected) (error : ReadStmtsError) → IsLeft whole text so_far at → collected text at ≡ c → first_start c.pieces ≡ None → Fails error (no_more c.fault) → Fails error whole
-at_fault whole text so_far at c error left e none failed =
-    let o = opened whole text so_far at left in
-    let is : whole ≡ behind so_far (no_more c.fault) = o.2 ∙ ap (turn o.0 text so_far) e ∙ ap (by_start o.0 text so_far c) none in
-    rw is (ends_fault so_far c.fault error failed)
+pub at_fault : (whole : Result (List Located) DdlFault) (text : List ℕ) (so_far : List Located) (at : ℕ) (c : Collected) (error : ReadStmtsError) → IsLeft whole text so_far at → IsNext text at c None → Fails error (no_more c.fault) → Fails error whole
+at_fault whole text so_far at c error left next failed = rw (begun whole text so_far at c None left next).2 (ends_fault so_far c.fault error failed)
 
-abbrev said : ℕ → List ℕ → List Located → Collected → ℕ → Result (Option Stmt) DdlFault → Result (List Located) DdlFault
-said n text so_far c start read = behind so_far (read >>= λ s. statements_within n text c.end >>= λ more. Ok (listed s start c.end more))
+-- ---- statements
 
-abbrev parsed : List ℕ → Collected → Result (Option Stmt) DdlFault
-parsed text c = statement_of (length text) (lexemes text c.pieces) c.fault
+abbrev said : ℕ → List ℕ → List Located → ℕ → Result Whole DdlFault → Result (List Located) DdlFault
+said n text so_far start read = behind so_far (read >>= λ w. statements_within n text w.end >>= λ more. Ok (listed w.stmt start w.end more))
+
+abbrev pub parsed : List ℕ → Collected → Result Whole DdlFault
+parsed text c = whole_of text c.end (statement_of (length text) (lexemes text c.pieces) c.fault)
 
 one_more : (so_far : List Located) (s : Option Stmt) (start end : ℕ) (read : Result (List Located) DdlFault) → behind so_far (read >>= λ more. Ok (listed s start end more)) ≡ behind (so_far ++ listed s start end []) read
 one_more so_far None start end (Ok more) = ap Ok (ap (λ (x : List Located). x ++ more) (sym (append-nil so_far)))
 one_more so_far (Some s) start end (Ok more) = ap Ok (sym (append_assoc so_far (listed (Some s) start end []) more))
 one_more so_far s start end (Err e) = refl
 
-pub at_statement : (whole : Result (List Located) DdlFault) (text : List ℕ) (so_far : List Located) (at : ℕ) (c : Collected) (start : ℕ) (s : Option Stmt) → IsLeft whole text so_far at → collected text at ≡ c → first_start c.pieces ≡ Some start → parsed text c ≡ Ok s → at < c.end → c.end ≤ length text
-    → IsLeft whole text (so_far ++ listed s start c.end []) c.end
-at_statement whole text so_far at c start s left e some read past high =
-    let o = opened whole text so_far at left in
-    record {
-      fuel = o.0;
-      enough = omega (arith, o.1);
-      same = o.2 ∙ ap (turn o.0 text so_far) e ∙ ap (by_start o.0 text so_far c) some ∙ ap (said o.0 text so_far c start) read ∙ one_more so_far s start c.end (statements_within o.0 text c.end);
-    }
+pub at_statement : (answer : Result (List Located) DdlFault) (text : List ℕ) (so_far : List Located) (at : ℕ) (c : Collected) (start : ℕ) (s : Option Stmt) (end : ℕ) → IsLeft answer text so_far at → IsNext text at c (Some start) → parsed text c ≡ Ok (whole s end) → at < end → end ≤ length text
+    → IsLeft answer text (so_far ++ listed s start end []) end
+at_statement answer text so_far at c start s end left next read past high =
+    let o = begun answer text so_far at c (Some start) left next in
+    record { fuel = o.0; enough = omega (arith, o.1); same = o.2 ∙ ap (said o.0 text so_far start) read ∙ one_more so_far s start end (statements_within o.0 text end) }
 
-pub at_bad_statement : (whole : Result (List Located) DdlFault) (text : List ℕ) (so_far : List Located) (at : ℕ) (c : Collected) (start : ℕ) (error : ReadStmtsError) → IsLeft whole text so_far at → collected text at ≡ c → first_start c.pieces ≡ Some start → Fails error (parsed text c) → Fails error whole
-at_bad_statement whole text so_far at c start errors.Memory left e some failed = tt
-at_bad_statement whole text so_far at c start (errors.Fault fault) left e some failed =
-    let o = opened whole text so_far at left in
-    o.2 ∙ ap (turn o.0 text so_far) e ∙ ap (by_start o.0 text so_far c) some ∙ ap (said o.0 text so_far c start) failed
+pub at_bad_statement : (answer : Result (List Located) DdlFault) (text : List ℕ) (so_far : List Located) (at : ℕ) (c : Collected) (start : ℕ) (error : ReadStmtsError) → IsLeft answer text so_far at → IsNext text at c (Some start) → Fails error (parsed text c) → Fails error answer
+at_bad_statement answer text so_far at c start errors.Memory left next failed = tt
+at_bad_statement answer text so_far at c start (errors.Fault fault) left next failed = (begun answer text so_far at c (Some start) left next).2 ∙ ap (said (begun answer text so_far at c (Some start) left next).0 text so_far start) failed
+
+-- ---- lines with a backslash
+
+abbrev pub line_parsed : List ℕ → Token → Result (Option Stmt) DdlFault
+line_parsed text t = line_said t.start (meta_line (spelling text t))
+
+abbrev said_line : ℕ → List ℕ → List Located → Token → Result (Option Stmt) DdlFault → Result (List Located) DdlFault
+said_line n text so_far t read = behind so_far (read >>= λ s. statements_within n text t.end >>= λ more. Ok (listed s t.start t.end more))
+
+pub at_line : (answer : Result (List Located) DdlFault) (text : List ℕ) (so_far : List Located) (at : ℕ) (t : Token) (s : Option Stmt) → IsLeft answer text so_far at → line_at text at ≡ Some t → line_parsed text t ≡ Ok s → at < t.end → t.end ≤ length text
+    → IsLeft answer text (so_far ++ listed s t.start t.end []) t.end
+at_line answer text so_far at t s left line read past high =
+    let o = opened answer text so_far at left in
+    record { fuel = o.0; enough = omega (arith, o.1); same = o.2 ∙ ap (turn o.0 text so_far at) line ∙ ap (said_line o.0 text so_far t) read ∙ one_more so_far s t.start t.end (statements_within o.0 text t.end) }
+
+pub at_bad_line : (answer : Result (List Located) DdlFault) (text : List ℕ) (so_far : List Located) (at : ℕ) (t : Token) (error : ReadStmtsError) → IsLeft answer text so_far at → line_at text at ≡ Some t → Fails error (line_parsed text t) → Fails error answer
+at_bad_line answer text so_far at t errors.Memory left line failed = tt
+at_bad_line answer text so_far at t (errors.Fault fault) left line failed =
+    let o = opened answer text so_far at left in
+    o.2 ∙ ap (turn o.0 text so_far at) line ∙ ap (said_line o.0 text so_far t) failed
 
 pub some_pieces : (ps : List Piece) (start : ℕ) → first_start ps ≡ Some start → 0 < length ps
 some_pieces [] start e = absurd cc
 some_pieces (p ∷ ps) start e = omega arith
+
+-- ---- the rows of a COPY
+
+-- a statement that is no COPY is whole where its tokens end
+pub uncompleted : (text : List ℕ) (end : ℕ) (s : Option Stmt) → ((q : QName) (columns : List (List ℕ)) (rows : List ℕ) → s ≡ Some (stmt.CopyRows q columns rows) → ⊥) → completed text end s ≡ Ok (whole s end)
+uncompleted text end None other = refl
+uncompleted text end (Some (stmt.CopyRows q columns rows)) other = absurd (other q columns rows refl)
+uncompleted text end (Some s) other = refl

@@ -1,8 +1,16 @@
 -- The statements of a text, and the first place from which on it has none.
--- A statement's tokens are those up to its semicolon; all of them together spell it.
-use Rattle.std.specs.Prelude.{◌≡◌, ℕ, zero, suc, ◌+◌, Bool, true, false, List, [], ◌∷◌, ◌++◌, length, drop, Option, Some, None, Result, Ok, Err, ⊤}
+-- A statement's tokens are those up to its semicolon; all of them together spell it. The rows of a COPY stand behind
+-- its semicolon. A line that begins with a backslash is a statement by itself.
+use Rattle.std.specs.Prelude.{◌≡◌, ℕ, zero, suc, ◌+◌, Bool, true, false, List, [], ◌∷◌, ◌++◌, length, drop, Option, Some, None, Result, Ok, Err, ⊤, if◌then◌else◌}
 use Rattle.sql_lex.specs.declared.fault.LexFault.{LexFault}
+use Rattle.sql_lex.specs.declared.token.Token.{Token}
+use Rattle.sql_lex.specs.declared.token.TokenKind.{TokenKind}
+use Rattle.sql_lex.specs.declared.token.TokenKind.TheVariants.{MetaLine}
+use Rattle.sql_lex.specs.Next.{next_token_of}
+use Rattle.sql_lex.specs.Meaning.{spelling}
+use Rattle.cat_model.specs.declared.object.QName.{QName}
 use Rattle.cat_model.specs.declared.stmt.Stmt.{Stmt}
+use Rattle.cat_model.specs.declared.stmt.Stmt.TheVariants as stmt
 use Rattle.ddl_parts.specs.declared.pieces.Piece.{Piece}
 use Rattle.ddl_parts.specs.Lexemes.{Lexeme, start_of}
 use Rattle.ddl_parts.specs.Parts.{Stop}
@@ -10,6 +18,8 @@ use Rattle.ddl_parts.specs.Pieces.{lexemes, value_of}
 use Rattle.ddl_parts.specs.Collecting.{Collected, collected}
 use Rattle.ddl_parts.specs.declared.fault.ReadError.{ReadError}
 use Rattle.ddl_parts.specs.declared.fault.ReadError.TheVariants as reading
+use Rattle.ddl_lines.specs.CopyRows.{Copied, rows_behind}
+use Rattle.ddl_lines.specs.MetaLines.{meta_line}
 use Rattle.ddl_read.specs.declared.located.Located.{Located}
 use Rattle.ddl_read.specs.declared.fault.DdlFault.{DdlFault}
 use Rattle.ddl_read.specs.declared.fault.DdlFault.TheVariants.{Lex, Unknown, LongName, Incomplete}
@@ -48,6 +58,50 @@ told limit fault (Err s) = Err (fault_of limit fault s)
 unfoldable pub statement_of : ℕ → List Lexeme → Option LexFault → Result (Option Stmt) DdlFault
 statement_of limit ts fault = told limit fault (value_of (statement.read ts))
 
+-- ---- the rows of a COPY
+
+-- a statement, and the place where it ends
+pub record Whole : Type 0 where
+  pub stmt : Option Stmt
+  pub end : ℕ
+
+abbrev pub whole : Option Stmt → ℕ → Whole
+whole s end = record { stmt = s; end = end }
+
+abbrev pub with_rows : QName → List (List ℕ) → Result Copied ℕ → Result Whole DdlFault
+with_rows q columns (Ok c) = Ok (whole (Some (stmt.CopyRows q columns c.rows)) c.end)
+with_rows q columns (Err at) = Err (Unknown at)
+
+-- a statement whose tokens end at a place: a COPY has its rows behind them
+abbrev pub completed : List ℕ → ℕ → Option Stmt → Result Whole DdlFault
+completed text end (Some (stmt.CopyRows q columns rows)) = with_rows q columns (rows_behind text end)
+completed text end s = Ok (whole s end)
+
+abbrev pub whole_of : List ℕ → ℕ → Result (Option Stmt) DdlFault → Result Whole DdlFault
+whole_of text end read = read >>= completed text end
+
+-- ---- a line that begins with a backslash
+
+abbrev pub is_line_kind : TokenKind → Bool
+is_line_kind MetaLine = true
+is_line_kind _ = false
+
+abbrev pub line_in : Result (Option Token) LexFault → Option Token
+line_in (Ok (Some t)) = if is_line_kind t.kind then Some t else None
+line_in _ = None
+
+-- the next token, where it is such a line
+unfoldable pub line_at : List ℕ → ℕ → Option Token
+line_at text at = line_in (next_token_of text at)
+
+-- what it says, or its fault at its backslash
+abbrev pub line_fault : Bool → ℕ → DdlFault
+line_fault long at = if long then LongName at else Unknown at
+
+abbrev pub line_said : ℕ → Result (Option Stmt) Bool → Result (Option Stmt) DdlFault
+line_said at (Ok s) = Ok s
+line_said at (Err long) = Err (line_fault long at)
+
 -- ---- all of them
 
 -- a statement before the others, unless it is empty
@@ -68,15 +122,20 @@ no_more None = Ok []
 abbrev pub statements_by : (ℕ → Result (List Located) DdlFault) → List ℕ → Collected → Option ℕ → Result (List Located) DdlFault
 statements_by later text c None = no_more c.fault
 statements_by later text c (Some start) =
-    statement_of (length text) (lexemes text c.pieces) c.fault >>= λ s. later c.end >>= λ more. Ok (listed s start c.end more)
+    whole_of text c.end (statement_of (length text) (lexemes text c.pieces) c.fault) >>= λ w. later w.end >>= λ more. Ok (listed w.stmt start w.end more)
 
 abbrev pub statements_from : (ℕ → Result (List Located) DdlFault) → List ℕ → Collected → Result (List Located) DdlFault
 statements_from later text c = statements_by later text c (first_start c.pieces)
 
+-- the same, by the line that stands next
+abbrev pub statements_at : (ℕ → Result (List Located) DdlFault) → List ℕ → ℕ → Option Token → Result (List Located) DdlFault
+statements_at later text at None = statements_from later text (collected text at)
+statements_at later text at (Some t) = line_said t.start (meta_line (spelling text t)) >>= λ s. later t.end >>= λ more. Ok (listed s t.start t.end more)
+
 -- at most n statements from a place on
 unfoldable pub statements_within : ℕ → List ℕ → ℕ → Result (List Located) DdlFault
 statements_within zero text at = Ok []
-statements_within (suc n) text at = statements_from (statements_within n text) text (collected text at)
+statements_within (suc n) text at = statements_at (statements_within n text) text at (line_at text at)
 
 -- the statements of a text; each has a byte at least
 unfoldable pub statements_of : List ℕ → Result (List Located) DdlFault
@@ -98,7 +157,12 @@ abbrev pub error_of : ℕ → Option LexFault → List Lexeme → ReadError → 
 error_of limit fault ts reading.Memory = errors.Memory
 error_of limit fault ts (reading.Halted h) = errors.Fault (fault_by limit fault h.long (start_of (drop h.at ts)))
 
--- a call that read a statement added it to those before, unless memory ran out
-abbrev pub Adds : List Located → List Located → Result (Unit {0}) ReadStmtsError → ℕ → ℕ → Result (Option Stmt) DdlFault → Type 0
-Adds old new (Ok u) start end given = (s : Option Stmt) × (given ≡ Ok s) × (new ≡ old ++ listed s start end [])
-Adds old new (Err error) start end given = Fails error given
+-- a call that read a statement added it to those before and answered its end, unless memory ran out
+abbrev pub Adds : List Located → List Located → Result ℕ ReadStmtsError → ℕ → Result Whole DdlFault → Type 0
+Adds old new (Ok end) start given = (s : Option Stmt) × (given ≡ Ok (whole s end)) × (new ≡ old ++ listed s start end [])
+Adds old new (Err error) start given = Fails error given
+
+-- the same of a line that begins with a backslash
+abbrev pub AddsLine : List Located → List Located → Result (Unit {0}) ReadStmtsError → Token → Result (Option Stmt) DdlFault → Type 0
+AddsLine old new (Ok u) t given = (s : Option Stmt) × (given ≡ Ok s) × (new ≡ old ++ listed s t.start t.end [])
+AddsLine old new (Err error) t given = Fails error given

@@ -5,6 +5,7 @@ ghost use Rattle.ddl_parts.specs.Pieces.{GivesPart, GivesPlace, GivesValue, valu
 ghost use Rattle.ddl_read.specs.Grammar.{create_schema, created, new_owner, new_check, domain_change, altered_domain, altered, selected, equals_or_to, setting, name_and_owner, path_and_owner, command, statement};
 
 use crate::alters::{altered_table, new_owner};
+use crate::copying::copy_from;
 use crate::relations::{altered_sequence, created_relation};
 use crate::tables::{create_domain, create_enum, create_table, named_check};
 use cat_model::{CheckDef, Owned, QName, Stmt};
@@ -191,8 +192,12 @@ fn command(alloc: Global, pieces: &Pieces<'_>, at: usize) -> Result<(Stmt, usize
         let at = pieces.word(at, "select")?;
         return selected(alloc, pieces, at);
     }
-    let at = pieces.word(at, "set")?;
-    setting(alloc, pieces, at)
+    if pieces.is_word(at, "set") {
+        let at = pieces.word(at, "set")?;
+        return setting(alloc, pieces, at);
+    }
+    let at = pieces.word(at, "copy")?;
+    copy_from(alloc, pieces, at)
 }
 
 /// The statement at the front of the tokens; an empty one is None.

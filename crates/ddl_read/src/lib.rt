@@ -3,6 +3,7 @@
 
 mod alters;
 mod columns;
+mod copying;
 mod fault;
 mod kinds;
 pub mod laws;

@@ -1,15 +1,18 @@
 //! The statements of a text, one after another.
-ghost use Rattle.std.specs.Prelude.{◌≡◌, ◌<◌, ◌≤◌, ◌++◌, [], length, drop, true, IfOk, OnOk};
+ghost use Rattle.std.specs.Prelude.{◌≡◌, ◌<◌, ◌≤◌, ◌++◌, [], length, drop, true, IfOk, IfSome, OnOk};
 ghost use Rattle.ddl_parts.specs.Pieces.{lexemes};
 ghost use Rattle.ddl_parts.specs.Lexemes.{start_of};
-ghost use Rattle.ddl_read.specs.Reading.{Adds, Gives, error_of, fault_by, first_start, listed, no_more, statement_of, statements_of};
+ghost use Rattle.ddl_read.specs.Reading.{Adds, AddsLine, Gives, completed, error_of, fault_by, first_start, line_at, line_said, listed, no_more, statement_of, statements_of, whole, whole_of};
+ghost use Rattle.ddl_lines.specs.MetaLines.{meta_line};
+ghost use Rattle.sql_lex.specs.Meaning.{spelling};
 
 use crate::fault::{DdlFault, ReadStmtsError};
 use crate::kinds::statement;
 use crate::located::Located;
-use cat_model::Stmt;
+use cat_model::{Items, Stmt};
+use ddl_lines::{MetaError, Rows, RowsError, meta_line, rows_behind};
 use ddl_parts::{Piece, Pieces, ReadError, Run, collect};
-use sql_lex::LexFault;
+use sql_lex::{LexFault, Token, TokenKind, next_token};
 use std::alloc::{AllocError, Global};
 
 /// The fault at a token, or behind the last one.
@@ -76,20 +79,92 @@ fn put(
     }
 }
 
-/// Reads a statement and adds it.
+/// The statement whose tokens end at a place, with its rows where it is a COPY, and where it ends.
+fn completed(
+    alloc: Global,
+    text: &[u8],
+    end: usize,
+    stmt: Option<Stmt>,
+) -> Result<(Option<Stmt>, usize), ReadStmtsError>
+    requires { end ≤ length text.now }
+    ensures exact { Gives (λ x. whole x.0 x.1) result (completed text.now end stmt) }
+    ensures within { IfOk result (λ x. (end ≤ x.1) × (x.1 ≤ length text.now)) }
+{
+    match stmt {
+        Some(Stmt::CopyRows { q, columns, .. }) => match rows_behind(alloc, text, end) {
+            Ok(Rows { rows, end }) => {
+                let rows = Items::new(rows);
+                Ok((Some(Stmt::CopyRows { q, columns, rows }), end))
+            }
+            Err(RowsError::Unknown(at)) => Err(ReadStmtsError::Fault(DdlFault::Unknown(at))),
+            Err(RowsError::Memory) => Err(ReadStmtsError::Memory),
+        },
+        stmt => Ok((stmt, end)),
+    }
+}
+
+/// Reads a statement and adds it; the answer is where it ends.
 fn add_statement(
     alloc: Global,
-    len: usize,
+    text: &[u8],
     pieces: &Pieces<'_>,
     fault: Option<LexFault>,
     start: usize,
     end: usize,
     statements: &mut Vec<Located>,
-) -> Result<(), ReadStmtsError>
-    ensures { Adds statements.old.items statements.new.items result start end (statement_of len pieces.now fault) }
+) -> Result<usize, ReadStmtsError>
+    requires { end ≤ length text.now }
+    ensures added { Adds statements.old.items statements.new.items result start (whole_of text.now end (statement_of (length text.now) pieces.now fault)) }
+    ensures within { IfOk result (λ x. (end ≤ x) × (x ≤ length text.now)) }
 {
-    let stmt = one_statement(alloc, len, pieces, fault)?;
+    let stmt = one_statement(alloc, text.len(), pieces, fault)?;
+    let (stmt, end) = completed(alloc, text, end, stmt)?;
     put(statements, stmt, start, end)?;
+    Ok(end)
+}
+
+/// The next token, where it is a line that begins with a backslash.
+#[tactic(auto, unfolding(crate::specs::Reading::line_at))]
+fn line_at(text: &[u8], at: usize) -> Option<Token>
+    requires { at ≤ length text.now }
+    ensures exact { result ≡ line_at text.now at }
+    ensures within { IfSome result (λ t. (at ≤ t.start) × (t.start < t.end) × (t.end ≤ length text.now)) }
+{
+    let Ok(Some(token)) = next_token(text, at) else {
+        return None;
+    };
+    match token.kind {
+        TokenKind::MetaLine => Some(token),
+        _ => None,
+    }
+}
+
+/// What a line with a backslash says, or its fault.
+fn line_said(alloc: Global, start: usize, line: &[u8]) -> Result<Option<Stmt>, ReadStmtsError>
+    ensures { Gives (λ s. s) result (line_said start (meta_line line.now)) }
+{
+    match meta_line(alloc, line) {
+        Ok(stmt) => Ok(stmt),
+        Err(MetaError::LongName) => Err(ReadStmtsError::Fault(DdlFault::LongName(start))),
+        Err(MetaError::Unknown) => Err(ReadStmtsError::Fault(DdlFault::Unknown(start))),
+        Err(MetaError::Memory) => Err(ReadStmtsError::Memory),
+    }
+}
+
+/// Reads a line that begins with a backslash and adds what it says.
+#[tactic(auto, unfolding(sql_lex::specs::Meaning::spelling))]
+fn add_line(
+    alloc: Global,
+    text: &[u8],
+    line: Token,
+    statements: &mut Vec<Located>,
+) -> Result<(), ReadStmtsError>
+    requires low { line.start ≤ line.end }
+    requires high { line.end ≤ length text.now }
+    ensures { AddsLine statements.old.items statements.new.items result line (line_said line.start (meta_line (spelling text.now line))) }
+{
+    let stmt = line_said(alloc, line.start, &text[line.start..line.end])?;
+    put(statements, stmt, line.start, line.end)?;
     Ok(())
 }
 
@@ -125,21 +200,17 @@ pub fn read_stmts(alloc: Global, text: &[u8]) -> Result<Vec<Located>, ReadStmtsE
     let mut statements = Vec::new(alloc);
     let mut at = 0;
     'statements: loop {
+        if let Some(line) = line_at(text, at) {
+            add_line(alloc, text, line, &mut statements)?;
+            at = line.end;
+            continue;
+        }
         let Run { pieces, end, fault } = collect(alloc, text, at)?;
         let Some(start) = first_start(&pieces) else {
             no_more(fault)?;
             return Ok(statements);
         };
         let pieces = Pieces::new(text, pieces);
-        add_statement(
-            alloc,
-            text.len(),
-            &pieces,
-            fault,
-            start,
-            end,
-            &mut statements,
-        )?;
-        at = end;
+        at = add_statement(alloc, text, &pieces, fault, start, end, &mut statements)?;
     }
 }
