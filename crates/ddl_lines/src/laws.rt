@@ -1,7 +1,11 @@
 //! Laws of the definitions, each the contract of a function that does nothing.
-ghost use Rattle.std.specs.Prelude.{◌≡◌, ℕ, ◌+◌, ◌≤◌, List, ◌∷◌, ◌++◌, length, Ok};
+ghost use Rattle.std.specs.Prelude.{◌≡◌, ℕ, ◌+◌, ◌≤◌, true, List, ◌∷◌, ◌++◌, length, Option, Ok};
+ghost use Rattle.std.specs.List.{list_all};
 ghost use Rattle.copy_text.specs.Marks.{newline, end_mark};
+ghost use Rattle.sql_lex.specs.Bytes.{in_line};
+ghost use Rattle.cat_model.specs.declared.stmt.Stmt.{Stmt};
 ghost use Rattle.ddl_lines.specs.CopyRows.{AreRows, Copied, rows_behind};
+ghost use Rattle.ddl_lines.specs.MetaLines.{IsSaid, meta_line};
 ghost use Rattle.ddl_lines.specs.Examples.{WorkedExamples};
 
 /// The definitions give what is known of some texts.
@@ -19,4 +23,9 @@ pub fn written_rows_are_read_back()
 pub fn what_is_read_are_rows()
     ensures rows { (text : List ℕ) (at : ℕ) (c : Copied) → rows_behind text at ≡ Ok c → AreRows c.rows }
     ensures bounds { (text : List ℕ) (at : ℕ) (c : Copied) → at ≤ length text → rows_behind text at ≡ Ok c → (at ≤ c.end) × (c.end ≤ length text) }
+{}
+
+/// What a line says is nothing or a connection, whose name is one that a system table can keep and has no line feed.
+pub fn what_a_line_says_is_a_name()
+    ensures { (line : List ℕ) (s : Option Stmt) → list_all in_line line ≡ true → meta_line line ≡ Ok s → IsSaid s }
 {}
