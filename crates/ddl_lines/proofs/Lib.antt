@@ -1,2 +1,4 @@
 pub mod RowLaws
 pub mod OneToken
+pub mod RowTexts
+pub mod LineNames

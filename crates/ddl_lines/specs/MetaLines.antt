@@ -1,8 +1,9 @@
 -- What a line says that begins with a backslash, as psql has them: the line is one token.
-use Rattle.std.specs.Prelude.{◌≡◌, ℕ, Bool, true, false, not, ◌&&◌, ◌||◌, List, [], ◌∷◌, take, drop, Option, Some, None, Result, Ok, Err, ⊤, if◌then◌else◌, codes}
+use Rattle.std.specs.Prelude.{◌≡◌, ◌⊎◌, ℕ, Bool, true, false, not, ◌&&◌, ◌||◌, List, [], ◌∷◌, take, drop, Option, Some, None, Result, Ok, Err, ⊤, if◌then◌else◌, codes}
 use Rattle.std.specs.List.{list_all, prefix_len}
 use Rattle.std.specs.Str.{bytes_eq}
-use Rattle.sql_lex.specs.Bytes.{is_blank}
+use Rattle.copy_text.specs.Texts.{IsName}
+use Rattle.sql_lex.specs.Bytes.{is_blank, in_line}
 use Rattle.cat_model.specs.declared.stmt.Stmt.{Stmt}
 use Rattle.cat_model.specs.declared.stmt.Stmt.TheVariants.{Connect}
 use Rattle.ddl_parts.specs.declared.pieces.Piece.{Piece}
@@ -45,6 +46,10 @@ said_by command behind =
 -- The statement of a line, or None where it is passed over. The error says whether it is one but for a name's length.
 unfoldable pub meta_line : List ℕ → Result (Option Stmt) Bool
 meta_line line = said_by (take (command_len line) line) (drop (command_len line) line)
+
+-- what a line of a script says: nothing, or a name, which lies in one line too
+abbrev pub IsSaid : Option Stmt → Type 0
+IsSaid s = (s ≡ None) ⊎ ((n : List ℕ) × (s ≡ Some (Connect n)) × IsName n × (list_all in_line n ≡ true))
 
 -- ---- what the code answers
 

@@ -1,0 +1,141 @@
+-- What a line with a backslash says is a name of one line.
+use Rattle.std.proofs.Common.{◌≡◌, ◌≢◌, ℕ, zero, suc, ◌-◌, Bool, true, false, cond, not, ◌&&◌, ◌||◌, List, [], ◌∷◌, length, map, take, drop, Option, Some, None, Result, Ok, Err, refl, ap, subst, ◌⊎◌, arith, inl, inr}
+use Rattle.std.specs.Prelude.{◌==◌, nat_lt, codes}
+use Rattle.std.specs.List.{list_all, list_any, AllByRecursion as ByRecursion}
+use Rattle.std.specs.Char.{to_ascii_lowercase}
+use Rattle.std.specs.Str.{is_utf8, bytes_eq}
+use Rattle.std.proofs.lemmas.Bool.{and_parts, or_parts, cases_Bool, and_from}
+use Rattle.std.proofs.lemmas.Bool.Decides.{nat_tests}
+use Rattle.std.proofs.lemmas.List.Elements.{All-from_recursion}
+use Rattle.std.proofs.lemmas.Str.{IsUtf8-from_is_utf8}
+use Rattle.copy_text.specs.Texts.{IsName}
+use Rattle.sql_lex.specs.declared.token.TokenKind.{TokenKind}
+use Rattle.sql_lex.specs.declared.token.TokenKind.TheVariants.{Word, QuotedName, Literal, Number, Sign, MetaLine}
+use Rattle.sql_lex.specs.Bytes.{in_line}
+use Rattle.sql_lex.specs.Meaning.{unless, inside, undoubled, name_of, spelling}
+use Rattle.cat_model.specs.declared.stmt.Stmt.{Stmt}
+use Rattle.cat_model.specs.declared.stmt.Stmt.TheVariants.{Connect}
+use Rattle.ddl_parts.specs.declared.pieces.Piece.{Piece}
+use Rattle.ddl_parts.specs.Leaves.{name_in, name_value}
+use Rattle.ddl_parts.specs.Pieces.{lexeme_of}
+use Rattle.ddl_parts.specs.Collecting.{collected}
+use Rattle.ddl_lines.specs.MetaLines.{IsSaid, command_len, stands_alone, one_name, name_alone, connected, said_by, meta_line}
+
+-- ---- a name is a name
+
+no_zero : (bytes : List ℕ) → list_any (λ b. b == 0) bytes ≡ false → ByRecursion (λ b. b ≢ 0) bytes
+no_zero [] e = tt
+no_zero (b ∷ bytes) e = let h = or_parts (b == 0) (list_any (λ b. b == 0) bytes) e in ((λ (is : b ≡ 0). grind (arith, nat_tests)), no_zero bytes h.1)
+
+abbrev name_is : List ℕ → Result (List ℕ) Bool
+name_is n = Ok n
+
+-- a name that was read is the token's, and a name
+name_in_is : (o : Option (List ℕ)) (n : List ℕ) → name_in o ≡ Ok n → (o ≡ Some n) × IsName n
+unfolding name_in
+name_in_is None n e = absurd cc
+name_in_is (Some bytes) n e = by_start (cases_Bool (length bytes == 0 || list_any (λ b. b == 0) bytes))
+  where
+    by_utf8 : (length bytes == 0) ≡ false → list_any (λ b. b == 0) bytes ≡ false → nat_lt 63 (length bytes) ≡ false → (b : Bool) → is_utf8 bytes ≡ b → cond b (name_is bytes) (Err false) ≡ Ok n → (Some bytes ≡ Some n) × IsName n
+    by_utf8 some zeros short true utf8 f =
+        let same : bytes ≡ n = cc in (
+          ap Some same,
+          subst IsName same (record { some = grind (arith, nat_tests); short = grind (arith, nat_tests); utf8 = IsUtf8-from_is_utf8 bytes utf8; no_zero = All-from_recursion (λ b. b ≢ 0) bytes (no_zero bytes zeros) }),
+        )
+    by_utf8 some zeros short false utf8 f = absurd cc
+
+    by_length : (length bytes == 0) ≡ false → list_any (λ b. b == 0) bytes ≡ false → (b : Bool) → nat_lt 63 (length bytes) ≡ b → cond b (Err true) (cond (is_utf8 bytes) (name_is bytes) (Err false)) ≡ Ok n → (Some bytes ≡ Some n) × IsName n
+    by_length some zeros true is f = absurd cc
+    by_length some zeros false is f = by_utf8 some zeros is (is_utf8 bytes) refl f
+
+    by_start : ((length bytes == 0 || list_any (λ b. b == 0) bytes) ≡ true) ⊎ ((length bytes == 0 || list_any (λ b. b == 0) bytes) ≡ false) → (Some bytes ≡ Some n) × IsName n
+    by_start (inl is) = absurd (let f = rw is at e in cc)
+    by_start (inr is) = let h = or_parts (length bytes == 0) (list_any (λ b. b == 0) bytes) is in by_length h.0 h.1 (nat_lt 63 (length bytes)) refl (rw is at e)
+
+-- ---- in one line
+
+abbrev OneLine : List ℕ → Type 0
+OneLine bytes = list_all in_line bytes ≡ true
+
+take_line : (n : ℕ) (bytes : List ℕ) → OneLine bytes → OneLine (take n bytes)
+take_line zero bytes all = refl
+take_line (suc n) [] all = refl
+take_line (suc n) (b ∷ bytes) all = let h = and_parts (in_line b) (list_all in_line bytes) all in and_from (in_line b) (list_all in_line (take n bytes)) h.0 (take_line n bytes h.1)
+
+drop_line : (n : ℕ) (bytes : List ℕ) → OneLine bytes → OneLine (drop n bytes)
+drop_line zero bytes all = all
+drop_line (suc n) [] all = refl
+drop_line (suc n) (b ∷ bytes) all = drop_line n bytes (and_parts (in_line b) (list_all in_line bytes) all).1
+
+small_byte : (b : ℕ) → in_line b ≡ true → in_line (to_ascii_lowercase b) ≡ true
+unfolding in_line
+small_byte b is = grind (arith, nat_tests)
+
+small_line : (bytes : List ℕ) → OneLine bytes → OneLine (map to_ascii_lowercase bytes)
+small_line [] all = refl
+small_line (b ∷ bytes) all =
+    let h = and_parts (in_line b) (list_all in_line bytes) all in
+    and_from (in_line (to_ascii_lowercase b)) (list_all in_line (map to_ascii_lowercase bytes)) (small_byte b h.0) (small_line bytes h.1)
+
+unless_line : (skip : Bool) (b : ℕ) (rest : List ℕ) → in_line b ≡ true → OneLine rest → OneLine (unless skip b rest)
+unless_line true b rest is all = all
+unless_line false b rest is all = and_from (in_line b) (list_all in_line rest) is all
+
+undoubled_line : (q : ℕ) (second : Bool) (bytes : List ℕ) → OneLine bytes → OneLine (undoubled q second bytes)
+unfolding undoubled
+undoubled_line q second [] all = refl
+undoubled_line q second (b ∷ rest) all =
+    let h = and_parts (in_line b) (list_all in_line rest) all in
+    unless_line (second && b == q) b (undoubled q (not second && b == q) rest) h.0 (undoubled_line q (not second && b == q) rest h.1)
+
+inside_line : (word : List ℕ) → OneLine word → OneLine (inside word)
+unfolding inside
+inside_line word all = take_line (length word - 2) (drop 1 word) (drop_line 1 word all)
+
+named_line : (kind : TokenKind) (word n : List ℕ) → OneLine word → name_of kind word ≡ Some n → OneLine n
+unfolding name_of
+named_line Word word n all e = let same : map to_ascii_lowercase word ≡ n = cc in subst OneLine same (small_line word all)
+named_line QuotedName word n all e = let same : undoubled 34 false (inside word) ≡ n = cc in subst OneLine same (undoubled_line 34 false (inside word) (inside_line word all))
+named_line Literal word n all e = absurd cc
+named_line Number word n all e = absurd cc
+named_line (Sign b) word n all e = absurd cc
+named_line MetaLine word n all e = absurd cc
+
+-- ---- the name of a line
+
+piece_name : (text : List ℕ) (p : Piece) (n : List ℕ) → OneLine text → name_value (lexeme_of text p) ≡ Ok n → IsName n × OneLine n
+unfolding name_value spelling
+piece_name text p n all e =
+    let h = name_in_is (name_of p.token.kind (spelling text p.token)) n e in
+    (h.1, named_line p.token.kind (spelling text p.token) n (take_line (p.token.end - p.token.start) (drop p.token.start text) (drop_line p.token.start text all)) h.0)
+
+one_name_is : (text : List ℕ) (ps : List Piece) (n : List ℕ) → OneLine text → one_name text ps ≡ Ok n → IsName n × OneLine n
+one_name_is text [] n all e = absurd cc
+one_name_is text (p ∷ q ∷ ps) n all e = absurd cc
+one_name_is text (p ∷ []) n all e = elim (cases_Bool (stands_alone text p)) [
+  | inl is ↦ piece_name text p n all (rw is at e)
+  | inr isnt ↦ absurd (let f = rw isnt at e in cc)
+]
+
+alone_is : (text n : List ℕ) → OneLine text → name_alone text ≡ Ok n → IsName n × OneLine n
+unfolding name_alone
+alone_is text n all e = one_name_is text (collected text 0).pieces n all e
+
+connected_is : (text : List ℕ) (r : Result (List ℕ) Bool) (s : Option Stmt) → OneLine text → name_alone text ≡ r → connected r ≡ Ok s → IsSaid s
+connected_is text (Ok n) s all is e = let same : Some (Connect n) ≡ s = cc in let h = alone_is text n all is in subst IsSaid same (inr (n, refl, h.0, h.1))
+connected_is text (Err long) s all is e = absurd cc
+
+said_is : (command behind : List ℕ) (s : Option Stmt) → OneLine behind → said_by command behind ≡ Ok s → IsSaid s
+unfolding said_by
+said_is command behind s all e = elim (cases_Bool (bytes_eq command (codes "\\restrict") || bytes_eq command (codes "\\unrestrict"))) [
+  | inl is ↦ let f = rw is at e in let same : None ≡ s = cc in subst IsSaid same (inl refl)
+  | inr isnt ↦ let f = rw isnt at e in by_connect (cases_Bool (bytes_eq command (codes "\\connect"))) f
+]
+  where
+    by_connect : (bytes_eq command (codes "\\connect") ≡ true) ⊎ (bytes_eq command (codes "\\connect") ≡ false) → cond (bytes_eq command (codes "\\connect")) (connected (name_alone behind)) (Err false) ≡ Ok s → IsSaid s
+    by_connect (inl is) f = connected_is behind (name_alone behind) s all refl (rw is at f)
+    by_connect (inr isnt) f = absurd (let g = rw isnt at f in cc)
+
+pub said_is_a_name : (line : List ℕ) (s : Option Stmt) → list_all in_line line ≡ true → meta_line line ≡ Ok s → IsSaid s
+unfolding meta_line
+said_is_a_name line s all e = said_is (take (command_len line) line) (drop (command_len line) line) s (drop_line (command_len line) line all) e
