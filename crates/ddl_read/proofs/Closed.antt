@@ -21,6 +21,8 @@ use Rattle.ddl_parts.specs.Expressions.{expression}
 use Rattle.ddl_read.specs.Clauses.{named_check}
 use Rattle.ddl_read.specs.RelationGrammar.{altered_sequence, view_branch, more_relations}
 use Rattle.ddl_read.proofs.RelationLaws.{altered_sequence_closes, relations_close}
+use Rattle.ddl_read.specs.CopyGrammar.{copy_from}
+use Rattle.ddl_read.proofs.CopyLaws.{copy_from_closes}
 use Rattle.ddl_read.specs.TableGrammar.{create_enum, enum_of, checking, typed, domain_of, create_domain, table_elements, table_of, create_table}
 use Rattle.ddl_read.specs.AlterGrammar.{altered_table}
 use Rattle.ddl_read.proofs.AlterClosed.{new_owner_closes, altered_table_closes}
@@ -142,8 +144,8 @@ command_closes : Closes semicolon command
 unfolding command
 command_closes =
     one_of_closes semicolon (record { key = codes "create"; part = created })
-    (record { key = codes "alter"; part = altered } ∷ record { key = codes "select"; part = selected } ∷ record { key = codes "set"; part = setting } ∷ [])
-    (created_closes, (altered_closes, (selected_closes, setting_closes)))
+    (record { key = codes "alter"; part = altered } ∷ record { key = codes "select"; part = selected } ∷ record { key = codes "set"; part = setting } ∷ record { key = codes "copy"; part = copy_from } ∷ [])
+    (created_closes, (altered_closes, (selected_closes, (setting_closes, copy_from_closes))))
 
 pub statement_closes : Closes semicolon statement
 unfolding statement

@@ -18,6 +18,8 @@ use Rattle.ddl_parts.specs.Expressions.{expression}
 use Rattle.ddl_parts.proofs.RunLaws.{expression_laws, expression_ends}
 use Rattle.ddl_parts.proofs.Tables.{one_of_laws, one_of_avoids_others}
 use Rattle.ddl_read.specs.Clauses.{named_check}
+use Rattle.ddl_read.specs.CopyGrammar.{copy_from}
+use Rattle.ddl_read.proofs.CopyLaws.{copy_from_laws}
 use Rattle.ddl_read.specs.TableGrammar.{create_enum, create_domain, create_table}
 use Rattle.ddl_read.specs.RelationGrammar.{altered_sequence, view_branch, more_relations}
 use Rattle.ddl_read.proofs.RelationLaws.{altered_sequence_laws, relations_lawful}
@@ -150,14 +152,14 @@ command_laws : Lawful command
 unfolding command
 command_laws =
     one_of_laws (record { key = codes "create"; part = created })
-    (record { key = codes "alter"; part = altered } ∷ record { key = codes "select"; part = selected } ∷ record { key = codes "set"; part = setting } ∷ [])
-    refl (created_laws, (altered_laws, (selected_laws, setting_laws)))
+    (record { key = codes "alter"; part = altered } ∷ record { key = codes "select"; part = selected } ∷ record { key = codes "set"; part = setting } ∷ record { key = codes "copy"; part = copy_from } ∷ [])
+    refl (created_laws, (altered_laws, (selected_laws, (setting_laws, copy_from_laws))))
 
 command_avoids : Avoids semicolon command
 unfolding command
 command_avoids =
     one_of_avoids_others semicolon (λ key. word_no_sign key 59) (record { key = codes "create"; part = created })
-    (record { key = codes "alter"; part = altered } ∷ record { key = codes "select"; part = selected } ∷ record { key = codes "set"; part = setting } ∷ [])
+    (record { key = codes "alter"; part = altered } ∷ record { key = codes "select"; part = selected } ∷ record { key = codes "set"; part = setting } ∷ record { key = codes "copy"; part = copy_from } ∷ [])
 
 -- the grammar of statements has the laws
 pub statement_laws : Lawful statement

@@ -38,3 +38,4 @@ pub mod AlterMade
 pub mod SequenceMade
 pub mod RelationMade
 pub mod Made
+pub mod CopyLaws
