@@ -21,10 +21,12 @@ use Rattle.ddl_read.specs.Clauses.{named_check}
 use Rattle.ddl_read.specs.TableGrammar.{create_enum, create_domain, create_table}
 use Rattle.ddl_read.specs.RelationGrammar.{altered_sequence, view_branch, more_relations}
 use Rattle.ddl_read.proofs.RelationLaws.{altered_sequence_laws, relations_lawful}
+use Rattle.ddl_read.specs.ValueGrammar.{set_value}
+use Rattle.ddl_read.proofs.ValueLaws.{set_value_laws}
 use Rattle.ddl_read.proofs.TableLaws.{named_check_laws, named_check_free, create_enum_laws, create_domain_laws, create_table_laws}
 use Rattle.ddl_read.specs.AlterGrammar.{altered_table}
 use Rattle.ddl_read.proofs.AlterLaws.{new_owner_laws, altered_table_laws}
-use Rattle.ddl_read.specs.Grammar.{semicolon, create_schema, created, new_owner, new_check, its_owner, one_more_check, domain_changed, domain_change, altered_domain, name_and_owner, path_and_owner, owned_name, owned_path, altered, selected, equals_or_to, setting, command, statement}
+use Rattle.ddl_read.specs.Grammar.{semicolon, create_schema, created, new_owner, new_check, its_owner, one_more_check, domain_changed, domain_change, altered_domain, name_and_owner, path_and_owner, owned_name, owned_path, altered, set_config, catalog_calls, selected, equals_or_to, setting, command, statement}
 
 free : (test : Lexeme → Bool) → Apart test never
 free test t e = refl
@@ -114,15 +116,18 @@ value_end_laws =
     (worded_laws (codes "false") (literal ◂ is_sign 44) (ended_laws 44 literal literal_laws (free (is_sign 44))) (free (is_word (codes "false"))))
     (free (is_sign 41))) (free semicolon)
 
+set_config_laws : Lawful set_config
+unfolding set_config
+set_config_laws =
+    seen_laws (λ x. stmt.SetConfig x.0 x.1) (is_sign 40 ▸ (literal then (is_sign 44 ▸ value_end)))
+    (sign_laws 40 (literal then (is_sign 44 ▸ value_end))
+    (then_laws literal (is_sign 44 ▸ value_end) literal_laws (sign_laws 44 value_end value_end_laws) (avoids_never (is_sign 44 ▸ value_end))))
+
 selected_laws : Lawful selected
 unfolding selected
 selected_laws =
-    seen_laws (λ x. stmt.SetConfig x.0 x.1) (is_word (codes "pg_catalog") ▸ (is_sign 46 ▸ (is_word (codes "set_config") ▸ (is_sign 40 ▸ (literal then (is_sign 44 ▸ value_end))))))
-    (word_laws (codes "pg_catalog") (is_sign 46 ▸ (is_word (codes "set_config") ▸ (is_sign 40 ▸ (literal then (is_sign 44 ▸ value_end)))))
-    (sign_laws 46 (is_word (codes "set_config") ▸ (is_sign 40 ▸ (literal then (is_sign 44 ▸ value_end))))
-    (word_laws (codes "set_config") (is_sign 40 ▸ (literal then (is_sign 44 ▸ value_end)))
-    (sign_laws 40 (literal then (is_sign 44 ▸ value_end))
-    (then_laws literal (is_sign 44 ▸ value_end) literal_laws (sign_laws 44 value_end value_end_laws) (avoids_never (is_sign 44 ▸ value_end)))))))
+    word_laws (codes "pg_catalog") (is_sign 46 ▸ catalog_calls)
+    (sign_laws 46 catalog_calls (one_of_laws (record { key = codes "set_config"; part = set_config }) (record { key = codes "setval"; part = set_value } ∷ []) refl (set_config_laws, set_value_laws)))
 
 equals_or_to_laws : Lawful equals_or_to
 unfolding equals_or_to

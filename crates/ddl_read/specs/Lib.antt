@@ -5,6 +5,7 @@ pub mod Rests
 pub mod AlterGrammar
 pub mod SequenceGrammar
 pub mod RelationGrammar
+pub mod ValueGrammar
 pub mod Grammar
 pub mod Reading
 pub mod Readings

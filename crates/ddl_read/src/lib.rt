@@ -12,6 +12,7 @@ mod relations;
 mod rests;
 mod sequences;
 mod tables;
+mod values;
 
 pub use fault::{DdlFault, ReadStmtsError};
 pub use located::Located;

@@ -87,7 +87,7 @@ pub struct Reached {
 }
 
 /// One more than the greatest number.
-const LIMIT: u64 = 1 << 63;
+pub(crate) const LIMIT: u64 = 1 << 63;
 
 #[tactic(auto, unfolding(sql_lex::specs::Bytes::is_digit))]
 fn is_digit(byte: u8) -> bool
@@ -122,7 +122,7 @@ fn digits_below(word: &[u8], limit: u64) -> Option<u64>
 }
 
 /// The number at a place, where it is below a limit.
-fn count_at(pieces: &Pieces<'_>, at: usize, limit: u64) -> Option<u64>
+pub(crate) fn count_at(pieces: &Pieces<'_>, at: usize, limit: u64) -> Option<u64>
     ensures exact { result ≡ count_first limit (drop at pieces.now) }
     ensures low { IfSome result (λ n. n < limit) }
 {
@@ -133,7 +133,7 @@ fn count_at(pieces: &Pieces<'_>, at: usize, limit: u64) -> Option<u64>
 }
 
 /// The number with a minus sign.
-fn opposite(number: u64) -> i64
+pub(crate) fn opposite(number: u64) -> i64
     requires { number < 2 ^ 63 + 1 }
     ensures { result ≡ opposite number }
 {

@@ -892,6 +892,70 @@ const CHANGES_2: &[(&str, &str)] = &[
     ),
 ];
 
+/// The same of the values of sequences.
+const VALUES: &[(&str, &str)] = &[
+    (
+        "SELECT pg_catalog.setval('public.m', 1, true);",
+        "0..46 SELECT pg_catalog.setval('public.m', 1, true);\n",
+    ),
+    (
+        "SELECT pg )_catalog.setval('public.m', 1, true);",
+        "Unknown(7)",
+    ),
+    (
+        "SELECT pg_catalog.setval('a.k', 5, true);",
+        "0..41 SELECT pg_catalog.setval('a.k', 5, true);\n",
+    ),
+    ("SELECT pg_catalog.setval('a.k', 5", "Incomplete(33)"),
+    (
+        "SELECT pg_catalog.setval('public.t', 5, true);",
+        "0..46 SELECT pg_catalog.setval('public.t', 5, true);\n",
+    ),
+    ("SELECT pg_catalog.setval(", "Incomplete(25)"),
+    (
+        "SELECT pg_catalog.setval('a.v', 1, true);",
+        "0..41 SELECT pg_catalog.setval('a.v', 1, true);\n",
+    ),
+    (
+        "SELECT pg_catalog.setval('a.v', 1 'q', true);",
+        "Unknown(34)",
+    ),
+    (
+        "SELECT pg_catalog.setval('a.u', 1, true);",
+        "0..41 SELECT pg_catalog.setval('a.u', 1, true);\n",
+    ),
+    ("SELECT pg_catalog.setval", "Incomplete(24)"),
+    (
+        "select PG_CATALOG . Setval (' \"a\" . /* */ K ', - 9223372036854775808, FALSE) ;",
+        "0..78 SELECT pg_catalog.setval('a.k', -9223372036854775808, false);\n",
+    ),
+    (
+        "SELECT pg_catalog.setval('a.\"''\"', 9223372036854775807, true);",
+        "0..62 SELECT pg_catalog.setval('a.\"''\"', 9223372036854775807, true);\n",
+    ),
+    (
+        "SELECT pg_catalog.setval('a.k', 9223372036854775808, true);",
+        "Unknown(32)",
+    ),
+    (
+        "SELECT pg_catalog.setval('a.k', -9223372036854775809, true);",
+        "Unknown(33)",
+    ),
+    ("SELECT pg_catalog.setval('a.k', 1.5, true);", "Unknown(32)"),
+    ("SELECT pg_catalog.setval('a.k', +1, true);", "Unknown(32)"),
+    ("SELECT pg_catalog.setval('a.k', 1);", "Unknown(33)"),
+    ("SELECT pg_catalog.setval('a.k', 1, 'true');", "Unknown(35)"),
+    ("SELECT pg_catalog.setval(E'a.k', 1, true);", "Unknown(25)"),
+    ("SELECT pg_catalog.setval('k', 1, true);", "Unknown(25)"),
+    ("SELECT pg_catalog.setval('a.k b', 1, true);", "Unknown(25)"),
+    ("SELECT pg_catalog.setval('a.k;', 1, true);", "Unknown(25)"),
+    ("SELECT pg_catalog.setval('a.\"k', 1, true);", "Unknown(25)"),
+    (
+        "SELECT pg_catalog.setval('a.a123456789b123456789c123456789d123456789e123456789f123456789g123', 1, true);",
+        "Unknown(25)",
+    ),
+];
+
 fn told(alloc: Global, text: &str) -> Result<String, AllocError> {
     match read_stmts(alloc, text.as_bytes()) {
         Ok(statements) => spelled(alloc, &statements),
@@ -955,6 +1019,15 @@ fn views_indexes_and_sequences_are_read(rt: HostRuntime) -> Result<(), Fail> {
 #[test]
 fn views_indexes_and_sequences_are_read_2(rt: HostRuntime) -> Result<(), Fail> {
     for (text, want) in RELATIONS_2 {
+        let got = told(rt.alloc(), text).ok().ok_or("memory")?;
+        assert_eq!(rt; got.as_str(), *want);
+    }
+    Ok(())
+}
+
+#[test]
+fn values_of_sequences_are_read(rt: HostRuntime) -> Result<(), Fail> {
+    for (text, want) in VALUES {
         let got = told(rt.alloc(), text).ok().ok_or("memory")?;
         assert_eq!(rt; got.as_str(), *want);
     }
