@@ -7,7 +7,7 @@ use Rattle.cat_model.specs.declared.grant.Owned.TheVariants as owned
 use Rattle.cat_model.specs.declared.stmt.Stmt.TheVariants as stmt
 use Rattle.ddl_parts.specs.Lexemes.{Lexeme, is_word, is_sign, never, starts}
 use Rattle.ddl_parts.specs.Parts.{Part, mark, seen, ◌then◌, ◌▸◌, ◌◂◌}
-use Rattle.ddl_parts.specs.Laws.{Lawful, Apart, Avoids, Begins}
+use Rattle.ddl_parts.specs.Laws.{Lawful, Apart, Avoids}
 use Rattle.ddl_parts.specs.Leaves.{name, literal, qualified}
 use Rattle.ddl_parts.proofs.Steps.{avoids_never}
 use Rattle.ddl_parts.proofs.Simple.{seen_laws, seen_begins, seen_avoids, mark_laws, mark_begins}
@@ -50,10 +50,6 @@ created_laws =
     (record { key = codes "type"; part = create_enum } ∷ record { key = codes "domain"; part = create_domain } ∷ record { key = codes "table"; part = create_table } ∷ view_branch ∷ more_relations)
     refl (create_schema_laws, (create_enum_laws, (create_domain_laws, (create_table_laws, relations_lawful))))
 
-new_owner_begins : Begins (is_word (codes "owner")) new_owner
-unfolding new_owner
-new_owner_begins = lead_begins (is_word (codes "owner")) (is_word (codes "to") ▸ (name ◂ semicolon))
-
 name_and_owner_laws : Lawful name_and_owner
 unfolding name_and_owner
 name_and_owner_laws = then_laws name new_owner name_laws new_owner_laws (avoids_never new_owner)
@@ -91,7 +87,7 @@ unfolding altered
 altered_laws =
     one_of_laws (owned_name (codes "schema") owned.Schema)
     (owned_path (codes "type") owned.Type ∷ record { key = codes "domain"; part = altered_domain } ∷ record { key = codes "table"; part = altered_table }
-    ∷ record { key = codes "sequence"; part = altered_sequence new_owner } ∷ owned_path (codes "view") owned.View ∷ owned_name (codes "database") owned.Database ∷ [])
+    ∷ record { key = codes "sequence"; part = altered_sequence } ∷ owned_path (codes "view") owned.View ∷ owned_name (codes "database") owned.Database ∷ [])
     refl (
       owned_name_laws (codes "schema") owned.Schema,
       (
@@ -100,7 +96,7 @@ altered_laws =
           altered_domain_laws,
           (
             altered_table_laws,
-            (altered_sequence_laws new_owner new_owner_laws new_owner_begins, (owned_path_laws (codes "view") owned.View, owned_name_laws (codes "database") owned.Database)),
+            (altered_sequence_laws, (owned_path_laws (codes "view") owned.View, owned_name_laws (codes "database") owned.Database)),
           ),
         ),
       ),

@@ -336,11 +336,11 @@ table_owner g q r gap is role =
     laid_out g (owner_text (owned.Table q) r) s ((g ++ codes "ALTER") ++ (((32 ∷ []) ++ codes "TABLE") ++ t)) (table_put g s t gap k refl) (owner_text_is g (codes "TABLE") (path q) r)
 
 -- the owner of a sequence is one of its changes
-sequence_owner : (s : Stmt) (ts : List Lexeme) → (is_word (codes "sequence") ▸ (owned_path (codes "sequence") owned.Sequence).part).Spells s ts → (is_word (codes "sequence") ▸ altered_sequence new_owner).Spells s ts
+sequence_owner : (s : Stmt) (ts : List Lexeme) → (is_word (codes "sequence") ▸ (owned_path (codes "sequence") owned.Sequence).part).Spells s ts → (is_word (codes "sequence") ▸ altered_sequence).Spells s ts
 unfolding altered_sequence sequence_change path_and_owner
 sequence_owner s ts h = (h.0, h.1, (h.2.0, h.2.1, h.2.2, h.2.3, by h.0.1 h.2.1 h.2.4))
   where
-    by : (w : Stmt) (us : List Lexeme) → (owned_path (codes "sequence") owned.Sequence).part.Spells w us → (altered_sequence new_owner).Spells w us
+    by : (w : Stmt) (us : List Lexeme) → (owned_path (codes "sequence") owned.Sequence).part.Spells w us → altered_sequence.Spells w us
     by w us p = ((p.0.0, its_role p.0.1), p.1, (p.2.0, p.2.1, p.2.2, p.2.3, inl (p.0.1, refl, p.2.4)))
 
 pub owner_laid_out : (g : List ℕ) (object : Owned) (r : List ℕ) → Gap g → IsOwnedName object → IsName r → IsLaidOut g (stmt.OwnerTo object r) (owner_text object r)

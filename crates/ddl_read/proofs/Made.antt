@@ -87,7 +87,7 @@ unfolding altered
 altered_yields =
     one_of_yields IsWritable (owned_name (codes "schema") owned.Schema)
     (owned_path (codes "type") owned.Type ∷ record { key = codes "domain"; part = altered_domain } ∷ record { key = codes "table"; part = altered_table }
-    ∷ record { key = codes "sequence"; part = altered_sequence new_owner } ∷ owned_path (codes "view") owned.View ∷ owned_name (codes "database") owned.Database ∷ []) (
+    ∷ record { key = codes "sequence"; part = altered_sequence } ∷ owned_path (codes "view") owned.View ∷ owned_name (codes "database") owned.Database ∷ []) (
       owned_name_yields (codes "schema") owned.Schema (λ n is. is),
       (
         owned_path_yields (codes "type") owned.Type (λ q is. is),
@@ -96,7 +96,7 @@ altered_yields =
           (
             altered_table_yields,
             (
-              altered_sequence_yields new_owner new_owner_yields,
+              altered_sequence_yields,
               (owned_path_yields (codes "view") owned.View (λ q is. is), owned_name_yields (codes "database") owned.Database (λ n is. is)),
             ),
           ),
