@@ -8,6 +8,7 @@ use Rattle.cat_model.specs.declared.object.QName.{QName}
 use Rattle.cat_model.specs.declared.grant.Owned.{Owned}
 use Rattle.cat_model.specs.declared.grant.Owned.TheVariants as owned
 use Rattle.cat_model.specs.declared.stmt.Stmt.{Stmt}
+use Rattle.cat_model.specs.declared.stmt.Stmt.TheVariants as stmt
 use Rattle.ddl_parts.specs.declared.pieces.Piece.{Piece}
 use Rattle.ddl_parts.specs.Lexemes.{Lexeme, is_word, is_sign, is_sign_kind}
 use Rattle.ddl_parts.specs.Parts.{Part, mark, seen, many, ◌then◌, ◌▸◌, ◌◂◌}
@@ -23,10 +24,12 @@ use Rattle.ddl_read.specs.RelationGrammar.{altered_sequence, view_branch, more_r
 use Rattle.ddl_read.proofs.RelationLaws.{altered_sequence_closes, relations_close}
 use Rattle.ddl_read.specs.CopyGrammar.{copy_from}
 use Rattle.ddl_read.proofs.CopyLaws.{copy_from_closes}
+use Rattle.ddl_read.specs.ValueGrammar.{set_value}
+use Rattle.ddl_read.proofs.ValueLaws.{set_value_closes}
 use Rattle.ddl_read.specs.TableGrammar.{create_enum, enum_of, checking, typed, domain_of, create_domain, table_elements, table_of, create_table}
 use Rattle.ddl_read.specs.AlterGrammar.{altered_table}
 use Rattle.ddl_read.proofs.AlterClosed.{new_owner_closes, altered_table_closes}
-use Rattle.ddl_read.specs.Grammar.{semicolon, create_schema, created, new_owner, new_check, its_owner, one_more_check, domain_changed, domain_change, altered_domain, name_and_owner, path_and_owner, owned_name, owned_path, altered, selected, equals_or_to, setting, command, statement}
+use Rattle.ddl_read.specs.Grammar.{semicolon, create_schema, created, new_owner, new_check, its_owner, one_more_check, domain_changed, domain_change, altered_domain, name_and_owner, path_and_owner, owned_name, owned_path, altered, set_config, catalog_calls, selected, equals_or_to, setting, command, statement}
 pub use Rattle.ddl_read.proofs.Closing.{ends_with, ends_cons, ends_append, Closes, passes_by, passed, mark_closes, then_closes, seen_closes, choose_closes, lead_closes, end_closes, AllClose, one_of_closes}
 
 -- ---- the kinds
@@ -108,7 +111,7 @@ unfolding altered
 altered_closes =
     one_of_closes semicolon (owned_name (codes "schema") owned.Schema)
     (owned_path (codes "type") owned.Type ∷ record { key = codes "domain"; part = altered_domain } ∷ record { key = codes "table"; part = altered_table }
-    ∷ record { key = codes "sequence"; part = altered_sequence new_owner } ∷ owned_path (codes "view") owned.View ∷ owned_name (codes "database") owned.Database ∷ []) (
+    ∷ record { key = codes "sequence"; part = altered_sequence } ∷ owned_path (codes "view") owned.View ∷ owned_name (codes "database") owned.Database ∷ []) (
       owned_name_closes (codes "schema") owned.Schema,
       (
         owned_path_closes (codes "type") owned.Type,
@@ -116,7 +119,7 @@ altered_closes =
           altered_domain_closes,
           (
             altered_table_closes,
-            (altered_sequence_closes new_owner new_owner_closes, (owned_path_closes (codes "view") owned.View, owned_name_closes (codes "database") owned.Database)),
+            (altered_sequence_closes, (owned_path_closes (codes "view") owned.View, owned_name_closes (codes "database") owned.Database)),
           ),
         ),
       ),
@@ -125,15 +128,19 @@ altered_closes =
 abbrev value_end : Part (List ℕ)
 value_end = literal ◂ is_sign 44 ◂ is_word (codes "false") ◂ is_sign 41 ◂ semicolon
 
+set_config_closes : Closes semicolon set_config
+unfolding set_config
+set_config_closes =
+    seen_closes semicolon (λ x. stmt.SetConfig x.0 x.1) (is_sign 40 ▸ (literal then (is_sign 44 ▸ value_end)))
+    (lead_closes semicolon (is_sign 40) (literal then (is_sign 44 ▸ value_end))
+    (then_closes semicolon literal (is_sign 44 ▸ value_end) (lead_closes semicolon (is_sign 44) value_end (end_closes semicolon (literal ◂ is_sign 44 ◂ is_word (codes "false") ◂ is_sign 41)))))
+
 selected_closes : Closes semicolon selected
 unfolding selected
-selected_closes v ts spells =
-    lead_closes semicolon (is_word (codes "pg_catalog")) (is_sign 46 ▸ (is_word (codes "set_config") ▸ (is_sign 40 ▸ (literal then (is_sign 44 ▸ value_end)))))
-    (lead_closes semicolon (is_sign 46) (is_word (codes "set_config") ▸ (is_sign 40 ▸ (literal then (is_sign 44 ▸ value_end))))
-    (lead_closes semicolon (is_word (codes "set_config")) (is_sign 40 ▸ (literal then (is_sign 44 ▸ value_end)))
-    (lead_closes semicolon (is_sign 40) (literal then (is_sign 44 ▸ value_end))
-    (then_closes semicolon literal (is_sign 44 ▸ value_end) (lead_closes semicolon (is_sign 44) value_end (end_closes semicolon (literal ◂ is_sign 44 ◂ is_word (codes "false") ◂ is_sign 41)))))))
-    spells.0 ts spells.2
+selected_closes =
+    lead_closes semicolon (is_word (codes "pg_catalog")) (is_sign 46 ▸ catalog_calls)
+    (lead_closes semicolon (is_sign 46) catalog_calls
+    (one_of_closes semicolon (record { key = codes "set_config"; part = set_config }) (record { key = codes "setval"; part = set_value } ∷ []) (set_config_closes, set_value_closes)))
 
 setting_closes : Closes semicolon setting
 unfolding setting

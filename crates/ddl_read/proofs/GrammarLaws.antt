@@ -7,7 +7,7 @@ use Rattle.cat_model.specs.declared.grant.Owned.TheVariants as owned
 use Rattle.cat_model.specs.declared.stmt.Stmt.TheVariants as stmt
 use Rattle.ddl_parts.specs.Lexemes.{Lexeme, is_word, is_sign, never, starts}
 use Rattle.ddl_parts.specs.Parts.{Part, mark, seen, ◌then◌, ◌▸◌, ◌◂◌}
-use Rattle.ddl_parts.specs.Laws.{Lawful, Apart, Avoids, Begins}
+use Rattle.ddl_parts.specs.Laws.{Lawful, Apart, Avoids}
 use Rattle.ddl_parts.specs.Leaves.{name, literal, qualified}
 use Rattle.ddl_parts.proofs.Steps.{avoids_never}
 use Rattle.ddl_parts.proofs.Simple.{seen_laws, seen_begins, seen_avoids, mark_laws, mark_begins}
@@ -23,10 +23,12 @@ use Rattle.ddl_read.proofs.CopyLaws.{copy_from_laws}
 use Rattle.ddl_read.specs.TableGrammar.{create_enum, create_domain, create_table}
 use Rattle.ddl_read.specs.RelationGrammar.{altered_sequence, view_branch, more_relations}
 use Rattle.ddl_read.proofs.RelationLaws.{altered_sequence_laws, relations_lawful}
+use Rattle.ddl_read.specs.ValueGrammar.{set_value}
+use Rattle.ddl_read.proofs.ValueLaws.{set_value_laws}
 use Rattle.ddl_read.proofs.TableLaws.{named_check_laws, named_check_free, create_enum_laws, create_domain_laws, create_table_laws}
 use Rattle.ddl_read.specs.AlterGrammar.{altered_table}
 use Rattle.ddl_read.proofs.AlterLaws.{new_owner_laws, altered_table_laws}
-use Rattle.ddl_read.specs.Grammar.{semicolon, create_schema, created, new_owner, new_check, its_owner, one_more_check, domain_changed, domain_change, altered_domain, name_and_owner, path_and_owner, owned_name, owned_path, altered, selected, equals_or_to, setting, command, statement}
+use Rattle.ddl_read.specs.Grammar.{semicolon, create_schema, created, new_owner, new_check, its_owner, one_more_check, domain_changed, domain_change, altered_domain, name_and_owner, path_and_owner, owned_name, owned_path, altered, set_config, catalog_calls, selected, equals_or_to, setting, command, statement}
 
 free : (test : Lexeme → Bool) → Apart test never
 free test t e = refl
@@ -49,10 +51,6 @@ created_laws =
     one_of_laws (record { key = codes "schema"; part = create_schema })
     (record { key = codes "type"; part = create_enum } ∷ record { key = codes "domain"; part = create_domain } ∷ record { key = codes "table"; part = create_table } ∷ view_branch ∷ more_relations)
     refl (create_schema_laws, (create_enum_laws, (create_domain_laws, (create_table_laws, relations_lawful))))
-
-new_owner_begins : Begins (is_word (codes "owner")) new_owner
-unfolding new_owner
-new_owner_begins = lead_begins (is_word (codes "owner")) (is_word (codes "to") ▸ (name ◂ semicolon))
 
 name_and_owner_laws : Lawful name_and_owner
 unfolding name_and_owner
@@ -91,7 +89,7 @@ unfolding altered
 altered_laws =
     one_of_laws (owned_name (codes "schema") owned.Schema)
     (owned_path (codes "type") owned.Type ∷ record { key = codes "domain"; part = altered_domain } ∷ record { key = codes "table"; part = altered_table }
-    ∷ record { key = codes "sequence"; part = altered_sequence new_owner } ∷ owned_path (codes "view") owned.View ∷ owned_name (codes "database") owned.Database ∷ [])
+    ∷ record { key = codes "sequence"; part = altered_sequence } ∷ owned_path (codes "view") owned.View ∷ owned_name (codes "database") owned.Database ∷ [])
     refl (
       owned_name_laws (codes "schema") owned.Schema,
       (
@@ -100,7 +98,7 @@ altered_laws =
           altered_domain_laws,
           (
             altered_table_laws,
-            (altered_sequence_laws new_owner new_owner_laws new_owner_begins, (owned_path_laws (codes "view") owned.View, owned_name_laws (codes "database") owned.Database)),
+            (altered_sequence_laws, (owned_path_laws (codes "view") owned.View, owned_name_laws (codes "database") owned.Database)),
           ),
         ),
       ),
@@ -116,15 +114,18 @@ value_end_laws =
     (worded_laws (codes "false") (literal ◂ is_sign 44) (ended_laws 44 literal literal_laws (free (is_sign 44))) (free (is_word (codes "false"))))
     (free (is_sign 41))) (free semicolon)
 
+set_config_laws : Lawful set_config
+unfolding set_config
+set_config_laws =
+    seen_laws (λ x. stmt.SetConfig x.0 x.1) (is_sign 40 ▸ (literal then (is_sign 44 ▸ value_end)))
+    (sign_laws 40 (literal then (is_sign 44 ▸ value_end))
+    (then_laws literal (is_sign 44 ▸ value_end) literal_laws (sign_laws 44 value_end value_end_laws) (avoids_never (is_sign 44 ▸ value_end))))
+
 selected_laws : Lawful selected
 unfolding selected
 selected_laws =
-    seen_laws (λ x. stmt.SetConfig x.0 x.1) (is_word (codes "pg_catalog") ▸ (is_sign 46 ▸ (is_word (codes "set_config") ▸ (is_sign 40 ▸ (literal then (is_sign 44 ▸ value_end))))))
-    (word_laws (codes "pg_catalog") (is_sign 46 ▸ (is_word (codes "set_config") ▸ (is_sign 40 ▸ (literal then (is_sign 44 ▸ value_end)))))
-    (sign_laws 46 (is_word (codes "set_config") ▸ (is_sign 40 ▸ (literal then (is_sign 44 ▸ value_end))))
-    (word_laws (codes "set_config") (is_sign 40 ▸ (literal then (is_sign 44 ▸ value_end)))
-    (sign_laws 40 (literal then (is_sign 44 ▸ value_end))
-    (then_laws literal (is_sign 44 ▸ value_end) literal_laws (sign_laws 44 value_end value_end_laws) (avoids_never (is_sign 44 ▸ value_end)))))))
+    word_laws (codes "pg_catalog") (is_sign 46 ▸ catalog_calls)
+    (sign_laws 46 catalog_calls (one_of_laws (record { key = codes "set_config"; part = set_config }) (record { key = codes "setval"; part = set_value } ∷ []) refl (set_config_laws, set_value_laws)))
 
 equals_or_to_laws : Lawful equals_or_to
 unfolding equals_or_to

@@ -19,7 +19,7 @@ use Rattle.ddl_parts.specs.Expressions.{expression}
 use Rattle.ddl_write.specs.Paths.{path, ending}
 use Rattle.ddl_write.specs.Spelling.{owned_object, schema_text, set_text, setting_text, owner_text, check_text, domain_check_text}
 use Rattle.ddl_read.specs.Clauses.{semicolon, check_of, named_check}
-use Rattle.ddl_read.specs.Grammar.{create_schema, created, new_owner, new_check, its_owner, one_more_check, domain_changed, domain_change, altered_domain, name_and_owner, path_and_owner, owned_name, owned_path, altered, selected, equals_or_to, setting, command, statement}
+use Rattle.ddl_read.specs.Grammar.{create_schema, created, new_owner, new_check, its_owner, one_more_check, domain_changed, domain_change, altered_domain, name_and_owner, path_and_owner, owned_name, owned_path, altered, set_config, catalog_calls, selected, equals_or_to, setting, command, statement}
 use Rattle.ddl_read.specs.declared.alters.TableChange.TheVariants.{Owner}
 use Rattle.ddl_read.specs.AlterGrammar.{table_change, altered_table}
 use Rattle.ddl_read.proofs.AlterPuts.{bare_put}
@@ -183,6 +183,16 @@ schema_laid_out g n gap is =
 
 -- ---- SELECT pg_catalog.set_config
 
+-- what stands behind SELECT pg_catalog and the dot
+pub select_put : (g : List ℕ) (s : Stmt) (b : List ℕ) → Gap g → IsPut catalog_calls s b [] → IsPut statement (Some s) ((g ++ codes "SELECT") ++ (((32 ∷ []) ++ codes "pg_catalog") ++ ((46 ∷ []) ++ b))) []
+unfolding statement command selected
+select_put g s b gap k =
+    let t0 = (46 ∷ []) ++ b in
+    let k0 = sign_lead 46 [] catalog_calls s b [] dot_sign refl none k in
+    let t1 = ((32 ∷ []) ++ codes "pg_catalog") ++ t0 in
+    let k1 : IsPut selected s t1 [] = word_lead (codes "pg_catalog") (codes "pg_catalog") (32 ∷ []) (is_sign 46 ▸ catalog_calls) s t0 [] catalog_key space k0 refl in
+    put_as (is_word (codes "select") ▸ selected) statement s (Some s) ((g ++ codes "SELECT") ++ t1) [] (word_lead (codes "select") (codes "SELECT") g selected s t1 [] select_key gap k1 refl) (λ ts h. inr (s, refl, inr (inr (inl h))))
+
 abbrev config_end : Part (List ℕ)
 config_end = literal ◂ is_sign 44 ◂ is_word (codes "false") ◂ is_sign 41 ◂ semicolon
 
@@ -195,7 +205,7 @@ config_regrouped : (g a s b c d o n k v f z e line : List ℕ)
 config_regrouped g a s b c d o n k v f z e line = simp append_assoc
 
 pub config_laid_out : (g n v : List ℕ) → Gap g → IsUtf8 n → IsUtf8 v → IsLaidOut g (stmt.SetConfig n v) (setting_text n v)
-unfolding statement command selected setting_text
+unfolding set_config setting_text
 config_laid_out g n v gap name_utf8 value_utf8 =
     let bracket = sign_put 41 [] (ended.tokens ++ []) closing_sign (inl refl) none (behind ended) in
     let word = word_put (codes "false") (codes "false") (32 ∷ []) (bracket.tokens ++ (ended.tokens ++ [])) false_key space (behind bracket) (begun parts_words bracket refl) in
@@ -217,17 +227,13 @@ config_laid_out g n v gap name_utf8 value_utf8 =
     let k6 : IsPut config_values (n, v) t6 [] = then_put literal (is_sign 44 ▸ config_end) n v (written_literal n) t5 [] k5 first in
     let k7 = sign_lead 40 [] config_values (n, v) t6 [] opening_sign refl none k6 in
     let t7 = (40 ∷ []) ++ t6 in
-    let k8 = word_lead (codes "set_config") (codes "set_config") [] (is_sign 40 ▸ config_values) (n, v) t7 [] config_key none k7 refl in
-    let t8 = codes "set_config" ++ t7 in
-    let k9 = sign_lead 46 [] (is_word (codes "set_config") ▸ (is_sign 40 ▸ config_values)) (n, v) t8 [] dot_sign refl none k8 in
-    let t9 = (46 ∷ []) ++ t8 in
-    let k10 = word_lead (codes "pg_catalog") (codes "pg_catalog") (32 ∷ []) (is_sign 46 ▸ (is_word (codes "set_config") ▸ (is_sign 40 ▸ config_values))) (n, v) t9 [] catalog_key space k9 refl in
-    let t10 = ((32 ∷ []) ++ codes "pg_catalog") ++ t9 in
     let s = stmt.SetConfig n v in
-    let made : IsPut selected s t10 [] = seen_put (λ x. stmt.SetConfig x.0 x.1) (is_word (codes "pg_catalog") ▸ (is_sign 46 ▸ (is_word (codes "set_config") ▸ (is_sign 40 ▸ config_values)))) (n, v) t10 [] k10 in
-    let whole = (g ++ codes "SELECT") ++ t10 in
-    let k : IsPut statement (Some s) whole [] =
-    put_as (is_word (codes "select") ▸ selected) statement s (Some s) whole [] (word_lead (codes "select") (codes "SELECT") g selected s t10 [] select_key gap made refl) (λ ts h. inr (s, refl, inr (inr (inl h)))) in
+    let k8 : IsPut set_config s t7 [] = seen_put (λ x. stmt.SetConfig x.0 x.1) (is_sign 40 ▸ config_values) (n, v) t7 [] k7 in
+    let t8 = codes "set_config" ++ t7 in
+    let k9 = word_lead (codes "set_config") (codes "set_config") [] set_config s t7 [] config_key none k8 refl in
+    let k10 : IsPut catalog_calls s t8 [] = put_as (is_word (codes "set_config") ▸ set_config) catalog_calls s s t8 [] k9 (λ ts h. inl h) in
+    let whole = (g ++ codes "SELECT") ++ (((32 ∷ []) ++ codes "pg_catalog") ++ ((46 ∷ []) ++ t8)) in
+    let k = select_put g s t8 gap k10 in
     laid_out g (setting_text n v) s whole k
     (config_regrouped g (codes "SELECT") (32 ∷ []) (codes "pg_catalog") (46 ∷ []) (codes "set_config") (40 ∷ []) (written_literal n) (44 ∷ []) (written_literal v) (codes "false") (41 ∷ []) (59 ∷ []) (10 ∷ []))
 
@@ -330,11 +336,11 @@ table_owner g q r gap is role =
     laid_out g (owner_text (owned.Table q) r) s ((g ++ codes "ALTER") ++ (((32 ∷ []) ++ codes "TABLE") ++ t)) (table_put g s t gap k refl) (owner_text_is g (codes "TABLE") (path q) r)
 
 -- the owner of a sequence is one of its changes
-sequence_owner : (s : Stmt) (ts : List Lexeme) → (is_word (codes "sequence") ▸ (owned_path (codes "sequence") owned.Sequence).part).Spells s ts → (is_word (codes "sequence") ▸ altered_sequence new_owner).Spells s ts
+sequence_owner : (s : Stmt) (ts : List Lexeme) → (is_word (codes "sequence") ▸ (owned_path (codes "sequence") owned.Sequence).part).Spells s ts → (is_word (codes "sequence") ▸ altered_sequence).Spells s ts
 unfolding altered_sequence sequence_change path_and_owner
 sequence_owner s ts h = (h.0, h.1, (h.2.0, h.2.1, h.2.2, h.2.3, by h.0.1 h.2.1 h.2.4))
   where
-    by : (w : Stmt) (us : List Lexeme) → (owned_path (codes "sequence") owned.Sequence).part.Spells w us → (altered_sequence new_owner).Spells w us
+    by : (w : Stmt) (us : List Lexeme) → (owned_path (codes "sequence") owned.Sequence).part.Spells w us → altered_sequence.Spells w us
     by w us p = ((p.0.0, its_role p.0.1), p.1, (p.2.0, p.2.1, p.2.2, p.2.3, inl (p.0.1, refl, p.2.4)))
 
 pub owner_laid_out : (g : List ℕ) (object : Owned) (r : List ℕ) → Gap g → IsOwnedName object → IsName r → IsLaidOut g (stmt.OwnerTo object r) (owner_text object r)

@@ -11,6 +11,7 @@ pub mod Closing
 pub mod AlterClosed
 pub mod SequenceLaws
 pub mod RelationLaws
+pub mod ValueLaws
 pub mod Closed
 pub mod ReadingLaws
 pub mod Standing
@@ -30,6 +31,7 @@ pub mod Bracketed
 pub mod RelationLayouts
 pub mod SequenceNumbers
 pub mod SequenceLayouts
+pub mod ValueLayouts
 pub mod Respelled
 pub mod KeyLayouts
 pub mod RestTexts
@@ -37,5 +39,6 @@ pub mod TableMade
 pub mod AlterMade
 pub mod SequenceMade
 pub mod RelationMade
+pub mod ValueMade
 pub mod Made
 pub mod CopyLaws

@@ -14,7 +14,7 @@ use Rattle.ddl_parts.specs.Collecting.{collected}
 use Rattle.ddl_parts.specs.Leaves.{name, literal, qualified}
 use Rattle.ddl_parts.specs.Expressions.{expression}
 use Rattle.ddl_read.specs.declared.located.Located.{Located}
-use Rattle.ddl_read.specs.Grammar.{semicolon, create_schema, created, new_owner, new_check, DomainChange, its_owner, one_more_check, domain_changed, domain_change, altered_domain, name_and_owner, path_and_owner, owned_name, owned_path, altered, selected, equals_or_to, setting, command, statement}
+use Rattle.ddl_read.specs.Grammar.{semicolon, create_schema, created, new_owner, new_check, DomainChange, its_owner, one_more_check, domain_changed, domain_change, altered_domain, name_and_owner, path_and_owner, owned_name, owned_path, altered, set_config, catalog_calls, selected, equals_or_to, setting, command, statement}
 use Rattle.ddl_read.specs.AlterGrammar.{altered_table}
 use Rattle.ddl_read.proofs.AlterMade.{new_owner_yields, altered_table_yields}
 use Rattle.ddl_read.specs.Reading.{listed as listed_before, statements_of}
@@ -22,6 +22,8 @@ use Rattle.ddl_read.specs.Readings.{IsStatement, Reads, all_read, one_read}
 use Rattle.ddl_read.specs.Clauses.{named_check}
 use Rattle.ddl_read.specs.RelationGrammar.{altered_sequence, view_branch, more_relations}
 use Rattle.ddl_read.proofs.RelationMade.{altered_sequence_yields, relations_yield}
+use Rattle.ddl_read.specs.ValueGrammar.{set_value}
+use Rattle.ddl_read.proofs.ValueMade.{set_value_yields}
 use Rattle.ddl_read.specs.TableGrammar.{create_enum, create_domain, create_table}
 use Rattle.ddl_read.specs.Respelling.{IsPath, IsOwnedName, IsExpressionText, IsCheck, IsWritable, AllWritable, joined, spellings, said}
 use Rattle.ddl_read.proofs.Kept.{AllCame, have_come}
@@ -85,7 +87,7 @@ unfolding altered
 altered_yields =
     one_of_yields IsWritable (owned_name (codes "schema") owned.Schema)
     (owned_path (codes "type") owned.Type ∷ record { key = codes "domain"; part = altered_domain } ∷ record { key = codes "table"; part = altered_table }
-    ∷ record { key = codes "sequence"; part = altered_sequence new_owner } ∷ owned_path (codes "view") owned.View ∷ owned_name (codes "database") owned.Database ∷ []) (
+    ∷ record { key = codes "sequence"; part = altered_sequence } ∷ owned_path (codes "view") owned.View ∷ owned_name (codes "database") owned.Database ∷ []) (
       owned_name_yields (codes "schema") owned.Schema (λ n is. is),
       (
         owned_path_yields (codes "type") owned.Type (λ q is. is),
@@ -94,7 +96,7 @@ altered_yields =
           (
             altered_table_yields,
             (
-              altered_sequence_yields new_owner new_owner_yields,
+              altered_sequence_yields,
               (owned_path_yields (codes "view") owned.View (λ q is. is), owned_name_yields (codes "database") owned.Database (λ n is. is)),
             ),
           ),
@@ -108,18 +110,22 @@ value_end = literal ◂ is_sign 44 ◂ is_word (codes "false") ◂ is_sign 41 �
 abbrev values : Part (List ℕ × List ℕ)
 values = literal then (is_sign 44 ▸ value_end)
 
-selected_yields : Yields IsWritable selected
-unfolding selected
-selected_yields v ts r came spells =
+set_config_yields : Yields IsWritable set_config
+unfolding set_config
+set_config_yields v ts r came spells =
     let ended : Yields IsUtf8 value_end = end_yields IsUtf8 semicolon (literal ◂ is_sign 44 ◂ is_word (codes "false") ◂ is_sign 41)
     (end_yields IsUtf8 (is_sign 41) (literal ◂ is_sign 44 ◂ is_word (codes "false"))
     (end_yields IsUtf8 (is_word (codes "false")) (literal ◂ is_sign 44) (end_yields IsUtf8 (is_sign 44) literal literal_yields))) in
     let both = then_yields IsUtf8 IsUtf8 literal (is_sign 44 ▸ value_end) literal_yields (lead_yields IsUtf8 (is_sign 44) value_end ended) in
     let P : List ℕ × List ℕ → Type 0 = λ x. IsUtf8 x.0 × IsUtf8 x.1 in
-    let all = lead_yields P (is_word (codes "pg_catalog")) (is_sign 46 ▸ (is_word (codes "set_config") ▸ (is_sign 40 ▸ values)))
-    (lead_yields P (is_sign 46) (is_word (codes "set_config") ▸ (is_sign 40 ▸ values))
-    (lead_yields P (is_word (codes "set_config")) (is_sign 40 ▸ values) (lead_yields P (is_sign 40) values both))) in
-    subst IsWritable (sym spells.1) (all spells.0 ts r came spells.2)
+    subst IsWritable (sym spells.1) (lead_yields P (is_sign 40) values both spells.0 ts r came spells.2)
+
+selected_yields : Yields IsWritable selected
+unfolding selected
+selected_yields =
+    lead_yields IsWritable (is_word (codes "pg_catalog")) (is_sign 46 ▸ catalog_calls)
+    (lead_yields IsWritable (is_sign 46) catalog_calls
+    (one_of_yields IsWritable (record { key = codes "set_config"; part = set_config }) (record { key = codes "setval"; part = set_value } ∷ []) (set_config_yields, set_value_yields)))
 
 setting_yields : Yields IsWritable setting
 unfolding setting

@@ -20,9 +20,10 @@ use Rattle.ddl_read.specs.declared.fault.DdlFault.TheVariants.{Lex}
 use Rattle.ddl_read.specs.RelationGrammar.{altered_sequence, sequence_change, owned_by, create_view, replace_view, index_parts, create_index, create_unique_index}
 use Rattle.ddl_read.specs.SequenceGrammar.{create_sequence}
 use Rattle.ddl_read.specs.CopyGrammar.{copy_from}
+use Rattle.ddl_read.specs.ValueGrammar.{truth, set_value}
 use Rattle.ddl_read.specs.TableGrammar.{create_enum, create_domain, create_table}
 use Rattle.ddl_read.specs.AlterGrammar.{added, new_default, own_change, table_change, behind_only, altered_table}
-use Rattle.ddl_read.specs.Grammar.{statement, command, created, altered, selected, setting, create_schema, altered_domain, domain_change, new_check, name_and_owner, path_and_owner, new_owner}
+use Rattle.ddl_read.specs.Grammar.{statement, command, created, altered, set_config, selected, setting, create_schema, altered_domain, domain_change, new_check, name_and_owner, path_and_owner, new_owner}
 use Rattle.ddl_lines.specs.CopyRows.{Copied, rows_behind}
 use Rattle.ddl_lines.specs.MetaLines.{meta_line}
 use Rattle.ddl_lines.proofs.RowTexts.{rows_bounds}
@@ -80,7 +81,7 @@ told_err limit fault (Err s) f e = (s, refl, sym (let is : fault_of limit fault 
 
 -- nothing goes on with a statement
 left_free : (ts : List Lexeme) → starts statement.goes_on ts ≡ false
-unfolding statement command created altered selected setting create_schema create_enum create_domain create_table altered_domain domain_change new_check name_and_owner path_and_owner new_owner added new_default own_change table_change behind_only altered_table altered_sequence sequence_change owned_by create_view replace_view create_index create_unique_index index_parts create_sequence copy_from
+unfolding statement command created altered set_config truth set_value selected setting create_schema create_enum create_domain create_table altered_domain domain_change new_check name_and_owner path_and_owner new_owner added new_default own_change table_change behind_only altered_table altered_sequence sequence_change owned_by create_view replace_view create_index create_unique_index index_parts create_sequence copy_from
 left_free [] = refl
 left_free (t ∷ ts) = refl
 
@@ -140,11 +141,14 @@ line_kind (Sign b) e = absurd cc
 abbrev with_kind : Token → TokenKind → Token
 with_kind t k = record { kind = k; start = t.start; end = t.end }
 
-line_chosen : (t u : Token) (b : Bool) → is_line_kind t.kind ≡ b → line_by t b ≡ Some u → Ok (Some t) ≡ Ok (Some (line_token u.start u.end))
+abbrev found_token : Token → Result (Option Token) LexFault
+found_token t = Ok (Some t)
+
+line_chosen : (t u : Token) (b : Bool) → is_line_kind t.kind ≡ b → line_by t b ≡ Some u → found_token t ≡ found_token (line_token u.start u.end)
 line_chosen t u true is e =
     let same : t ≡ u = cc e in
     let kind : t.kind ≡ MetaLine = line_kind t.kind is in
-    ap (λ (x : TokenKind). Ok (Some (with_kind t x))) kind ∙ ap (λ (x : Token). Ok (Some (line_token x.start x.end))) same
+    ap (λ (x : TokenKind). found_token (with_kind t x)) kind ∙ ap (λ (x : Token). found_token (line_token x.start x.end)) same
 line_chosen t u false is e = absurd cc
 
 line_found : (r : Result (Option Token) LexFault) (u : Token) → line_in r ≡ Some u → r ≡ Ok (Some (line_token u.start u.end))
@@ -165,10 +169,10 @@ pub collected_first : (text : List ℕ) (at : ℕ) → collected text at ≡ col
 unfolding collected collected_within
 collected_first text at = let fuel : length text + 1 ≡ suc (length text) = omega arith in ap (λ n. collected_within n text at) fuel
 
-none_next : (later : ℕ → Collected) (at : ℕ) (r : Result (Option Token) LexFault) → first_start (collected_by later at r).pieces ≡ None → line_in r ≡ None
-none_next later at (Err fault) e = refl
-none_next later at (Ok None) e = refl
-none_next later at (Ok (Some t)) e = absurd cc
+none_next : (behind : ℕ → Collected) (at : ℕ) (r : Result (Option Token) LexFault) → first_start (collected_by behind at r).pieces ≡ None → line_in r ≡ None
+none_next behind at (Err fault) e = refl
+none_next behind at (Ok None) e = refl
+none_next behind at (Ok (Some t)) e = absurd cc
 
 pub no_line_left : (text : List ℕ) (at : ℕ) → first_start (collected text at).pieces ≡ None → line_at text at ≡ None
 unfolding line_at
@@ -185,11 +189,11 @@ refuses gap word start ts = refl
 begins_no_line : (text : List ℕ) (at start end : ℕ) (s : Option Stmt) → next_token_of text at ≡ Ok (Some (line_token start end)) → statement.Spells s (lexemes text (collected text at).pieces) → ⊥
 begins_no_line text at start end s next spells =
     let t = line_token start end in
-    let later = collected_within (length text) text in
-    let is : collected text at ≡ collected_by later at (Ok (Some t)) = collected_first text at ∙ ap (collected_by later at) next in
+    let behind = collected_within (length text) text in
+    let is : collected text at ≡ collected_by behind at (Ok (Some t)) = collected_first text at ∙ ap (collected_by behind at) next in
     let here = subst (λ (c : Collected). statement.Spells s (lexemes text c.pieces)) is spells in
     let l = lexeme_of text (record { from = at; token = t }) in
-    not_both (statement.read (lexemes text (collected_by later at (Ok (Some t))).pieces)) s (record { long = false; rest = _ }) (read_whole s (lexemes text (collected_by later at (Ok (Some t))).pieces) here) (refuses l.gap l.word l.start _)
+    not_both (statement.read (lexemes text (collected_by behind at (Ok (Some t))).pieces)) s (record { long = false; rest = _ }) (read_whole s (lexemes text (collected_by behind at (Ok (Some t))).pieces) here) (refuses l.gap l.word l.start _)
 
 no_line_of : (text : List ℕ) (at : ℕ) (s : Option Stmt) → statement.Spells s (lexemes text (collected text at).pieces) → (line : Option Token) → line_at text at ≡ line → line_at text at ≡ None
 no_line_of text at s spells None e = e

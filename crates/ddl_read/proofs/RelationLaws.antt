@@ -18,8 +18,10 @@ use Rattle.ddl_parts.proofs.Choice.{choose_apart}
 use Rattle.ddl_parts.proofs.Leads.{a_sign, sign_is, name_laws, qualified_laws, word_laws, sign_laws, ended_laws, words_apart}
 use Rattle.ddl_parts.proofs.RunLaws.{expression_laws, expression_ends}
 use Rattle.ddl_parts.proofs.Tables.{AllLawful}
-use Rattle.ddl_read.specs.Clauses.{semicolon}
+use Rattle.ddl_read.specs.Clauses.{semicolon, new_owner}
 use Rattle.ddl_read.specs.RelationGrammar.{owned_by, its_role, its_column, sequence_changed, sequence_change, altered_sequence, view_and_body, create_view, replace_view, begun_by, bracketed, index_parts, index_of, unique_index_of, create_index, create_unique_index, view_branch, more_relations}
+use Rattle.ddl_read.proofs.AlterLaws.{new_owner_laws}
+use Rattle.ddl_read.proofs.AlterClosed.{new_owner_closes}
 use Rattle.ddl_read.proofs.SequenceLaws.{create_sequence_laws, create_sequence_closes}
 use Rattle.ddl_read.proofs.Telling.{free}
 use Rattle.ddl_read.proofs.Closing.{Closes, then_closes, seen_closes, choose_closes, lead_closes, end_closes, AllClose}
@@ -47,21 +49,25 @@ owned_by_closes =
     (lead_closes semicolon (is_word (codes "by")) column_end
     (then_closes semicolon qualified (is_sign 46 ▸ (name ◂ semicolon)) (lead_closes semicolon (is_sign 46) (name ◂ semicolon) (end_closes semicolon name))))
 
-pub altered_sequence_laws : (new_owner : Part (List ℕ)) → Lawful new_owner → Begins (is_word (codes "owner")) new_owner → Lawful (altered_sequence new_owner)
-unfolding altered_sequence sequence_change
-altered_sequence_laws new_owner laws begins =
-    let change = choose_apart (is_word (codes "owner")) (is_word (codes "owned")) (seen its_role new_owner) (seen its_column owned_by)
-    (seen_laws its_role new_owner laws) (seen_laws its_column owned_by owned_by_laws)
-    (seen_begins (is_word (codes "owner")) its_role new_owner begins) (seen_begins (is_word (codes "owned")) its_column owned_by owned_by_begins)
-    (words_apart (codes "owned") (codes "owner") refl) in
-    seen_laws (λ x. sequence_changed x.0 x.1) (qualified then sequence_change new_owner) (then_laws qualified (sequence_change new_owner) qualified_laws change (avoids_never (sequence_change new_owner)))
+new_owner_begins : Begins (is_word (codes "owner")) new_owner
+unfolding new_owner
+new_owner_begins = lead_begins (is_word (codes "owner")) (is_word (codes "to") ▸ (name ◂ semicolon))
 
-pub altered_sequence_closes : (new_owner : Part (List ℕ)) → Closes semicolon new_owner → Closes semicolon (altered_sequence new_owner)
+pub altered_sequence_laws : Lawful altered_sequence
 unfolding altered_sequence sequence_change
-altered_sequence_closes new_owner closes =
+altered_sequence_laws =
+    let change = choose_apart (is_word (codes "owner")) (is_word (codes "owned")) (seen its_role new_owner) (seen its_column owned_by)
+    (seen_laws its_role new_owner new_owner_laws) (seen_laws its_column owned_by owned_by_laws)
+    (seen_begins (is_word (codes "owner")) its_role new_owner new_owner_begins) (seen_begins (is_word (codes "owned")) its_column owned_by owned_by_begins)
+    (words_apart (codes "owned") (codes "owner") refl) in
+    seen_laws (λ x. sequence_changed x.0 x.1) (qualified then sequence_change) (then_laws qualified sequence_change qualified_laws change (avoids_never sequence_change))
+
+pub altered_sequence_closes : Closes semicolon altered_sequence
+unfolding altered_sequence sequence_change
+altered_sequence_closes =
     let change = choose_closes semicolon (is_word (codes "owner")) (seen its_role new_owner) (seen its_column owned_by)
-    (seen_closes semicolon its_role new_owner closes) (seen_closes semicolon its_column owned_by owned_by_closes) in
-    seen_closes semicolon (λ x. sequence_changed x.0 x.1) (qualified then sequence_change new_owner) (then_closes semicolon qualified (sequence_change new_owner) change)
+    (seen_closes semicolon its_role new_owner new_owner_closes) (seen_closes semicolon its_column owned_by owned_by_closes) in
+    seen_closes semicolon (λ x. sequence_changed x.0 x.1) (qualified then sequence_change) (then_closes semicolon qualified sequence_change change)
 
 -- ---- CREATE VIEW
 

@@ -18,7 +18,7 @@ use Rattle.ddl_write.specs.Views.{stands_alone, space_before, view_text}
 use Rattle.ddl_write.specs.Keys.{index_text}
 use Rattle.ddl_read.specs.Clauses.{semicolon}
 use Rattle.ddl_read.specs.RelationGrammar.{owned_by, its_column, sequence_changed, sequence_change, altered_sequence, view_and_body, create_view, replace_view, bracketed, index_parts, index_of, unique_index_of, create_index, create_unique_index}
-use Rattle.ddl_read.specs.Grammar.{new_owner, altered, created}
+use Rattle.ddl_read.specs.Grammar.{altered, created}
 use Rattle.ddl_read.specs.Respelling.{IsPath, IsExpressionText, IsBracketText}
 use Rattle.ddl_read.proofs.Standing.{is_safe_byte}
 use Rattle.ddl_read.proofs.Tokens.{Gap, none, space, newline, spaced}
@@ -87,14 +87,14 @@ owned_by_laid_out g q table column gap path_is table_is column_is =
     let k4 = word_lead (codes "by") (codes "BY") (32 ∷ []) column_end (table, column) t3 [] by_key space k3 refl in
     let t5 = ((32 ∷ []) ++ codes "OWNED") ++ t4 in
     let k5 : IsPut owned_by (table, column) t5 [] = word_lead (codes "owned") (codes "OWNED") (32 ∷ []) (is_word (codes "by") ▸ column_end) (table, column) t4 [] owned_key space k4 refl in
-    let k6 : IsPut (sequence_change new_owner) (its_column (table, column)) t5 [] =
-    put_as owned_by (sequence_change new_owner) (table, column) (its_column (table, column)) t5 [] k5 (λ ts h. inr ((table, column), refl, h)) in
+    let k6 : IsPut sequence_change (its_column (table, column)) t5 [] =
+    put_as owned_by sequence_change (table, column) (its_column (table, column)) t5 [] k5 (λ ts h. inr ((table, column), refl, h)) in
     let t7 = ((32 ∷ []) ++ path q) ++ t5 in
-    let k7 = path_lead q (32 ∷ []) (sequence_change new_owner) (its_column (table, column)) t5 [] path_is space k6 refl in
-    let k8 : IsPut (altered_sequence new_owner) s t7 [] = seen_put (λ x. sequence_changed x.0 x.1) (qualified then sequence_change new_owner) (q, its_column (table, column)) t7 [] k7 in
+    let k7 = path_lead q (32 ∷ []) sequence_change (its_column (table, column)) t5 [] path_is space k6 refl in
+    let k8 : IsPut altered_sequence s t7 [] = seen_put (λ x. sequence_changed x.0 x.1) (qualified then sequence_change) (q, its_column (table, column)) t7 [] k7 in
     let t9 = ((32 ∷ []) ++ codes "SEQUENCE") ++ t7 in
-    let k9 = word_lead (codes "sequence") (codes "SEQUENCE") (32 ∷ []) (altered_sequence new_owner) s t7 [] sequence_key space k8 refl in
-    let k10 : IsPut altered s t9 [] = put_as (is_word (codes "sequence") ▸ altered_sequence new_owner) altered s s t9 [] k9 (λ ts h. inr (inr (inr (inr (inl h))))) in
+    let k9 = word_lead (codes "sequence") (codes "SEQUENCE") (32 ∷ []) altered_sequence s t7 [] sequence_key space k8 refl in
+    let k10 : IsPut altered s t9 [] = put_as (is_word (codes "sequence") ▸ altered_sequence) altered s s t9 [] k9 (λ ts h. inr (inr (inr (inr (inl h))))) in
     laid_out g (owned_by_text q table column) s ((g ++ codes "ALTER") ++ t9) (alter_put g s t9 gap k10 refl)
     (owned_by_regrouped g (codes "ALTER") (32 ∷ []) (codes "SEQUENCE") (path q) (codes "OWNED") (codes "BY") (path table) (46 ∷ []) (written_name column) (59 ∷ []) (10 ∷ []))
 

@@ -8,10 +8,11 @@ use Rattle.ddl_parts.specs.Lexemes.{is_word, is_sign}
 use Rattle.ddl_parts.specs.Parts.{Part, seen, ◌then◌, ◌▸◌, ◌◂◌}
 use Rattle.ddl_parts.specs.Leaves.{name, qualified}
 use Rattle.ddl_parts.specs.Expressions.{expression}
-use Rattle.ddl_read.specs.Clauses.{semicolon}
+use Rattle.ddl_read.specs.Clauses.{semicolon, new_owner}
 use Rattle.ddl_read.specs.RelationGrammar.{owned_by, SequenceChange, its_role, its_column, sequence_changed, sequence_change, altered_sequence, view_and_body, create_view, replace_view, bracketed, Index, index_parts, unique_index_of, create_index, create_unique_index, view_branch, more_relations}
 use Rattle.ddl_read.specs.Respelling.{IsPath, IsExpressionText, IsBracketText, IsWritable}
 use Rattle.ddl_read.proofs.Bracketed.{bracketed_yields}
+use Rattle.ddl_read.proofs.AlterMade.{new_owner_yields}
 use Rattle.ddl_read.proofs.SequenceMade.{create_sequence_yields}
 use Rattle.ddl_read.proofs.Yielding.{Yields, then_yields, seen_yields, lead_yields, end_yields, choose_yields, AllYield, name_yields, expression_yields, qualified_yields}
 
@@ -38,12 +39,12 @@ changed : (q : QName) (change : SequenceChange) → IsPath q → IsChange change
 changed q (its_role role) path is = (path, is)
 changed q (its_column x) path is = (path, is.0, is.1)
 
-pub altered_sequence_yields : (new_owner : Part (List ℕ)) → Yields IsName new_owner → Yields IsWritable (altered_sequence new_owner)
+pub altered_sequence_yields : Yields IsWritable altered_sequence
 unfolding altered_sequence sequence_change
-altered_sequence_yields new_owner owner v ts r came spells =
+altered_sequence_yields v ts r came spells =
     let change = choose_yields IsChange (is_word (codes "owner")) (seen its_role new_owner) (seen its_column owned_by)
-    (seen_yields IsChange its_role new_owner owner) (seen_yields IsChange its_column owned_by owned_by_yields) in
-    let both = then_yields IsPath IsChange qualified (sequence_change new_owner) qualified_yields change spells.0 ts r came spells.2 in
+    (seen_yields IsChange its_role new_owner new_owner_yields) (seen_yields IsChange its_column owned_by owned_by_yields) in
+    let both = then_yields IsPath IsChange qualified sequence_change qualified_yields change spells.0 ts r came spells.2 in
     subst IsWritable (sym spells.1) (changed spells.0.0 spells.0.1 both.0 both.1)
 
 -- ---- CREATE VIEW

@@ -25,6 +25,7 @@ use Rattle.ddl_read.proofs.Standing.{placed, collects}
 use Rattle.ddl_read.proofs.Tokens.{Gap, none, space, newline, spaced, indented, tabbed, indent}
 use Rattle.ddl_read.proofs.RelationLayouts.{owned_by_laid_out, view_laid_out, replaced_laid_out, index_laid_out, unique_index_laid_out}
 use Rattle.ddl_read.proofs.SequenceLayouts.{sequence_laid_out}
+use Rattle.ddl_read.proofs.ValueLayouts.{value_laid_out}
 use Rattle.ddl_read.proofs.TableLayouts.{enum_laid_out, domain_laid_out, table_laid_out}
 use Rattle.ddl_read.proofs.KeyLayouts.{primary_laid_out, unique_laid_out, foreign_laid_out}
 use Rattle.ddl_read.proofs.AlterLayouts.{set_default_laid_out, added_check_laid_out}
@@ -54,6 +55,7 @@ can_be_written g (stmt.SetConfig n v) gap is = record { text = _; spells = refl;
 can_be_written g (stmt.AddDomainCheck q n v) gap is = record { text = _; spells = refl; laid_out = domain_check_laid_out g q n v gap is.0 is.1 is.2 }
 can_be_written g (stmt.OwnerTo object role) gap is = record { text = _; spells = refl; laid_out = owner_laid_out g object role gap is.0 is.1 }
 can_be_written g (stmt.OwnedBy q table column) gap is = record { text = _; spells = refl; laid_out = owned_by_laid_out g q table column gap is.0 is.1 is.2 }
+can_be_written g (stmt.SetVal q n called) gap is = record { text = _; spells = refl; laid_out = value_laid_out g q n called gap is.0 is.1 }
 can_be_written g (stmt.CreateView q body) gap is = record { text = _; spells = refl; laid_out = view_laid_out g q body gap is.0 is.1 }
 can_be_written g (stmt.ReplaceView q body) gap is = record { text = _; spells = refl; laid_out = replaced_laid_out g q body gap is.0 is.1 }
 can_be_written g (stmt.CreateIndex q name method rest) gap is = record { text = _; spells = refl; laid_out = index_laid_out g q name method rest gap is.0 is.1 is.2 is.3 }

@@ -33,7 +33,8 @@ use Rattle.ddl_read.specs.Respelling.{IsPath, IsInt}
 use Rattle.ddl_read.proofs.Standing.{is_safe_byte, Stands}
 use Rattle.ddl_read.proofs.Tokens.{Gap, space, indented, indent, word_token, a_word}
 use Rattle.ddl_read.proofs.Putting.{begins_by, parts_words, parted, Follows, IsPut, behind, begun, begins-append, safe_parts, put_as, one_put, then_put, seen_put, close_put, word_lead, path_lead}
-use Rattle.ddl_read.proofs.SequenceNumbers.{whole_number, number_put, number_runs}
+use Rattle.ddl_read.specs.ValueGrammar.{whole_number}
+use Rattle.ddl_read.proofs.SequenceNumbers.{number_put, number_runs}
 use Rattle.ddl_read.proofs.Layouts.{IsLaidOut, laid_out, sequence_key, ended, create_put}
 
 -- ---- from one state to another

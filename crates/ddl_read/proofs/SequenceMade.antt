@@ -105,7 +105,7 @@ with_given Cache z c is k = record { start = k.start; step = k.step; least = k.l
 
 -- ---- a number that is read
 
-abbrev IsBelow : ℕ → Option ℕ → Type 0
+abbrev pub IsBelow : ℕ → Option ℕ → Type 0
 IsBelow limit None = Unit {0}
 IsBelow limit (Some n) = n < limit
 
@@ -119,7 +119,7 @@ word_below limit word = by (list_all is_digit word) (nat_lt (digits_value 10 wor
     by false true e = tt
     by false false e = tt
 
-count_below : (limit : ℕ) (ts : List Lexeme) → IsBelow limit (count_first limit ts)
+pub count_below : (limit : ℕ) (ts : List Lexeme) → IsBelow limit (count_first limit ts)
 count_below limit ts = by (number_first ts)
   where
     by : (o : Option (List ℕ)) → IsBelow limit (option_and_then (digits_below limit) o)
@@ -130,10 +130,10 @@ number_keeps : (f : Field) (sign : ℕ → ℤ) (limit : ℕ) (c : Clauses) (o :
 number_keeps f sign limit c None ints k below = nothing
 number_keeps f sign limit c (Some n) ints k below = keeps (reached (with_number f (sign n) c) Between) (with_given f (sign n) c (ints n below) k)
 
-positive_is : (n : ℕ) → n < 2 ^ 63 → IsInt (pos n)
+pub positive_is : (n : ℕ) → n < 2 ^ 63 → IsInt (pos n)
 positive_is n small = lt-ltb n (2 ^ 63) small
 
-opposite_is : (n : ℕ) → n < 2 ^ 63 + 1 → IsInt (opposite n)
+pub opposite_is : (n : ℕ) → n < 2 ^ 63 + 1 → IsInt (opposite n)
 opposite_is zero small = lt-ltb 0 (2 ^ 63) (omega arith)
 opposite_is (suc n) small = lt-ltb n (2 ^ 63) (omega arith)
 

@@ -1,11 +1,11 @@
 -- Whole numbers as they are written, in tokens that stand and bring the clauses of a sequence on.
-use Rattle.std.proofs.Common.{◌≡◌, ℕ, suc, ◌+◌, ◌<◌, ◌^◌, ℤ, pos, negsuc, Bool, true, false, cond, ◌&&◌, List, [], ◌∷◌, ◌++◌, length, append_assoc, Result, Ok, Err, refl, sym, ap, subst, ◌∙◌, ◌⊎◌, arith, inl, inr}
-use Rattle.std.specs.Prelude.{◌==◌, nat_lt, Some, None, option_and_then, if◌then◌else◌}
+use Rattle.std.proofs.Common.{◌≡◌, ℕ, suc, ◌+◌, ◌<◌, ◌^◌, ℤ, pos, negsuc, Bool, true, false, List, [], ◌∷◌, ◌++◌, length, append_assoc, Result, Ok, refl, sym, ap, subst, ◌∙◌, ◌⊎◌, arith, inl, inr}
+use Rattle.std.specs.Prelude.{◌==◌, Option, Some, None}
 use Rattle.std.specs.List.{list_all}
 use Rattle.std.specs.Char.{digit_value}
 use Rattle.std.specs.Fmt.{decimal, signed_decimal}
 use Rattle.std.specs.Str.{is_utf8, chars}
-use Rattle.std.specs.Str.Parse.{digits_value, AllDigits}
+use Rattle.std.specs.Str.Parse.{AllDigits}
 use Rattle.std.proofs.Math.Utf8.{encode}
 use Rattle.std.proofs.lemmas.Bool.{and_from, lt-ltb, ltb-true}
 use Rattle.std.proofs.lemmas.Bool.Decides.{nat_tests}
@@ -14,66 +14,22 @@ use Rattle.std.proofs.lemmas.Str.Parse.{digit_from_value}
 use Rattle.std.proofs.lemmas.Str.{IsUtf8-from_ascii, is_utf8-from_IsUtf8}
 use Rattle.sql_lex.specs.Bytes.{is_blank, is_digit, next_is, is_sign as is_sign_byte}
 use Rattle.sql_lex.specs.Spelling.{goes_on}
-use Rattle.sql_lex.specs.declared.token.TokenKind.{TokenKind}
-use Rattle.sql_lex.specs.declared.token.TokenKind.TheVariants.{Word, QuotedName, Literal, Number, Sign, MetaLine}
+use Rattle.sql_lex.specs.declared.token.TokenKind.TheVariants.{Number, Sign}
 use Rattle.sql_lex.proofs.WriteLaws.{spelling_is_read}
-use Rattle.ddl_parts.specs.Lexemes.{Lexeme, spelled, is_sign, is_sign_kind}
-use Rattle.ddl_parts.specs.Parts.{Part, one, passes, run, mark, seen, choose, ◌▸◌}
-use Rattle.ddl_parts.specs.Leaves.{digits_of}
-use Rattle.ddl_parts.specs.Types.{is_number, is_number_kind}
-use Rattle.ddl_parts.specs.Laws.{Begins, Apart}
-use Rattle.ddl_parts.proofs.Simple.{one_begins}
+use Rattle.ddl_parts.specs.Lexemes.{Lexeme, spelled, is_sign}
+use Rattle.ddl_parts.specs.Parts.{passes, run, mark, seen, ◌▸◌}
 use Rattle.ddl_read.specs.declared.sequences.Field.{Field}
 use Rattle.ddl_read.specs.declared.sequences.ClauseSpot.TheVariants.{Between, Due}
 use Rattle.ddl_read.specs.declared.sequences.Clauses.{Clauses}
 use Rattle.ddl_read.specs.SequenceGrammar.{digits_below, count_first, opposite, with_number, reached, step_first, clausing}
+use Rattle.ddl_read.specs.ValueGrammar.{count_of, count_value, count, whole_number}
+use Rattle.ddl_read.proofs.ValueLaws.{count_begins, number_no_sign}
 use Rattle.ddl_read.specs.Respelling.{is_int}
 use Rattle.ddl_read.proofs.Closing.{passed}
 use Rattle.ddl_read.proofs.Standing.{is_safe_byte, Stands}
 use Rattle.ddl_read.proofs.Kept.{safe_ends, spelled-append}
 use Rattle.ddl_read.proofs.Tokens.{Gap, none, Begun, gap_stands, sign_token}
 use Rattle.ddl_read.proofs.Putting.{begins_by, safe_behind, Follows, IsPut, behind, put_as, one_put, same_text, lead_put}
-
--- ---- the number of a token
-
--- the number of digits, where it is below a limit; a number with a fraction has none
-abbrev pub count_by : ℕ → TokenKind → List ℕ → Result ℕ Bool
-count_by limit Number word = if list_all is_digit word && nat_lt (digits_value 10 word) limit then Ok (digits_value 10 word) else Err false
-count_by limit _ word = Err false
-
-unfoldable pub count_value : ℕ → Lexeme → Result ℕ Bool
-count_value limit t = count_by limit t.kind t.word
-
-abbrev pub count : ℕ → Part ℕ
-count limit = one (count_value limit)
-
--- digits below 2^63, or a minus sign and digits up to 2^63
-unfoldable pub whole_number : Part ℤ
-whole_number = choose (is_sign 45) (seen opposite (is_sign 45 ▸ count (2 ^ 63 + 1))) (seen pos (count (2 ^ 63)))
-
-count_begins : (limit : ℕ) → Begins is_number (count limit)
-unfolding count_value is_number
-count_begins limit = one_begins (count_value limit) is_number (λ t v e. by t.kind t.word v e)
-  where
-    by : (k : TokenKind) (w : List ℕ) (v : ℕ) → count_by limit k w ≡ Ok v → is_number_kind k ≡ true
-    by Number w v e = refl
-    by Word w v e = absurd cc
-    by QuotedName w v e = absurd cc
-    by Literal w v e = absurd cc
-    by (Sign b) w v e = absurd cc
-    by MetaLine w v e = absurd cc
-
-number_no_sign : (b : ℕ) → Apart is_number (is_sign b)
-unfolding is_number is_sign
-number_no_sign b t e = by t.kind e
-  where
-    by : (k : TokenKind) → is_number_kind k ≡ true → is_sign_kind b k ≡ false
-    by Number e = refl
-    by Word e = absurd cc
-    by QuotedName e = absurd cc
-    by Literal e = absurd cc
-    by (Sign c) e = absurd cc
-    by MetaLine e = absurd cc
 
 -- ---- digits
 
@@ -107,7 +63,7 @@ abbrev count_token : List ℕ → ℕ → Lexeme
 count_token g n = record { gap = g; kind = Number; word = decimal n; start = 0 }
 
 count_put : (n limit : ℕ) (g : List ℕ) (others : List Lexeme) → n < 2 ^ 64 → n < limit → Gap g → Follows others → begins_by is_safe_byte (spelled others) ≡ true → IsPut (count limit) n (g ++ decimal n) others
-unfolding count_value is_sign
+unfolding count_value digits_below is_sign
 count_put n limit g others wide small gap follows e =
     let numeral = decimal_is_IsNumeral n wide in
     let digits = all_digits (decimal n) numeral.0.1 in
@@ -163,21 +119,13 @@ number_put (negsuc n) g others is gap follows e =
 
 -- ---- what a number brings on
 
-below_by : (word : List ℕ) (n : ℕ) (b : Bool) → cond b (Ok (digits_value 10 word)) (Err false) ≡ (let r : Result ℕ Bool = Ok n in r) → cond b (Some (digits_value 10 word)) None ≡ Some n
-below_by word n true e = let same : digits_value 10 word ≡ n = cc in ap Some same
-below_by word n false e = absurd cc
+counted_by : (o : Option ℕ) (n : ℕ) → count_of o ≡ (let r : Result ℕ Bool = Ok n in r) → o ≡ Some n
+counted_by (Some m) n e = let same : m ≡ n = cc in ap Some same
+counted_by None n e = absurd cc
 
 counted : (limit : ℕ) (t : Lexeme) (n : ℕ) → count_value limit t ≡ Ok n → count_first limit (t ∷ []) ≡ Some n
-unfolding count_value digits_below
-counted limit t n e = by t.kind t.word e
-  where
-    by : (k : TokenKind) (w : List ℕ) → count_by limit k w ≡ Ok n → option_and_then (digits_below limit) (digits_of k w) ≡ Some n
-    by Number w e = below_by w n (list_all is_digit w && nat_lt (digits_value 10 w) limit) e
-    by Word w e = absurd cc
-    by QuotedName w e = absurd cc
-    by Literal w e = absurd cc
-    by (Sign b) w e = absurd cc
-    by MetaLine w e = absurd cc
+unfolding count_value
+counted limit t n e = counted_by (count_first limit (t ∷ [])) n e
 
 no_minus : (limit : ℕ) (t : Lexeme) (n : ℕ) → count_value limit t ≡ Ok n → is_sign 45 t ≡ false
 no_minus limit t n e = number_no_sign 45 t (count_begins limit n (t ∷ []) (t, refl, e))

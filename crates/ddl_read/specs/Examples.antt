@@ -1,6 +1,6 @@
 -- Worked examples: texts with their statements, or their first fault.
 -- 34 is `"`, 39 is a single quote.
-use Rattle.std.specs.Prelude.{◌≡◌, ℕ, true, List, [], ◌∷◌, ◌++◌, Some, Ok, Err, codes}
+use Rattle.std.specs.Prelude.{◌≡◌, ℕ, negsuc, true, false, List, [], ◌∷◌, ◌++◌, Some, Ok, Err, codes}
 use Rattle.sql_lex.specs.declared.fault.LexFault.TheVariants.{Unclosed}
 use Rattle.cat_model.specs.declared.object.QName.{QName}
 use Rattle.cat_model.specs.declared.type_name.TypeName.TheVariants as type_name
@@ -61,3 +61,7 @@ pub record WorkedExamples : Type 0 where
   pub unique_index : statements_of (codes "CREATE UNIQUE INDEX i ON a.t USING hash (x);") ≡ Ok (located (stmt.CreateUniqueIndex (record { schema = codes "a"; name = codes "t" }) (codes "i") (codes "hash") (codes "(x)")) 0 44 ∷ [])
   -- a bracket follows the method
   pub no_bracket : statements_of (codes "CREATE INDEX i ON a.t USING btree x;") ≡ Err (Unknown 34)
+  -- SELECT pg_catalog.setval('a.s', -5, FALSE);
+  pub value : statements_of (codes "SELECT pg_catalog.setval(" ++ (39 ∷ codes "a.s") ++ (39 ∷ codes ", -5, FALSE);")) ≡ Ok (located (stmt.SetVal (in_a (codes "s")) (negsuc 4) false) 0 43 ∷ [])
+  -- SELECT pg_catalog.setval('a.s t', 1, true);
+  pub no_path : statements_of (codes "SELECT pg_catalog.setval(" ++ (39 ∷ codes "a.s t") ++ (39 ∷ codes ", 1, true);")) ≡ Err (Unknown 25)

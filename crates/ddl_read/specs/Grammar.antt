@@ -16,6 +16,7 @@ unfoldable pub use Rattle.ddl_read.specs.Clauses.{new_owner}
 use Rattle.ddl_read.specs.AlterGrammar.{altered_table}
 use Rattle.ddl_read.specs.RelationGrammar.{altered_sequence, view_branch, more_relations}
 use Rattle.ddl_read.specs.CopyGrammar.{copy_from}
+use Rattle.ddl_read.specs.ValueGrammar.{set_value}
 use Rattle.ddl_read.specs.TableGrammar.{create_enum, create_domain, create_table}
 
 -- ---- CREATE ..
@@ -69,15 +70,23 @@ unfoldable pub altered : Part Stmt
 altered =
     one_of (owned_name (codes "schema") owned.Schema)
     (owned_path (codes "type") owned.Type ∷ record { key = codes "domain"; part = altered_domain } ∷ record { key = codes "table"; part = altered_table }
-    ∷ record { key = codes "sequence"; part = altered_sequence new_owner } ∷ owned_path (codes "view") owned.View ∷ owned_name (codes "database") owned.Database ∷ [])
+    ∷ record { key = codes "sequence"; part = altered_sequence } ∷ owned_path (codes "view") owned.View ∷ owned_name (codes "database") owned.Database ∷ [])
 
 -- ---- SELECT ..
 
--- pg_catalog.set_config('name', 'value', false);
-unfoldable pub selected : Part Stmt
-selected =
+-- ('name', 'value', false);
+unfoldable pub set_config : Part Stmt
+set_config =
     seen (λ x. stmt.SetConfig x.0 x.1)
-    (is_word (codes "pg_catalog") ▸ (is_sign 46 ▸ (is_word (codes "set_config") ▸ (is_sign 40 ▸ (literal then (is_sign 44 ▸ (literal ◂ is_sign 44 ◂ is_word (codes "false") ◂ is_sign 41 ◂ semicolon)))))))
+    (is_sign 40 ▸ (literal then (is_sign 44 ▸ (literal ◂ is_sign 44 ◂ is_word (codes "false") ◂ is_sign 41 ◂ semicolon))))
+
+-- what is called: set_config(..); or setval(..);
+abbrev pub catalog_calls : Part Stmt
+catalog_calls = one_of (record { key = codes "set_config"; part = set_config }) (record { key = codes "setval"; part = set_value } ∷ [])
+
+-- pg_catalog. and a call
+unfoldable pub selected : Part Stmt
+selected = is_word (codes "pg_catalog") ▸ (is_sign 46 ▸ catalog_calls)
 
 -- ---- SET ..
 

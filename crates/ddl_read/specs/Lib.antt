@@ -6,6 +6,7 @@ pub mod AlterGrammar
 pub mod SequenceGrammar
 pub mod RelationGrammar
 pub mod CopyGrammar
+pub mod ValueGrammar
 pub mod Grammar
 pub mod Reading
 pub mod Readings

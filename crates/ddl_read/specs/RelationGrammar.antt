@@ -8,7 +8,7 @@ use Rattle.ddl_parts.specs.Lexemes.{Lexeme, is_word, is_sign, starts}
 use Rattle.ddl_parts.specs.Parts.{Part, Branch, seen, choose, choose_at, stop, one_of, ◌then◌, ◌▸◌, ◌◂◌}
 use Rattle.ddl_parts.specs.Leaves.{name, qualified}
 use Rattle.ddl_parts.specs.Expressions.{expression}
-use Rattle.ddl_read.specs.Clauses.{semicolon}
+use Rattle.ddl_read.specs.Clauses.{semicolon, new_owner}
 use Rattle.ddl_read.specs.SequenceGrammar.{create_sequence}
 
 -- ---- ALTER SEQUENCE ..
@@ -26,12 +26,12 @@ abbrev pub sequence_changed : QName → SequenceChange → Stmt
 sequence_changed q (its_role role) = stmt.OwnerTo (owned.Sequence q) role
 sequence_changed q (its_column x) = stmt.OwnedBy q x.0 x.1
 
-unfoldable pub sequence_change : Part (List ℕ) → Part SequenceChange
-sequence_change new_owner = choose (is_word (codes "owner")) (seen its_role new_owner) (seen its_column owned_by)
+unfoldable pub sequence_change : Part SequenceChange
+sequence_change = choose (is_word (codes "owner")) (seen its_role new_owner) (seen its_column owned_by)
 
--- path OWNER TO role; or path OWNED BY schema.table.column; the owner's part is given
-unfoldable pub altered_sequence : Part (List ℕ) → Part Stmt
-altered_sequence new_owner = seen (λ x. sequence_changed x.0 x.1) (qualified then sequence_change new_owner)
+-- path OWNER TO role; or path OWNED BY schema.table.column;
+unfoldable pub altered_sequence : Part Stmt
+altered_sequence = seen (λ x. sequence_changed x.0 x.1) (qualified then sequence_change)
 
 -- ---- CREATE VIEW ..
 

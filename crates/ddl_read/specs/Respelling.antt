@@ -112,6 +112,7 @@ IsWritable (stmt.SetConfig n v) = IsText n × IsText v
 IsWritable (stmt.AddDomainCheck q n v) = IsPath q × IsName n × IsExpressionText v
 IsWritable (stmt.OwnerTo object role) = IsOwnedName object × IsName role
 IsWritable (stmt.OwnedBy q table column) = IsPath q × IsPath table × IsName column
+IsWritable (stmt.SetVal q n called) = IsPath q × IsInt n
 IsWritable (stmt.CreateView q body) = IsPath q × IsExpressionText body
 IsWritable (stmt.ReplaceView q body) = IsPath q × IsExpressionText body
 IsWritable (stmt.CreateIndex q name method rest) = IsPath q × IsName name × IsName method × IsBracketText rest

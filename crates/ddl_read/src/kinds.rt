@@ -2,12 +2,13 @@
 ghost use Rattle.std.specs.Prelude.{◌≡◌, drop};
 ghost use Rattle.cat_model.specs.declared.stmt.Stmt.TheVariants.{OwnerTo};
 ghost use Rattle.ddl_parts.specs.Pieces.{GivesPart, GivesPlace, GivesValue, value_of};
-ghost use Rattle.ddl_read.specs.Grammar.{create_schema, created, new_owner, new_check, domain_change, altered_domain, altered, selected, equals_or_to, setting, name_and_owner, path_and_owner, command, statement};
+ghost use Rattle.ddl_read.specs.Grammar.{create_schema, created, new_owner, new_check, domain_change, altered_domain, altered, set_config, selected, equals_or_to, setting, name_and_owner, path_and_owner, command, statement};
 
 use crate::alters::{altered_table, new_owner};
 use crate::copying::copy_from;
 use crate::relations::{altered_sequence, created_relation};
 use crate::tables::{create_domain, create_enum, create_table, named_check};
+use crate::values::set_value;
 use cat_model::{CheckDef, Owned, QName, Stmt};
 use copy_text::Name;
 use ddl_parts::{Pieces, ReadError, qualified_name};
@@ -137,13 +138,10 @@ fn altered(alloc: Global, pieces: &Pieces<'_>, at: usize) -> Result<(Stmt, usize
     Ok((owner_to(Owned::Database(name), role), at))
 }
 
-#[tactic(auto, unfolding(crate::specs::Grammar::selected))]
-fn selected(alloc: Global, pieces: &Pieces<'_>, at: usize) -> Result<(Stmt, usize), ReadError>
-    ensures { GivesPart pieces.now (λ s. s) result (selected.read (drop at pieces.now)) }
+#[tactic(auto, unfolding(crate::specs::Grammar::set_config))]
+fn set_config(alloc: Global, pieces: &Pieces<'_>, at: usize) -> Result<(Stmt, usize), ReadError>
+    ensures { GivesPart pieces.now (λ s. s) result (set_config.read (drop at pieces.now)) }
 {
-    let at = pieces.word(at, "pg_catalog")?;
-    let at = pieces.sign(at, b'.')?;
-    let at = pieces.word(at, "set_config")?;
     let at = pieces.sign(at, b'(')?;
     let (name, at) = pieces.literal(alloc, at)?;
     let at = pieces.sign(at, b',')?;
@@ -153,6 +151,20 @@ fn selected(alloc: Global, pieces: &Pieces<'_>, at: usize) -> Result<(Stmt, usiz
     let at = pieces.sign(at, b')')?;
     let at = pieces.sign(at, b';')?;
     Ok((Stmt::SetConfig { name, value }, at))
+}
+
+#[tactic(auto, unfolding(crate::specs::Grammar::selected))]
+fn selected(alloc: Global, pieces: &Pieces<'_>, at: usize) -> Result<(Stmt, usize), ReadError>
+    ensures { GivesPart pieces.now (λ s. s) result (selected.read (drop at pieces.now)) }
+{
+    let at = pieces.word(at, "pg_catalog")?;
+    let at = pieces.sign(at, b'.')?;
+    if pieces.is_word(at, "set_config") {
+        let at = pieces.word(at, "set_config")?;
+        return set_config(alloc, pieces, at);
+    }
+    let at = pieces.word(at, "setval")?;
+    set_value(alloc, pieces, at)
 }
 
 #[tactic(auto, unfolding(crate::specs::Grammar::equals_or_to))]

@@ -1,5 +1,10 @@
 //! Laws of the definitions, each the contract of a function that does nothing.
-ghost use Rattle.std.specs.Prelude.{◌≡◌, ◌↔◌, ℕ, List, Some, Ok, Err};
+ghost use Rattle.std.specs.Prelude.{◌≡◌, ◌↔◌, ℕ, List, None, Some, Ok, Err};
+ghost use Rattle.cat_model.specs.declared.object.QName.{QName};
+ghost use Rattle.ddl_parts.specs.Collecting.{collected};
+ghost use Rattle.ddl_parts.specs.Leaves.{qualified};
+ghost use Rattle.ddl_parts.specs.Pieces.{lexemes};
+ghost use Rattle.ddl_read.specs.ValueGrammar.{path_in};
 ghost use Rattle.ddl_read.specs.declared.located.Located.{Located};
 ghost use Rattle.ddl_read.specs.declared.fault.DdlFault.{DdlFault};
 ghost use Rattle.ddl_read.specs.Reading.{statements_of};
@@ -19,6 +24,12 @@ pub fn reading_is_exact()
 /// A fault is at the first place from which on no statement goes on: what stands before it can be finished.
 pub fn the_first_fault_is_told()
     ensures { (text : List ℕ) (fault : DdlFault) → statements_of text ≡ Err fault → FailsAt text 0 fault }
+{}
+
+/// A literal's text is a path exactly where all of its tokens together spell it, and no fault stands behind them.
+pub fn a_path_is_all_tokens_of_its_literal()
+    ensures { (text : List ℕ) (q : QName) → (path_in text ≡ Ok q)
+        ↔ ((collected text 0).fault ≡ None) × qualified.Spells q (lexemes text (collected text 0).pieces) }
 {}
 
 /// The definitions give what is known of some texts.

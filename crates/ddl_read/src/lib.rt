@@ -13,6 +13,7 @@ mod relations;
 mod rests;
 mod sequences;
 mod tables;
+mod values;
 
 pub use fault::{DdlFault, ReadStmtsError};
 pub use located::Located;

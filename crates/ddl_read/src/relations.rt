@@ -1,7 +1,6 @@
 //! Readers of statements about sequences, views and indexes, behind the words that tell them apart.
 ghost use Rattle.std.specs.Prelude.{◌≡◌, drop};
 ghost use Rattle.ddl_parts.specs.Pieces.{GivesPart};
-ghost use Rattle.ddl_read.specs.Grammar.{new_owner};
 ghost use Rattle.ddl_read.specs.RelationGrammar.{owned_by, altered_sequence, view_and_body, create_view, replace_view, bracketed, index_parts, create_index, create_unique_index, created_relation};
 
 use crate::alters::new_owner;
@@ -36,7 +35,7 @@ pub(crate) fn altered_sequence(
     pieces: &Pieces<'_>,
     at: usize,
 ) -> Result<(Stmt, usize), ReadError>
-    ensures { GivesPart pieces.now (λ s. s) result ((altered_sequence new_owner).read (drop at pieces.now)) }
+    ensures { GivesPart pieces.now (λ s. s) result (altered_sequence.read (drop at pieces.now)) }
 {
     let (q, at) = qualified_name(alloc, pieces, at)?;
     if pieces.is_word(at, "owner") {

@@ -4,11 +4,11 @@ ghost use Rattle.std.specs.List.{list_all};
 ghost use Rattle.sql_lex.specs.Bytes.{is_digit};
 ghost use Rattle.ddl_parts.specs.Pieces.{GivesPart};
 ghost use Rattle.cat_model.specs.declared.constraint.SequenceKind.TheVariants.{BigInt};
-ghost use Rattle.ddl_write.specs.Sequences.{falls, usual_min, usual_max};
 ghost use Rattle.ddl_read.specs.SequenceGrammar.{digits_below, count_first, opposite, no_clauses, is_unsaid, with_number, reached, only_if, behind_no, numbered, clause_first, kind_first, lower, upper, usual_first, step_first, is_between, ended_by, sequence_clauses, given_or, bound_or, usual_start, sequence_of, create_sequence};
 
 use cat_model::{QName, SequenceKind, Stmt};
 use ddl_parts::{Halt, Pieces, ReadError, qualified_name};
+use ddl_write::{usual_max, usual_min};
 use std::alloc::Global;
 
 /// A bound of a sequence, as far as it was said.
@@ -87,7 +87,7 @@ pub struct Reached {
 }
 
 /// One more than the greatest number.
-const LIMIT: u64 = 1 << 63;
+pub(crate) const LIMIT: u64 = 1 << 63;
 
 #[tactic(auto, unfolding(sql_lex::specs::Bytes::is_digit))]
 fn is_digit(byte: u8) -> bool
@@ -122,7 +122,7 @@ fn digits_below(word: &[u8], limit: u64) -> Option<u64>
 }
 
 /// The number at a place, where it is below a limit.
-fn count_at(pieces: &Pieces<'_>, at: usize, limit: u64) -> Option<u64>
+pub(crate) fn count_at(pieces: &Pieces<'_>, at: usize, limit: u64) -> Option<u64>
     ensures exact { result ≡ count_first limit (drop at pieces.now) }
     ensures low { IfSome result (λ n. n < limit) }
 {
@@ -133,7 +133,7 @@ fn count_at(pieces: &Pieces<'_>, at: usize, limit: u64) -> Option<u64>
 }
 
 /// The number with a minus sign.
-fn opposite(number: u64) -> i64
+pub(crate) fn opposite(number: u64) -> i64
     requires { number < 2 ^ 63 + 1 }
     ensures { result ≡ opposite number }
 {
@@ -404,32 +404,6 @@ fn sequence_clauses(pieces: &Pieces<'_>, from: usize) -> Result<(Clauses, usize)
         };
         so_far = next;
         at += 1;
-    }
-}
-
-/// What NO MINVALUE stands for.
-#[tactic(auto, unfolding(ddl_write::specs::Sequences::usual_min))]
-fn usual_min(kind: SequenceKind, step: i64) -> i64
-    ensures { result ≡ usual_min kind step }
-{
-    match kind {
-        _ if step >= 0 => 1,
-        SequenceKind::SmallInt => i64::from(i16::MIN),
-        SequenceKind::Integer => i64::from(i32::MIN),
-        SequenceKind::BigInt => i64::MIN,
-    }
-}
-
-/// What NO MAXVALUE stands for.
-#[tactic(auto, unfolding(ddl_write::specs::Sequences::usual_max))]
-fn usual_max(kind: SequenceKind, step: i64) -> i64
-    ensures { result ≡ usual_max kind step }
-{
-    match kind {
-        _ if step < 0 => -1,
-        SequenceKind::SmallInt => i64::from(i16::MAX),
-        SequenceKind::Integer => i64::from(i32::MAX),
-        SequenceKind::BigInt => i64::MAX,
     }
 }
 

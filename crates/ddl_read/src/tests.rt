@@ -892,6 +892,227 @@ const CHANGES_2: &[(&str, &str)] = &[
     ),
 ];
 
+/// The same of the values of sequences.
+const VALUES: &[(&str, &str)] = &[
+    (
+        "SELECT pg_catalog.setval('public.m', 1, true);",
+        "0..46 SELECT pg_catalog.setval('public.m', 1, true);\n",
+    ),
+    (
+        "SELECT pg )_catalog.setval('public.m', 1, true);",
+        "Unknown(7)",
+    ),
+    (
+        "SELECT pg_catalog.setval('a.k', 5, true);",
+        "0..41 SELECT pg_catalog.setval('a.k', 5, true);\n",
+    ),
+    ("SELECT pg_catalog.setval('a.k', 5", "Incomplete(33)"),
+    (
+        "SELECT pg_catalog.setval('public.t', 5, true);",
+        "0..46 SELECT pg_catalog.setval('public.t', 5, true);\n",
+    ),
+    ("SELECT pg_catalog.setval(", "Incomplete(25)"),
+    (
+        "SELECT pg_catalog.setval('a.v', 1, true);",
+        "0..41 SELECT pg_catalog.setval('a.v', 1, true);\n",
+    ),
+    (
+        "SELECT pg_catalog.setval('a.v', 1 'q', true);",
+        "Unknown(34)",
+    ),
+    (
+        "SELECT pg_catalog.setval('a.u', 1, true);",
+        "0..41 SELECT pg_catalog.setval('a.u', 1, true);\n",
+    ),
+    ("SELECT pg_catalog.setval", "Incomplete(24)"),
+    (
+        "select PG_CATALOG . Setval (' \"a\" . /* */ K ', - 9223372036854775808, FALSE) ;",
+        "0..78 SELECT pg_catalog.setval('a.k', -9223372036854775808, false);\n",
+    ),
+    (
+        "SELECT pg_catalog.setval('a.\"''\"', 9223372036854775807, true);",
+        "0..62 SELECT pg_catalog.setval('a.\"''\"', 9223372036854775807, true);\n",
+    ),
+    (
+        "SELECT pg_catalog.setval('a.k', 9223372036854775808, true);",
+        "Unknown(32)",
+    ),
+    (
+        "SELECT pg_catalog.setval('a.k', -9223372036854775809, true);",
+        "Unknown(33)",
+    ),
+    ("SELECT pg_catalog.setval('a.k', 1.5, true);", "Unknown(32)"),
+    ("SELECT pg_catalog.setval('a.k', +1, true);", "Unknown(32)"),
+    ("SELECT pg_catalog.setval('a.k', 1);", "Unknown(33)"),
+    ("SELECT pg_catalog.setval('a.k', 1, 'true');", "Unknown(35)"),
+    ("SELECT pg_catalog.setval(E'a.k', 1, true);", "Unknown(25)"),
+    ("SELECT pg_catalog.setval('k', 1, true);", "Unknown(25)"),
+    ("SELECT pg_catalog.setval('a.k b', 1, true);", "Unknown(25)"),
+    ("SELECT pg_catalog.setval('a.k;', 1, true);", "Unknown(25)"),
+    ("SELECT pg_catalog.setval('a.\"k', 1, true);", "Unknown(25)"),
+    (
+        "SELECT pg_catalog.setval('a.a123456789b123456789c123456789d123456789e123456789f123456789g123', 1, true);",
+        "Unknown(25)",
+    ),
+];
+
+/// Texts that fail early, each with its fault.
+const FAULTS: &[(&str, &str)] = &[
+    ("CR", "Unknown(0)"),
+    ("ALTER TABLE public", "Incomplete(18)"),
+    ("ALTER TABLE a.k ADD", "Incomplete(19)"),
+    (
+        "ALTER TABLE  7a.u ALTER COLUMN z SET DEFAULT (VALUE > 0);",
+        "Unknown(13)",
+    ),
+    (
+        "CRE xATE TABLE public.n (z text DEFAULT 1, y text DEFAULT nextval('public.n'::regclass));",
+        "Unknown(0)",
+    ),
+    (
+        "CREATE  'q'UNIQUE INDEX u ON public.n USING btree (z, x) WHERE true;",
+        "Unknown(8)",
+    ),
+    (
+        "ALTER TABLE a.v ADD CONSTRA xINT m CHECK (1);",
+        "Unknown(20)",
+    ),
+    ("CREATE TA", "Unknown(7)"),
+    ("C", "Unknown(0)"),
+    (
+        "CREATE T,ABLE public.k (x text DEFAULT 'm'::public.t);",
+        "Unknown(7)",
+    ),
+    ("ALTER TABLE public.n ADD CONSTRA", "Unknown(25)"),
+    (
+        "AL xTER TABLE a.m ADD CONSTRAINT t PRIMARY KEY (x);",
+        "Unknown(0)",
+    ),
+    ("ALTER TABLE public.t", "Incomplete(20)"),
+    (
+        "CREAT 'q'E TABLE a.m (x integer DEFAULT 1 NOT NULL, y text, z pg_catalog.int4 DEFAULT (VALUE > 0));",
+        "Unknown(0)",
+    ),
+    (
+        "ALTE xR TABLE public.m ADD CONSTRAINT u UNIQUE (y, z) DEFERRABLE;",
+        "Unknown(0)",
+    ),
+    ("ALTER SEQUENCE a", "Incomplete(16)"),
+    (
+        "ALTE 'q'R TABLE a.v ADD CONSTRAINT k PRIMARY KEY (y);",
+        "Unknown(0)",
+    ),
+    ("ALTER TABLE public.k ADD CONSTRAINT m", "Incomplete(37)"),
+    (
+        "CREATE 'q' VIEW a.n AS SELECT 1 FROM a.v, (public.t JOIN a.u ON true);",
+        "Unknown(7)",
+    ),
+    ("ALTER TABLE a.t AD", "Unknown(16)"),
+    (
+        "CREATE OR REPLACE VIE xW a.n AS SELECT 1 FROM a.m, (a.v JOIN a.n ON true);",
+        "Unknown(18)",
+    ),
+    (
+        "ALTER TABLE public.u ADD CONSTRAINT u PR 'q'IMARY KEY (x, z);",
+        "Unknown(38)",
+    ),
+    (
+        "AL )TER TABLE a.u ADD CONSTRAINT u FOREIGN KEY (x) REFERENCES public.m(x);",
+        "Unknown(0)",
+    ),
+    (
+        "ALTER TABL )E a.m ADD CONSTRAINT n UNIQUE (z, y);",
+        "Unknown(6)",
+    ),
+    ("ALTER TABLE a.u ADD CONS", "Unknown(20)"),
+    ("ALTER TABLE a.m", "Incomplete(15)"),
+    (
+        "AL,TER TABLE public.n ALTER COLUMN z SET DEFAULT nextval('a.u'::regclass);",
+        "Unknown(0)",
+    ),
+    (
+        "CREATE ;VIEW a.k AS SELECT 1 FROM a.v, (a.k JOIN public.v ON true);",
+        "Unknown(7)",
+    ),
+    ("ALTER TABLE a.k ADD ", "Incomplete(20)"),
+    ("ALTER TABL", "Unknown(6)"),
+];
+
+/// Further ones.
+const FAULTS_2: &[(&str, &str)] = &[
+    ("ALTER S", "Unknown(6)"),
+    (
+        "ALTER TABLE public.v ADD CONSTRAINT u  'q'UNIQUE (z, y);",
+        "Unknown(39)",
+    ),
+    (
+        "ALTER TABLE public.u ADD CONSTRAINT m PRI 7MARY KEY (x, y);",
+        "Unknown(38)",
+    ),
+    ("ALTER TABLE public.n ADD CONSTRAINT v PR", "Unknown(38)"),
+    ("ALTER S;EQUENCE public.m OWNED BY a.v.y;", "Unknown(6)"),
+    ("CREATE  'q'SEQUENCE public.m;", "Unknown(8)"),
+    (
+        "ALTER TABLE 'q' public.m ADD CONSTRAINT u UNIQUE (x);",
+        "Unknown(12)",
+    ),
+    (
+        "CREA NOT NULLTE SEQUENCE public.t INCREMENT BY -1;",
+        "Unknown(0)",
+    ),
+    (
+        "CREATE OR R 7EPLACE VIEW public.m AS SELECT 1 FROM public.k, (public.m JOIN a.v ON true);",
+        "Unknown(10)",
+    ),
+    ("ALTER T", "Unknown(6)"),
+    (
+        "ALT )ER TABLE a.t ADD CONSTRAINT k UNIQUE (z);",
+        "Unknown(0)",
+    ),
+    ("ALTER", "Incomplete(5)"),
+    ("ALTER TABLE", "Incomplete(11)"),
+    ("ALTER TABLE public.v ADD CONSTRAINT ", "Incomplete(36)"),
+    (
+        "ALTER TABLE a.m ADD, CONSTRAINT k FOREIGN KEY (x) REFERENCES a.k(x);",
+        "Unknown(19)",
+    ),
+    (
+        "CREATE DO 7MAIN a.u AS public.n NOT NULL DEFAULT E'a\\'b' CONSTRAINT m CHECK (1);",
+        "Unknown(7)",
+    ),
+    (
+        "CR 'q'EATE INDEX n ON a.n USING btree (z, x);",
+        "Unknown(0)",
+    ),
+    (
+        "CREATE DOM,AIN public.n AS public.m CONSTRAINT m CHECK ('m'::a.u) CONSTRAINT m CHECK (1);",
+        "Unknown(7)",
+    ),
+    ("CREA", "Unknown(0)"),
+    ("CREATE SCHEM 'q'A a;", "Unknown(7)"),
+    ("ALTER TABLE public.k ADD CONSTRAINT n P", "Unknown(38)"),
+    ("ALTE 7R TABLE a.t OWNER TO eve;", "Unknown(0)"),
+    ("CREATE ", "Incomplete(7)"),
+    ("ALTER TABLE public.t ADD CONSTRAINT k P", "Unknown(38)"),
+    (
+        "ALTER T NOT NULLABLE a.m ALTER COLUMN y SET DEFAULT (VALUE > 0);",
+        "Unknown(6)",
+    ),
+    (
+        "AL,TER TABLE a.t ADD CONSTRAINT n FOREIGN KEY (y) REFERENCES a.u(y);",
+        "Unknown(0)",
+    ),
+    (
+        "ALTE;R TABLE public.m ADD CONSTRAINT m PRIMARY KEY (x);",
+        "Unknown(0)",
+    ),
+    ("CRE", "Unknown(0)"),
+    (
+        "CREATE UN;IQUE INDEX n ON public.n USING btree (y, z) WHERE true;",
+        "Unknown(7)",
+    ),
+];
+
 fn told(alloc: Global, text: &str) -> Result<String, AllocError> {
     match read_stmts(alloc, text.as_bytes()) {
         Ok(statements) => spelled(alloc, &statements),
@@ -962,6 +1183,15 @@ fn views_indexes_and_sequences_are_read_2(rt: HostRuntime) -> Result<(), Fail> {
 }
 
 #[test]
+fn values_of_sequences_are_read(rt: HostRuntime) -> Result<(), Fail> {
+    for (text, want) in VALUES {
+        let got = told(rt.alloc(), text).ok().ok_or("memory")?;
+        assert_eq!(rt; got.as_str(), *want);
+    }
+    Ok(())
+}
+
+#[test]
 fn changes_of_tables_are_read(rt: HostRuntime) -> Result<(), Fail> {
     for (text, want) in CHANGES {
         let got = told(rt.alloc(), text).ok().ok_or("memory")?;
@@ -973,6 +1203,24 @@ fn changes_of_tables_are_read(rt: HostRuntime) -> Result<(), Fail> {
 #[test]
 fn changes_of_tables_are_read_2(rt: HostRuntime) -> Result<(), Fail> {
     for (text, want) in CHANGES_2 {
+        let got = told(rt.alloc(), text).ok().ok_or("memory")?;
+        assert_eq!(rt; got.as_str(), *want);
+    }
+    Ok(())
+}
+
+#[test]
+fn faults_are_told(rt: HostRuntime) -> Result<(), Fail> {
+    for (text, want) in FAULTS {
+        let got = told(rt.alloc(), text).ok().ok_or("memory")?;
+        assert_eq!(rt; got.as_str(), *want);
+    }
+    Ok(())
+}
+
+#[test]
+fn faults_are_told_2(rt: HostRuntime) -> Result<(), Fail> {
+    for (text, want) in FAULTS_2 {
         let got = told(rt.alloc(), text).ok().ok_or("memory")?;
         assert_eq!(rt; got.as_str(), *want);
     }

@@ -14,4 +14,5 @@ mod words;
 mod writing;
 
 pub use fault::WriteStmtError;
+pub use sequences::{usual_max, usual_min};
 pub use writing::write_stmt;

@@ -9,9 +9,10 @@ use cat_model::{QName, SequenceKind};
 use copy_text::Name;
 use std::alloc::AllocError;
 
-/// What NO MINVALUE stands for.
+/// What NO MINVALUE stands for: 1 where the sequence rises, by a step that isn't negative, and the type's least number
+/// where it falls.
 #[tactic(auto, unfolding(crate::specs::Sequences::usual_min))]
-fn usual_min(kind: SequenceKind, step: i64) -> i64
+pub fn usual_min(kind: SequenceKind, step: i64) -> i64
     ensures { result ≡ usual_min kind step }
 {
     match kind {
@@ -22,9 +23,10 @@ fn usual_min(kind: SequenceKind, step: i64) -> i64
     }
 }
 
-/// What NO MAXVALUE stands for.
+/// What NO MAXVALUE stands for: the type's greatest number where the sequence rises, by a step that isn't negative, and
+/// -1 where it falls.
 #[tactic(auto, unfolding(crate::specs::Sequences::usual_max))]
-fn usual_max(kind: SequenceKind, step: i64) -> i64
+pub fn usual_max(kind: SequenceKind, step: i64) -> i64
     ensures { result ≡ usual_max kind step }
 {
     match kind {

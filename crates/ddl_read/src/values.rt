@@ -1,0 +1,96 @@
+//! Readers of a sequence's value, behind SELECT pg_catalog.setval.
+ghost use Rattle.std.specs.Prelude.{◌≡◌, ◌<◌, drop, IfOk};
+ghost use Rattle.ddl_parts.specs.Pieces.{GivesPart};
+ghost use Rattle.ddl_read.specs.ValueGrammar.{GivesPath, path_in, literal_path, count, whole_number, truth, set_value};
+
+use crate::sequences::{LIMIT, count_at, opposite};
+use cat_model::{QName, Stmt};
+use ddl_parts::{Halt, Pieces, ReadError, Run, collect, qualified_name};
+use std::alloc::Global;
+
+/// The path that all tokens of a text spell. Where they spell none, reading halts at the place that is given.
+#[tactic(auto, unfolding(crate::specs::ValueGrammar::path_in))]
+fn path_in(alloc: Global, text: &[u8], at: usize) -> Result<QName, ReadError>
+    ensures { GivesPath at result (path_in text.now) }
+{
+    let Run { pieces, fault, .. } = collect(alloc, text, 0)?;
+    if fault.is_some() {
+        return Err(ReadError::Halted(Halt { long: false, at }));
+    }
+    let pieces = Pieces::new(text, pieces);
+    match qualified_name(alloc, &pieces, 0) {
+        Ok((q, end)) if end >= pieces.len() => Ok(q),
+        Err(ReadError::Memory) => Err(ReadError::Memory),
+        _ => Err(ReadError::Halted(Halt { long: false, at })),
+    }
+}
+
+/// The path in the literal at a place, and the place behind it.
+fn literal_path(alloc: Global, pieces: &Pieces<'_>, at: usize) -> Result<(QName, usize), ReadError>
+    ensures { GivesPart pieces.now (λ q. q) result (literal_path.read (drop at pieces.now)) }
+{
+    let (text, end) = pieces.literal(alloc, at)?;
+    let q = path_in(alloc, text.as_bytes(), at)?;
+    Ok((q, end))
+}
+
+/// The number at a place, where it is below a limit, and the place behind it.
+fn count(pieces: &Pieces<'_>, at: usize, limit: u64) -> Result<(u64, usize), ReadError>
+    ensures exact { GivesPart pieces.now (λ n. n) result ((count limit).read (drop at pieces.now)) }
+    ensures low { IfOk result (λ x. x.0 < limit) }
+{
+    if at >= pieces.len() {
+        return Err(ReadError::Halted(Halt { long: false, at }));
+    }
+    match count_at(pieces, at, limit) {
+        Some(number) => Ok((number, at + 1)),
+        None => Err(ReadError::Halted(Halt { long: false, at })),
+    }
+}
+
+/// The whole number at a place, and the place behind it.
+#[tactic(auto, unfolding(crate::specs::ValueGrammar::whole_number))]
+fn whole_number(pieces: &Pieces<'_>, at: usize) -> Result<(i64, usize), ReadError>
+    ensures { GivesPart pieces.now (λ n. n) result (whole_number.read (drop at pieces.now)) }
+{
+    if pieces.is_sign(at, b'-') {
+        let at = pieces.sign(at, b'-')?;
+        let (number, at) = count(pieces, at, LIMIT + 1)?;
+        return Ok((opposite(number), at));
+    }
+    let (number, at) = count(pieces, at, LIMIT)?;
+    Ok((number as i64, at))
+}
+
+/// TRUE or FALSE at a place, and the place behind it.
+#[tactic(auto, unfolding(crate::specs::ValueGrammar::truth))]
+fn truth(pieces: &Pieces<'_>, at: usize) -> Result<(bool, usize), ReadError>
+    ensures { GivesPart pieces.now (λ b. b) result (truth.read (drop at pieces.now)) }
+{
+    if pieces.is_word(at, "true") {
+        let at = pieces.word(at, "true")?;
+        return Ok((true, at));
+    }
+    let at = pieces.word(at, "false")?;
+    Ok((false, at))
+}
+
+/// SELECT pg_catalog.setval.
+#[tactic(auto, unfolding(crate::specs::ValueGrammar::set_value))]
+pub(crate) fn set_value(
+    alloc: Global,
+    pieces: &Pieces<'_>,
+    at: usize,
+) -> Result<(Stmt, usize), ReadError>
+    ensures { GivesPart pieces.now (λ s. s) result (set_value.read (drop at pieces.now)) }
+{
+    let at = pieces.sign(at, b'(')?;
+    let (q, at) = literal_path(alloc, pieces, at)?;
+    let at = pieces.sign(at, b',')?;
+    let (value, at) = whole_number(pieces, at)?;
+    let at = pieces.sign(at, b',')?;
+    let (called, at) = truth(pieces, at)?;
+    let at = pieces.sign(at, b')')?;
+    let at = pieces.sign(at, b';')?;
+    Ok((Stmt::SetVal { q, value, called }, at))
+}
