@@ -54,7 +54,7 @@ IsKeyed x = AreColumns x.0 × IsRest Begin x.1
 abbrev AreNamed : List ℕ × List (List ℕ) → Type 0
 AreNamed x = IsName x.0 × AllByRecursion IsName x.1
 
-columns_yield : Yields AreColumns columns
+pub columns_yield : Yields AreColumns columns
 unfolding columns
 columns_yield =
     lead_yields AreColumns (is_sign 40) (seen names_of (name then further) ◂ is_sign 41)

@@ -63,7 +63,7 @@ between_gaps text _ _ (gap at end to s more) =
     let whole : p.word ++ slice_range text end to ≡ slice_range text at to = ap (λ (x : List ℕ). x ++ slice_range text end to) (sym first) ∙ seam text at end to (omega (arith, p.ends)) low in
     subst (λ (x : List ℕ). Gaps x (drop to text)) whole (one_gap p.word (slice_range text end to) (drop to text) (subst (IsGap p.word) rest p.is) s.utf8 (between_gaps text end to more))
 
-came_token : (text : List ℕ) (at : ℕ) (t : Token) → at ≤ length text → next_token_of text at ≡ Ok (Some t) → Came (lexeme_of text (record { from = at; token = t })) (drop t.end text)
+pub came_token : (text : List ℕ) (at : ℕ) (t : Token) → at ≤ length text → next_token_of text at ≡ Ok (Some t) → Came (lexeme_of text (record { from = at; token = t })) (drop t.end text)
 unfolding spelling
 came_token text at t le e =
     let found : IsNext text at (Ok (Some t)) = subst (IsNext text at) e (next_found text at le) in

@@ -42,3 +42,5 @@ pub mod RelationMade
 pub mod ValueMade
 pub mod Made
 pub mod CopyLaws
+pub mod CopyLayouts
+pub mod LineTexts

@@ -1,5 +1,5 @@
 -- What is read of a text can be written: names that were read are names, texts are texts, expressions are expressions.
-use Rattle.std.proofs.Common.{◌≡◌, ℕ, ◌≤◌, List, [], ◌∷◌, ◌++◌, length, Option, Some, None, Ok, refl, sym, ap, subst, ◌∙◌, ◌⊎◌, arith, inl, inr, codes}
+use Rattle.std.proofs.Common.{◌≡◌, ℕ, ◌≤◌, List, [], ◌∷◌, ◌++◌, length, Option, Some, None, Result, Ok, Err, true, refl, sym, ap, subst, ◌∙◌, ◌⊎◌, arith, inl, inr, codes}
 use Rattle.std.specs.Str.{IsUtf8}
 use Rattle.copy_text.specs.Texts.{IsName}
 use Rattle.cat_model.specs.declared.object.QName.{QName}
@@ -8,7 +8,7 @@ use Rattle.cat_model.specs.declared.grant.Owned.TheVariants as owned
 use Rattle.cat_model.specs.declared.stmt.Stmt.{Stmt}
 use Rattle.cat_model.specs.declared.stmt.Stmt.TheVariants as stmt
 use Rattle.ddl_parts.specs.Lexemes.{Lexeme, is_word, is_sign}
-use Rattle.ddl_parts.specs.Parts.{Part, mark, seen, ◌then◌, ◌▸◌, ◌◂◌}
+use Rattle.ddl_parts.specs.Parts.{Part, mark, seen, nothing, ◌then◌, ◌▸◌, ◌◂◌}
 use Rattle.ddl_parts.specs.Pieces.{lexemes}
 use Rattle.ddl_parts.specs.Collecting.{collected}
 use Rattle.ddl_parts.specs.Leaves.{name, literal, qualified}
@@ -17,17 +17,32 @@ use Rattle.ddl_read.specs.declared.located.Located.{Located}
 use Rattle.ddl_read.specs.Grammar.{semicolon, create_schema, created, new_owner, new_check, DomainChange, its_owner, one_more_check, domain_changed, domain_change, altered_domain, name_and_owner, path_and_owner, owned_name, owned_path, altered, set_config, catalog_calls, selected, equals_or_to, setting, command, statement}
 use Rattle.ddl_read.specs.AlterGrammar.{altered_table}
 use Rattle.ddl_read.proofs.AlterMade.{new_owner_yields, altered_table_yields}
-use Rattle.ddl_read.specs.Reading.{listed as listed_before, statements_of}
-use Rattle.ddl_read.specs.Readings.{IsStatement, Reads, all_read, one_read}
+use Rattle.ddl_read.specs.Reading.{Whole, whole, with_rows, completed, listed as listed_before, statements_of}
+use Rattle.ddl_read.specs.declared.fault.DdlFault.{DdlFault}
+use Rattle.ddl_read.specs.CopyGrammar.{some_columns, copy_from}
+use Rattle.ddl_read.specs.Columns.{columns}
+use Rattle.ddl_read.proofs.AlterMade.{columns_yield}
+use Rattle.ddl_lines.specs.CopyRows.{AreRows, Copied, with_feeds, rows_in, rows_behind}
+use Rattle.ddl_lines.specs.MetaLines.{IsSaid}
+use Rattle.ddl_lines.proofs.RowTexts.{read_are_rows}
+use Rattle.ddl_lines.proofs.LineNames.{said_is_a_name}
+use Rattle.copy_text.specs.Lines.{before_end_mark}
+use Rattle.copy_text.proofs.LineLemmas.{lines_nil}
+use Rattle.std.specs.List.{AllByRecursion, list_all}
+use Rattle.std.proofs.lemmas.Bool.{and_from}
+use Rattle.sql_lex.specs.Bytes.{in_line}
+use Rattle.sql_lex.specs.Next.{next_token_of}
+use Rattle.sql_lex.specs.Meaning.{spelling}
+use Rattle.ddl_read.specs.Readings.{IsStatement, IsLine, line_token, Reads, all_read, one_read, line_read}
 use Rattle.ddl_read.specs.Clauses.{named_check}
 use Rattle.ddl_read.specs.RelationGrammar.{altered_sequence, view_branch, more_relations}
 use Rattle.ddl_read.proofs.RelationMade.{altered_sequence_yields, relations_yield}
 use Rattle.ddl_read.specs.ValueGrammar.{set_value}
 use Rattle.ddl_read.proofs.ValueMade.{set_value_yields}
 use Rattle.ddl_read.specs.TableGrammar.{create_enum, create_domain, create_table}
-use Rattle.ddl_read.specs.Respelling.{IsPath, IsOwnedName, IsExpressionText, IsCheck, IsWritable, AllWritable, joined, spellings, said}
-use Rattle.ddl_read.proofs.Kept.{AllCame, have_come}
-use Rattle.ddl_read.proofs.ReadingLaws.{found, bounds}
+use Rattle.ddl_read.specs.Respelling.{AreColumns, IsPath, IsOwnedName, IsExpressionText, IsCheck, IsWritable, AllWritable, joined, spellings, said}
+use Rattle.ddl_read.proofs.Kept.{AllCame, have_come, came_token}
+use Rattle.ddl_read.proofs.ReadingLaws.{found, ends_past, line_past}
 use Rattle.ddl_read.proofs.Tokens.{none}
 use Rattle.ddl_read.proofs.Respelled.{can_be_written, joined_read}
 use Rattle.ddl_read.proofs.Yielding.{named_check_yields, Yields, then_yields, seen_yields, any_yields, lead_yields, end_yields, choose_yields, one_of_yields, name_yields, literal_yields, expression_yields, qualified_yields}
@@ -136,12 +151,37 @@ setting_yields v ts r came spells =
     let all = then_yields IsName Q name (equals_or_to then (expression ◂ semicolon)) name_yields rest spells.0 ts r came spells.2 in
     subst IsWritable (sym spells.1) (all.0, all.1.1)
 
+some_columns_yield : Yields (AllByRecursion IsName) some_columns
+unfolding some_columns
+some_columns_yield =
+    choose_yields (AllByRecursion IsName) (is_sign 40) columns (nothing (is_sign 40) [])
+    (λ v ts r came spells. are_names v (columns_yield v ts r came spells)) (λ v ts r came spells. subst (AllByRecursion IsName) (sym spells.0) tt)
+  where
+    are_names : (ns : List (List ℕ)) → AreColumns ns → AllByRecursion IsName ns
+    are_names [] is = absurd is
+    are_names (n ∷ ns) is = is
+
+abbrev copied_columns : Part (List (List ℕ))
+copied_columns = some_columns ◂ is_word (codes "from") ◂ is_word (codes "stdin") ◂ semicolon
+
+no_rows : AreRows []
+unfolding rows_in
+no_rows = ap with_feeds (ap before_end_mark lines_nil)
+
+copy_from_yields : Yields IsWritable copy_from
+unfolding copy_from
+copy_from_yields v ts r came spells =
+    let are = end_yields (AllByRecursion IsName) semicolon (some_columns ◂ is_word (codes "from") ◂ is_word (codes "stdin"))
+    (end_yields (AllByRecursion IsName) (is_word (codes "stdin")) (some_columns ◂ is_word (codes "from")) (end_yields (AllByRecursion IsName) (is_word (codes "from")) some_columns some_columns_yield)) in
+    let both = then_yields IsPath (AllByRecursion IsName) qualified copied_columns qualified_yields are spells.0 ts r came spells.2 in
+    subst IsWritable (sym spells.1) (both.0, both.1, no_rows)
+
 command_yields : Yields IsWritable command
 unfolding command
 command_yields =
     one_of_yields IsWritable (record { key = codes "create"; part = created })
-    (record { key = codes "alter"; part = altered } ∷ record { key = codes "select"; part = selected } ∷ record { key = codes "set"; part = setting } ∷ [])
-    (created_yields, (altered_yields, (selected_yields, setting_yields)))
+    (record { key = codes "alter"; part = altered } ∷ record { key = codes "select"; part = selected } ∷ record { key = codes "set"; part = setting } ∷ record { key = codes "copy"; part = copy_from } ∷ [])
+    (created_yields, (altered_yields, (selected_yields, (setting_yields, copy_from_yields))))
 
 statement_yields : (s : Stmt) (ts : List Lexeme) (r : List ℕ) → AllCame ts r → statement.Spells (Some s) ts → IsWritable s
 unfolding statement
@@ -153,14 +193,57 @@ statement_yields s ts r came spells = by spells
 
 -- ---- whole texts
 
-one_more : (text : List ℕ) (at start end : ℕ) (more : List Located) → at ≤ length text → (s : Option Stmt) → IsStatement text at s start end → AllWritable (said more) → AllWritable (said (listed_before s start end more))
-one_more text at start end more le None is later = later
-one_more text at start end more le (Some s) is later = (statement_yields s (lexemes text (collected text at).pieces) _ (have_come text at le) is.spells, later)
+abbrev ends_at : Option Stmt → ℕ → Result Whole DdlFault
+ends_at s n = Ok (whole s n)
+
+-- a statement that is read with its rows can be written where it can without
+abbrev IsDone : Option Stmt → Type 0
+IsDone None = Unit {0}
+IsDone (Some s) = IsWritable s
+
+whole_is : (s t : Option Stmt) (end n : ℕ) → ends_at s end ≡ ends_at t n → s ≡ t
+whole_is s t end n e = cc e
+
+with_rows_done : (text : List ℕ) (at : ℕ) (q : QName) (columns : List (List ℕ)) (s : Option Stmt) (end : ℕ) → IsPath q × AllByRecursion IsName columns → (r : Result Copied ℕ) → rows_behind text at ≡ r → with_rows q columns r ≡ ends_at s end → IsDone s
+with_rows_done text at q columns s end is (Ok c) e f = subst IsDone (whole_is (Some (stmt.CopyRows q columns c.rows)) s c.end end f) (is.0, is.1, read_are_rows text at c e)
+with_rows_done text at q columns s end is (Err place) e f = absurd cc
+
+done : (text : List ℕ) (at : ℕ) (h s : Option Stmt) (end : ℕ) → IsDone h → completed text at h ≡ ends_at s end → IsDone s
+done text at (Some (stmt.CopyRows q columns rows)) s end is e = with_rows_done text at q columns s end (is.0, is.1) (rows_behind text at) refl e
+done text at None s end is e = subst IsDone (whole_is None s at end e) is
+done text at (Some h) s end is e = subst IsDone (whole_is (Some h) s at end e) is
+
+header_done : (text : List ℕ) (at : ℕ) (h : Option Stmt) → at ≤ length text → statement.Spells h (lexemes text (collected text at).pieces) → IsDone h
+header_done text at None le spells = tt
+header_done text at (Some s) le spells = statement_yields s (lexemes text (collected text at).pieces) _ (have_come text at le) spells
+
+one_more : (start end : ℕ) (more : List Located) (s : Option Stmt) → IsDone s → AllWritable (said more) → AllWritable (said (listed_before s start end more))
+one_more start end more None is later = later
+one_more start end more (Some s) is later = (is, later)
+
+-- what a line with a backslash says can be written
+line_spelled : (text : List ℕ) (at start end : ℕ) → at ≤ length text → next_token_of text at ≡ Ok (Some (line_token start end)) → list_all in_line (spelling text (line_token start end)) ≡ true
+line_spelled text at start end le e =
+    let c = came_token text at (line_token start end) le e in
+    ap (list_all in_line) c.spells.2 ∙ and_from (in_line 92) (list_all in_line c.spells.0) in_92 c.spells.1
+  where
+    in_92 : in_line 92 ≡ true
+    unfolding in_line
+    in_92 = refl
+
+line_done : (text : List ℕ) (at start end : ℕ) (s : Option Stmt) → at ≤ length text → IsLine text at s start end → IsDone s
+line_done text at start end s le is = by (said_is_a_name (spelling text (line_token start end)) s (line_spelled text at start end le is.next) is.says)
+  where
+    by : IsSaid s → IsDone s
+    by (inl none) = subst IsDone (sym none) tt
+    by (inr h) = subst IsDone (sym h.1) (h.2, h.3)
 
 all_writable : (text : List ℕ) (at : ℕ) (found : List Located) → at ≤ length text → Reads text at found → AllWritable (said found)
 all_writable text _ _ le (all_read at first sound) = tt
 all_writable text _ _ le (one_read at s start end more is others) =
-    one_more text at start end more le s is (all_writable text end more (subst (λ n. n ≤ length text) is.last (bounds text at le).1) others)
+    one_more start end more s (done text (collected text at).end is.header s end (header_done text at is.header le is.spells) is.all) (all_writable text end more (ends_past text at s start end le is).1 others)
+all_writable text _ _ le (line_read at s start end more is others) =
+    one_more start end more s (line_done text at start end s le is) (all_writable text end more (line_past text at start end le is.next).1 others)
 
 all_spelled : (statements : List Stmt) → AllWritable statements → (text : List ℕ) × (spellings statements ≡ Some text)
 all_spelled [] all = ([], refl)

@@ -286,7 +286,7 @@ ends_past text at s start end le is =
 
 pub line_past : (text : List ℕ) (at start end : ℕ) → at ≤ length text → next_token_of text at ≡ Ok (Some (line_token start end)) → (at < end) × (end ≤ length text)
 line_past text at start end le e =
-    let lies = lies_behind text at (Ok (Some (line_token start end))) le e in
+    let lies = lies_behind text at (Ok (Some (line_token start end))) le (sym e) in
     (omega (arith, lies.0, lies.1), lies.2)
 
 said_ok : (at : ℕ) (r : Result (Option Stmt) Bool) (s : Option Stmt) → line_said at r ≡ Ok s → r ≡ Ok s

@@ -1,7 +1,8 @@
 -- Statements that can be written, and the spellings of several joined.
 use Rattle.std.specs.Prelude.{◌≡◌, ℕ, ◌^◌, ℤ, pos, negsuc, Bool, nat_lt, true, false, List, [], ◌∷◌, ◌++◌, map, length, Option, Some, None}
 use Rattle.copy_text.specs.Texts.{IsName, IsText}
-use Rattle.std.specs.List.{AllByRecursion}
+use Rattle.std.specs.List.{AllByRecursion, list_all}
+use Rattle.sql_lex.specs.Bytes.{in_line}
 use Rattle.cat_model.specs.declared.object.QName.{QName}
 use Rattle.cat_model.specs.declared.table.ColumnDef.{ColumnDef}
 use Rattle.cat_model.specs.declared.table.CheckDef.{CheckDef}
@@ -17,6 +18,7 @@ use Rattle.ddl_parts.specs.Pieces.{lexemes}
 use Rattle.ddl_parts.specs.Collecting.{collected}
 use Rattle.ddl_parts.specs.Expressions.{nested}
 use Rattle.ddl_parts.specs.Types.{typing, type_of}
+use Rattle.ddl_lines.specs.CopyRows.{AreRows}
 use Rattle.ddl_write.specs.Spelling.{spelling}
 use Rattle.ddl_read.specs.declared.located.Located.{Located}
 use Rattle.ddl_read.specs.declared.rests.RestSpot.{RestSpot}
@@ -94,8 +96,9 @@ IsCheck c = IsName c.name × IsExpressionText c.text
 abbrev pub IsColumn : ColumnDef → Type 0
 IsColumn c = IsName c.name × IsType c.type_name × IsDefault c.default
 
--- What a statement is made of is what it should be: names are names, texts are texts, expressions are expressions. It
--- says so for the kinds that are written.
+-- What a statement is made of is what it should be: names are names, texts are texts, expressions are expressions,
+-- rows are lines that are ended and none of them the line \., and a database that is connected to has no line feed in
+-- its name. It says so for the kinds that are read.
 abbrev pub IsWritable : Stmt → Type 0
 IsWritable (stmt.CreateSchema n) = IsName n
 IsWritable (stmt.CreateEnum q labels) = IsPath q × AllByRecursion IsText labels
@@ -117,6 +120,8 @@ IsWritable (stmt.CreateView q body) = IsPath q × IsExpressionText body
 IsWritable (stmt.ReplaceView q body) = IsPath q × IsExpressionText body
 IsWritable (stmt.CreateIndex q name method rest) = IsPath q × IsName name × IsName method × IsBracketText rest
 IsWritable (stmt.CreateUniqueIndex q name method rest) = IsPath q × IsName name × IsName method × IsBracketText rest
+IsWritable (stmt.CopyRows q columns rows) = IsPath q × AllByRecursion IsName columns × AreRows rows
+IsWritable (stmt.Connect n) = IsName n × (list_all in_line n ≡ true)
 IsWritable _ = ⊥
 
 abbrev pub AllWritable : List Stmt → Type 0
