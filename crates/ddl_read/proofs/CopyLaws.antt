@@ -1,8 +1,8 @@
 -- The grammar of COPY has the laws of a part, and ends with its semicolon.
-use Rattle.std.proofs.Common.{◌≡◌, ℕ, Bool, true, false, List, [], ◌∷◌, refl, codes}
+use Rattle.std.proofs.Common.{ℕ, Bool, List, [], refl, codes}
 use Rattle.cat_model.specs.declared.stmt.Stmt.TheVariants.{CopyRows}
 use Rattle.ddl_parts.specs.Lexemes.{Lexeme, is_word, is_sign, never}
-use Rattle.ddl_parts.specs.Parts.{Part, seen, nothing, ◌then◌, ◌▸◌, ◌◂◌}
+use Rattle.ddl_parts.specs.Parts.{Part, seen, nothing, ◌then◌, ◌◂◌}
 use Rattle.ddl_parts.specs.Laws.{Lawful, Apart}
 use Rattle.ddl_parts.specs.Leaves.{name, qualified}
 use Rattle.ddl_parts.proofs.Steps.{avoids_never}

@@ -9,8 +9,8 @@ use Rattle.copy_text.specs.Texts.{IsName}
 use Rattle.copy_text.specs.Marks.{newline, end_mark}
 use Rattle.cat_model.specs.declared.object.QName.{QName}
 use Rattle.cat_model.specs.declared.stmt.Stmt.TheVariants as stmt
-use Rattle.ddl_parts.specs.Lexemes.{Lexeme, is_word, is_sign, spelled}
-use Rattle.ddl_parts.specs.Parts.{Part, nothing, ◌then◌, ◌▸◌, ◌◂◌}
+use Rattle.ddl_parts.specs.Lexemes.{Lexeme, is_word, is_sign}
+use Rattle.ddl_parts.specs.Parts.{nothing, ◌then◌, ◌▸◌, ◌◂◌}
 use Rattle.ddl_parts.specs.Leaves.{qualified}
 use Rattle.ddl_write.specs.Paths.{path, listed}
 use Rattle.ddl_write.specs.RowsText.{copy_text}
@@ -19,8 +19,8 @@ use Rattle.ddl_read.specs.Columns.{columns}
 use Rattle.ddl_read.specs.CopyGrammar.{some_columns, copy_from}
 use Rattle.ddl_read.specs.Grammar.{command, statement}
 use Rattle.ddl_read.specs.Respelling.{IsPath}
-use Rattle.ddl_read.proofs.Tokens.{Gap, none, space}
-use Rattle.ddl_read.proofs.Putting.{parts_words, begins_by, Follows, IsPut, IsKey, behind, begun, put_as, same_text, seen_put, nothing_put, close_put, word_put, word_lead, path_lead}
+use Rattle.ddl_read.proofs.Tokens.{Gap, space}
+use Rattle.ddl_read.proofs.Putting.{parts_words, begins_by, Follows, IsPut, IsKey, behind, begun, put_as, seen_put, nothing_put, close_put, word_put, word_lead, path_lead}
 use Rattle.ddl_read.proofs.KeyLayouts.{columns_put}
 use Rattle.ddl_read.proofs.Layouts.{IsLaidOut, laid_out, ended}
 

@@ -21,7 +21,7 @@ use Rattle.ddl_read.specs.Readings.{IsLine}
 use Rattle.ddl_read.proofs.ReadingLaws.{collected_first}
 use Rattle.ddl_read.proofs.Kept.{came_token}
 use Rattle.ddl_read.proofs.Tokens.{Gap, space, Begun, gap_stands, name_begun, name_no_sign, name_means}
-use Rattle.std.proofs.Common.{◌≡◌, ℕ, suc, ◌+◌, ◌<◌, ◌≤◌, Bool, true, false, cond, not, ◌||◌, ◌&&◌, ◌-◌, List, [], ◌∷◌, ◌++◌, length, length-append, append_assoc, append-nil, take, drop, Option, Some, None, Result, Ok, Err, refl, sym, ap, subst, ◌∙◌, arith, ◌⊎◌, inl, inr, codes}
+use Rattle.std.proofs.Common.{◌≡◌, ℕ, suc, ◌+◌, Bool, true, false, cond, not, ◌&&◌, ◌-◌, List, [], ◌∷◌, ◌++◌, length, length-append, append_assoc, append-nil, Option, Some, None, Result, Ok, Err, refl, sym, ap, subst, ◌∙◌, arith, ◌⊎◌, inl, inr, codes}
 use Rattle.std.specs.Prelude.{◌==◌, slice_index}
 use Rattle.std.specs.List.{list_all}
 use Rattle.std.specs.Str.{is_utf8, IsUtf8, chars}
@@ -71,7 +71,7 @@ name_next n utf8 =
     let whole : (32 ∷ []) ++ (written_name n ++ []) ≡ spaced n = ap (λ (x : List ℕ). 32 ∷ x) (append-nil (written_name n)) in
     let there = (name_is_read (32 ∷ []) n [] utf8 (ends_alone n)).0 in
     let passed : next_token_of (spaced n) 0 ≡ next_token_of (spaced n) 1 =
-    subst (λ (x : List ℕ). next_token_of (32 ∷ x) 0 ≡ next_token_of (32 ∷ x) 1) (append-nil (written_name n) ∙ append-nil (written_name n)) (gap_stands (32 ∷ []) (written_name n) [] space (name_begun n) [] [] refl) in
+    subst (λ (x : List ℕ). next_token_of (32 ∷ x) 0 ≡ next_token_of (32 ∷ x) 1) (append-nil (written_name n ++ []) ∙ append-nil (written_name n)) (gap_stands (32 ∷ []) (written_name n) [] space (name_begun n) [] [] refl) in
     (
       passed ∙ subst (λ (x : List ℕ). next_token_of x 1 ≡ Ok (Some (name_at n))) whole there.found,
       subst (λ (x : List ℕ). spelling x (name_at n) ≡ written_name n) whole there.spelled,
@@ -92,7 +92,7 @@ one_piece n utf8 =
     let text = spaced n in
     let is : collected text 0 ≡ by_sign n (is_sign_kind 59 (written_kind n)) = collected_first text 0 ∙ ap (collected_by (collected_within (length text) text) 0) (name_next n utf8).0 in
     ap (λ (c : Collected). c.pieces) (is ∙ ap (by_sign n) (name_no_sign 59 n))
-    ∙ ap (λ (ps : List Piece). piece n ∷ ps) (nothing_behind text (length (written_name n)))
+    ∙ ap (λ k. piece n ∷ (collected_within (length text) text k).pieces) (let one : 1 + length (written_name n) ≡ length text = omega arith in one) ∙ ap (λ (ps : List Piece). piece n ∷ ps) (nothing_behind text (length (written_name n)))
 
 alone : (n : List ℕ) → stands_alone (spaced n) (piece n) ≡ true
 unfolding stands_alone is_blank

@@ -33,7 +33,7 @@ use Rattle.std.proofs.lemmas.Bool.{and_from}
 use Rattle.sql_lex.specs.Bytes.{in_line}
 use Rattle.sql_lex.specs.Next.{next_token_of}
 use Rattle.sql_lex.specs.Meaning.{spelling}
-use Rattle.ddl_read.specs.Readings.{IsStatement, IsLine, line_token, Reads, all_read, one_read, line_read}
+use Rattle.ddl_read.specs.Readings.{IsLine, line_token, Reads, all_read, one_read, line_read}
 use Rattle.ddl_read.specs.Clauses.{named_check}
 use Rattle.ddl_read.specs.RelationGrammar.{altered_sequence, view_branch, more_relations}
 use Rattle.ddl_read.proofs.RelationMade.{altered_sequence_yields, relations_yield}
@@ -202,7 +202,11 @@ IsDone None = Unit {0}
 IsDone (Some s) = IsWritable s
 
 whole_is : (s t : Option Stmt) (end n : ℕ) → ends_at s end ≡ ends_at t n → s ≡ t
-whole_is s t end n e = cc e
+whole_is s t end n e = ap stmt_of e
+  where
+    stmt_of : Result Whole DdlFault → Option Stmt
+    stmt_of (Ok w) = w.stmt
+    stmt_of (Err fault) = None
 
 with_rows_done : (text : List ℕ) (at : ℕ) (q : QName) (columns : List (List ℕ)) (s : Option Stmt) (end : ℕ) → IsPath q × AllByRecursion IsName columns → (r : Result Copied ℕ) → rows_behind text at ≡ r → with_rows q columns r ≡ ends_at s end → IsDone s
 with_rows_done text at q columns s end is (Ok c) e f = subst IsDone (whole_is (Some (stmt.CopyRows q columns c.rows)) s c.end end f) (is.0, is.1, read_are_rows text at c e)
@@ -221,21 +225,21 @@ one_more : (start end : ℕ) (more : List Located) (s : Option Stmt) → IsDone 
 one_more start end more None is later = later
 one_more start end more (Some s) is later = (is, later)
 
+in_92 : in_line 92 ≡ true
+unfolding in_line
+in_92 = refl
+
 -- what a line with a backslash says can be written
 line_spelled : (text : List ℕ) (at start end : ℕ) → at ≤ length text → next_token_of text at ≡ Ok (Some (line_token start end)) → list_all in_line (spelling text (line_token start end)) ≡ true
 line_spelled text at start end le e =
     let c = came_token text at (line_token start end) le e in
     ap (list_all in_line) c.spells.2 ∙ and_from (in_line 92) (list_all in_line c.spells.0) in_92 c.spells.1
-  where
-    in_92 : in_line 92 ≡ true
-    unfolding in_line
-    in_92 = refl
 
 line_done : (text : List ℕ) (at start end : ℕ) (s : Option Stmt) → at ≤ length text → IsLine text at s start end → IsDone s
 line_done text at start end s le is = by (said_is_a_name (spelling text (line_token start end)) s (line_spelled text at start end le is.next) is.says)
   where
     by : IsSaid s → IsDone s
-    by (inl none) = subst IsDone (sym none) tt
+    by (inl passed) = subst IsDone (sym passed) tt
     by (inr h) = subst IsDone (sym h.1) (h.2, h.3)
 
 all_writable : (text : List ℕ) (at : ℕ) (found : List Located) → at ≤ length text → Reads text at found → AllWritable (said found)

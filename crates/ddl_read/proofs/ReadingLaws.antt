@@ -28,7 +28,7 @@ use Rattle.ddl_lines.specs.CopyRows.{Copied, rows_behind}
 use Rattle.ddl_lines.specs.MetaLines.{meta_line}
 use Rattle.ddl_lines.proofs.RowTexts.{rows_bounds}
 use Rattle.ddl_read.specs.Reading.{◌>>=◌, Whole, whole, whole_of, with_rows, completed, is_line_kind, line_in, line_at, line_fault, line_said, statements_at, listed, first_start, fault_of, told, no_more, statement_of, statements_by, statements_within, statements_of}
-use Rattle.ddl_read.specs.Readings.{IsStatement, IsLine, IsBadLine, HasNoRows, line_token, Reads, all_read, one_read, line_read, IsStuck, FailsAt, no_token, stuck, no_rows, bad_line, later, later_line}
+use Rattle.ddl_read.specs.Readings.{IsStatement, line_token, Reads, all_read, one_read, line_read, IsStuck, FailsAt, no_token, stuck, no_rows, bad_line, later, later_line}
 use Rattle.ddl_read.proofs.GrammarLaws.{statement_laws}
 use Rattle.ddl_read.proofs.Closed.{takes_all}
 

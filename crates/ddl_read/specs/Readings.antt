@@ -1,6 +1,6 @@
 -- Which texts read as which statements, and which place of a text is the first from which on none reads.
 -- Said by relations, apart from how a text is read.
-use Rattle.std.specs.Prelude.{◌≡◌, ℕ, Bool, List, [], ◌∷◌, ◌++◌, length, Option, Some, None, Result, Ok, Err}
+use Rattle.std.specs.Prelude.{◌≡◌, ℕ, Bool, List, [], ◌∷◌, ◌++◌, length, Option, Some, None, Ok, Err}
 use Rattle.sql_lex.specs.declared.fault.LexFault.{LexFault}
 use Rattle.sql_lex.specs.declared.token.Token.{Token}
 use Rattle.sql_lex.specs.declared.token.TokenKind.TheVariants.{MetaLine}
@@ -15,7 +15,7 @@ use Rattle.ddl_read.specs.declared.fault.DdlFault.{DdlFault}
 use Rattle.ddl_read.specs.declared.fault.DdlFault.TheVariants.{Lex}
 use Rattle.ddl_read.specs.Grammar.{statement}
 use Rattle.ddl_lines.specs.MetaLines.{meta_line}
-use Rattle.ddl_read.specs.Reading.{Whole, whole, completed, line_at, line_fault, listed, first_start, fault_by}
+use Rattle.ddl_read.specs.Reading.{whole, completed, line_at, line_fault, listed, first_start, fault_by}
 
 -- all tokens from a place up to a semicolon spell a statement, or an empty one, and the rows of a COPY stand behind them;
 -- it stands between two places
