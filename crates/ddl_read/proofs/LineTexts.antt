@@ -43,7 +43,6 @@ pub connect_is : (n : List ℕ) → connect_text n ≡ connect_line n ++ 10 ∷ 
 unfolding connect_text
 connect_is n = ap (λ (x : List ℕ). codes "\\connect " ++ x) refl
 
-
 -- ---- the name behind the command
 
 abbrev spaced : List ℕ → List ℕ
@@ -59,7 +58,7 @@ in_10 = refl
 -- a written name ends where its text does
 ends_alone : (n : List ℕ) → goes_on (written_kind n) (written_name n) [] ≡ false
 unfolding written_kind goes_on next_is
-ends_alone n = elim (cases_Bool (is_bare n && not (is_reserved n))) [ | inl is ↦ rw is (and_false (length (written_name n) == 1 && next_is marks_escapes (written_name n))) | inr isnt ↦ rw isnt refl ]
+ends_alone n = elim (cases_Bool (is_bare n && not (is_reserved n))) [ inl is ↦ rw is (and_false (length (written_name n) == 1 && next_is marks_escapes (written_name n))) | inr isnt ↦ rw isnt refl ]
   where
     and_false : (x : Bool) → (x && false) ≡ false
     and_false true = refl
@@ -71,8 +70,7 @@ name_next n utf8 =
     let whole : (32 ∷ []) ++ (written_name n ++ []) ≡ spaced n = ap (λ (x : List ℕ). 32 ∷ x) (append-nil (written_name n)) in
     let there = (name_is_read (32 ∷ []) n [] utf8 (ends_alone n)).0 in
     let passed : next_token_of (spaced n) 0 ≡ next_token_of (spaced n) 1 =
-    subst (λ (x : List ℕ). next_token_of (32 ∷ x) 0 ≡ next_token_of (32 ∷ x) 1) (append-nil (written_name n ++ []) ∙ append-nil (written_name n)) (gap_stands (32 ∷ []) (written_name n) [] space (name_begun n) [] [] refl) in
-    (
+    subst (λ (x : List ℕ). next_token_of (32 ∷ x) 0 ≡ next_token_of (32 ∷ x) 1) (append-nil (written_name n ++ []) ∙ append-nil (written_name n)) (gap_stands (32 ∷ []) (written_name n) [] space (name_begun n) [] [] refl) in (
       passed ∙ subst (λ (x : List ℕ). next_token_of x 1 ≡ Ok (Some (name_at n))) whole there.found,
       subst (λ (x : List ℕ). spelling x (name_at n) ≡ written_name n) whole there.spelled,
     )

@@ -14,7 +14,7 @@ use Rattle.ddl_read.specs.declared.fault.DdlFault.{DdlFault}
 use Rattle.ddl_read.specs.declared.fault.ReadStmtsError.{ReadStmtsError}
 use Rattle.ddl_read.specs.declared.fault.ReadStmtsError.TheVariants as errors
 use Rattle.ddl_lines.specs.MetaLines.{meta_line}
-use Rattle.ddl_read.specs.Reading.{◌>>=◌, Fails, Whole, whole, whole_of, completed, line_at, line_said, statements_at, listed, first_start, no_more, statement_of, statements_by, statements_from, statements_within, statements_of}
+use Rattle.ddl_read.specs.Reading.{◌>>=◌, Fails, Whole, whole, whole_of, completed, line_at, line_said, statements_at, listed, first_start, no_more, statement_of, statements_by, statements_within, statements_of}
 
 -- statements so far, before what is read behind them
 abbrev pub behind : List Located → Result (List Located) DdlFault → Result (List Located) DdlFault

@@ -13,4 +13,5 @@ pub mod Readings
 pub mod Examples
 pub mod AlterExamples
 pub mod SequenceExamples
+pub mod CopyExamples
 pub mod Respelling

@@ -16,11 +16,11 @@ use Rattle.ddl_parts.specs.Collecting.{collected_within, collected}
 use Rattle.ddl_read.specs.Clauses.{named_check}
 use Rattle.ddl_read.specs.Grammar.{create_schema, created, new_owner, new_check, domain_change, altered_domain, name_and_owner, path_and_owner, altered, selected, equals_or_to, setting, command, statement}
 use Rattle.ddl_read.specs.AlterGrammar.{primary_body, unique_body, foreign_body, other_value, other_path, table_change, behind_only, altered_table, only_value, check_body, constraint_body, added, new_default, own_change}
-use Rattle.ddl_read.specs.Reading.{statement_of, statements_within, statements_of}
+use Rattle.ddl_read.specs.Reading.{line_at, statement_of, statements_within, statements_of}
 use Rattle.ddl_read.proofs.laws.altered_tables_meet_the_examples.Goals as goal
 
 pub returns : goal.returns
-unfolding primary_body unique_body foreign_body columns rest_step rest_long rest_done key_rest begins_foreign foreign_rest many_at other_value other_path table_change behind_only altered_table only_value check_body constraint_body added new_default own_change named_check is_utf8 chars encode is_blank is_digit begins_word in_word is_sign marks_escapes in_line next_is run_end quote_end escape_end comment_end fraction_end number_end begins_line closed begun in_utf8 piece_at next_within next_token_of inside undoubled name_of literal_of is_keyword_of spelling is_word sign_of name_in name_value text_in literal_value scan ends_run nest_step nest_done expression default_text collected_within collected create_schema created new_owner new_check domain_change altered_domain name_and_owner path_and_owner altered selected equals_or_to setting command statement statement_of statements_within statements_of
+unfolding line_at primary_body unique_body foreign_body columns rest_step rest_long rest_done key_rest begins_foreign foreign_rest many_at other_value other_path table_change behind_only altered_table only_value check_body constraint_body added new_default own_change named_check is_utf8 chars encode is_blank is_digit begins_word in_word is_sign marks_escapes in_line next_is run_end quote_end escape_end comment_end fraction_end number_end begins_line closed begun in_utf8 piece_at next_within next_token_of inside undoubled name_of literal_of is_keyword_of spelling is_word sign_of name_in name_value text_in literal_value scan ends_run nest_step nest_done expression default_text collected_within collected create_schema created new_owner new_check domain_change altered_domain name_and_owner path_and_owner altered selected equals_or_to setting command statement statement_of statements_within statements_of
 returns c = record {
   check = refl;
   bare = refl;

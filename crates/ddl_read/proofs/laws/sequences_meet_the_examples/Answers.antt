@@ -16,11 +16,11 @@ use Rattle.ddl_read.specs.Grammar.{create_schema, created, new_owner, new_check,
 use Rattle.ddl_read.specs.RelationGrammar.{create_view, replace_view, create_index, create_unique_index}
 use Rattle.ddl_read.specs.SequenceGrammar.{digits_below, clause_first, kind_first, usual_first, step_first, sequence_clauses, sequence_of, create_sequence}
 use Rattle.ddl_write.specs.Sequences.{usual_min, usual_max}
-use Rattle.ddl_read.specs.Reading.{statement_of, statements_within, statements_of}
+use Rattle.ddl_read.specs.Reading.{line_at, statement_of, statements_within, statements_of}
 use Rattle.ddl_read.proofs.laws.sequences_meet_the_examples.Goals as goal
 
 pub returns : goal.returns
-unfolding many_at named_check is_utf8 chars encode is_blank is_digit begins_word in_word is_sign marks_escapes in_line next_is run_end quote_end escape_end comment_end fraction_end number_end begins_line closed begun in_utf8 piece_at next_within next_token_of inside undoubled name_of literal_of is_keyword_of spelling is_word sign_of name_in name_value text_in literal_value scan ends_run nest_step nest_done expression default_text collected_within collected create_schema created new_owner new_check domain_change altered_domain name_and_owner path_and_owner altered selected equals_or_to setting command statement statement_of statements_within statements_of create_view replace_view create_index create_unique_index digits_below clause_first kind_first usual_first step_first sequence_clauses sequence_of create_sequence usual_min usual_max
+unfolding line_at many_at named_check is_utf8 chars encode is_blank is_digit begins_word in_word is_sign marks_escapes in_line next_is run_end quote_end escape_end comment_end fraction_end number_end begins_line closed begun in_utf8 piece_at next_within next_token_of inside undoubled name_of literal_of is_keyword_of spelling is_word sign_of name_in name_value text_in literal_value scan ends_run nest_step nest_done expression default_text collected_within collected create_schema created new_owner new_check domain_change altered_domain name_and_owner path_and_owner altered selected equals_or_to setting command statement statement_of statements_within statements_of create_view replace_view create_index create_unique_index digits_below clause_first kind_first usual_first step_first sequence_clauses sequence_of create_sequence usual_min usual_max
 returns c = record {
   written = refl;
   bare = refl;

@@ -19,11 +19,11 @@ use Rattle.ddl_read.specs.SequenceGrammar.{digits_below}
 use Rattle.ddl_read.specs.ValueGrammar.{path_in, path_value, count_value, whole_number, truth, set_value}
 use Rattle.ddl_read.specs.Grammar.{create_schema, created, new_owner, new_check, domain_change, altered_domain, name_and_owner, path_and_owner, altered, set_config, selected, equals_or_to, setting, command, statement}
 use Rattle.ddl_read.specs.AlterGrammar.{other_value, other_path, table_change, behind_only, altered_table, only_value, check_body, constraint_body, added, new_default, own_change}
-use Rattle.ddl_read.specs.Reading.{statement_of, statements_within, statements_of}
+use Rattle.ddl_read.specs.Reading.{line_at, statement_of, statements_within, statements_of}
 use Rattle.ddl_read.proofs.laws.the_definitions_meet_the_examples.Goals as goal
 
 pub returns : goal.returns
-unfolding set_config digits_below path_in path_value count_value whole_number truth set_value create_enum null_first default_first attributes typed create_domain column_name_value column element last_element table_elements create_table type_step type_done type_long is_type_word is_number type_of type_part default_text default_and_null without_not_null is_name is_literal many_at named_check is_utf8 chars encode is_blank is_digit begins_word in_word is_sign marks_escapes in_line next_is run_end quote_end escape_end comment_end fraction_end number_end begins_line closed begun in_utf8 piece_at next_within next_token_of inside undoubled name_of literal_of is_keyword_of spelling is_word sign_of name_in name_value text_in literal_value scan ends_run nest_step nest_done expression collected_within collected create_schema created new_owner new_check domain_change altered_domain name_and_owner path_and_owner altered selected equals_or_to setting command statement statement_of statements_within statements_of other_value other_path table_change behind_only altered_table only_value check_body constraint_body added new_default own_change altered_sequence sequence_change owned_by create_view replace_view bracketed index_parts create_index create_unique_index
+unfolding line_at set_config digits_below path_in path_value count_value whole_number truth set_value create_enum null_first default_first attributes typed create_domain column_name_value column element last_element table_elements create_table type_step type_done type_long is_type_word is_number type_of type_part default_text default_and_null without_not_null is_name is_literal many_at named_check is_utf8 chars encode is_blank is_digit begins_word in_word is_sign marks_escapes in_line next_is run_end quote_end escape_end comment_end fraction_end number_end begins_line closed begun in_utf8 piece_at next_within next_token_of inside undoubled name_of literal_of is_keyword_of spelling is_word sign_of name_in name_value text_in literal_value scan ends_run nest_step nest_done expression collected_within collected create_schema created new_owner new_check domain_change altered_domain name_and_owner path_and_owner altered selected equals_or_to setting command statement statement_of statements_within statements_of other_value other_path table_change behind_only altered_table only_value check_body constraint_body added new_default own_change altered_sequence sequence_change owned_by create_view replace_view bracketed index_parts create_index create_unique_index
 returns c = record {
   schema = refl;
   variant = refl;
