@@ -1113,6 +1113,219 @@ const FAULTS_2: &[(&str, &str)] = &[
     ),
 ];
 
+const COPIES: &[(&str, &str)] = &[
+    (
+        "COPY public.t FROM stdin;\n\\N\n\\.\n",
+        "0..32 COPY public.t FROM stdin;\n\\N\n\\.\n",
+    ),
+    (
+        "COPY public.t FROM stdin;\n\\N\n\\.",
+        "0..31 COPY public.t FROM stdin;\n\\N\n\\.\n",
+    ),
+    (
+        "COPY a.m FROM stdin;\n1\t2\na \tm\n\\.\n",
+        "0..33 COPY a.m FROM stdin;\n1\t2\na \tm\n\\.\n",
+    ),
+    (
+        "COPY a.m FROM stdi 'q'n;\n1\t2\na \tm\n\\.\n",
+        "Unknown(14)",
+    ),
+    (
+        "COPY a.v (y, z) FROM stdin;\n2\t1\na \t1\n\\.\n",
+        "0..40 COPY a.v (y, z) FROM stdin;\n2\t1\na \t1\n\\.\n",
+    ),
+    ("COPY a.v (", "Incomplete(10)"),
+    (
+        "COPY a.m FROM stdin;\n\\N\tm\nm\tm\n\\.\n",
+        "0..33 COPY a.m FROM stdin;\n\\N\tm\nm\tm\n\\.\n",
+    ),
+    (
+        "COPY a.m FROM stdin;\n\\N\tm\nm,\tm\n\\.\n",
+        "0..34 COPY a.m FROM stdin;\n\\N\tm\nm,\tm\n\\.\n",
+    ),
+    (
+        "COPY public.k (x, y) FROM stdin;\n2\ta \n\\.\n",
+        "0..41 COPY public.k (x, y) FROM stdin;\n2\ta \n\\.\n",
+    ),
+    ("COPY publi", "Incomplete(10)"),
+    (
+        "COPY a.t (z, x, y) FROM stdin;\n3\t1\tm\n3\t2\tm\n\\.\n",
+        "0..46 COPY a.t (z, x, y) FROM stdin;\n3\t1\tm\n3\t2\tm\n\\.\n",
+    ),
+    (
+        "COPY a.t (z, x, y) FROM s )tdin;\n3\t1\tm\n3\t2\tm\n\\.\n",
+        "Unknown(24)",
+    ),
+    (
+        "COPY public.v FROM stdin;\n\\.\n",
+        "0..29 COPY public.v FROM stdin;\n\\.\n",
+    ),
+    ("COPY public.v FROM stdi,n;\n\\.\n", "Unknown(19)"),
+    (
+        "COPY a.t FROM stdin;\n2\t1\t3\n\\.\n",
+        "0..30 COPY a.t FROM stdin;\n2\t1\t3\n\\.\n",
+    ),
+    ("COPY a.t FROM", "Incomplete(13)"),
+    (
+        "COPY public.k FROM stdin;\n\\N\t2\n\\.\n",
+        "0..34 COPY public.k FROM stdin;\n\\N\t2\n\\.\n",
+    ),
+    ("COPY public.k FROM ", "Incomplete(19)"),
+    (
+        "COPY a.k (z, y, x) FROM stdin;\n3\ta \t3\n1\t2\ta \n\\.\n",
+        "0..48 COPY a.k (z, y, x) FROM stdin;\n3\ta \t3\n1\t2\ta \n\\.\n",
+    ),
+    (
+        "COPY a.k (z, y, x) FROM st NOT NULLdin;\n3\ta \t3\n1\t2\ta \n\\.\n",
+        "Unknown(24)",
+    ),
+    (
+        "COPY public.k (z, x) FROM stdin;\n\\N\t1\n1\ta \n\\.\n",
+        "0..46 COPY public.k (z, x) FROM stdin;\n\\N\t1\n1\ta \n\\.\n",
+    ),
+    (
+        "COPY public.k (z, x) FROM stdin;\n\\N;\t1\n1\ta \n\\.\n",
+        "0..47 COPY public.k (z, x) FROM stdin;\n\\N;\t1\n1\ta \n\\.\n",
+    ),
+    (
+        "COPY public.n FROM stdin;\n3\t2\t2\n\\.\n",
+        "0..35 COPY public.n FROM stdin;\n3\t2\t2\n\\.\n",
+    ),
+    ("COPY pu", "Incomplete(7)"),
+    (
+        "COPY public.n FROM stdin;\n\\.\n",
+        "0..29 COPY public.n FROM stdin;\n\\.\n",
+    ),
+    ("COPY public.n FROM s", "Unknown(19)"),
+];
+
+const COPIES_2: &[(&str, &str)] = &[
+    (
+        "COPY public.k FROM stdin;\n3\n3\n\\.\n",
+        "0..33 COPY public.k FROM stdin;\n3\n3\n\\.\n",
+    ),
+    ("COPY public.k FRO,M stdin;\n3\n3\n\\.\n", "Unknown(14)"),
+    ("COPY", "Incomplete(4)"),
+    (
+        "COPY public.k FROM stdin;\n3\n\\.\n",
+        "0..31 COPY public.k FROM stdin;\n3\n\\.\n",
+    ),
+    ("COPY public.k FROM  )stdin;\n3\n\\.\n", "Unknown(20)"),
+    (
+        "COPY public.n FROM stdin;\nm\t1\n2\t1\n\\.\n",
+        "0..37 COPY public.n FROM stdin;\nm\t1\n2\t1\n\\.\n",
+    ),
+    ("COPY ", "Incomplete(5)"),
+    (
+        "COPY public.k FROM stdin;\na \t3\n\\.\n",
+        "0..34 COPY public.k FROM stdin;\na \t3\n\\.\n",
+    ),
+    (
+        "COPY public.k FROM s NOT NULLtdin;\na \t3\n\\.\n",
+        "Unknown(19)",
+    ),
+    ("COPY public.", "Incomplete(12)"),
+    (
+        "COPY a.m FROM stdin;\n\\.\n",
+        "0..24 COPY a.m FROM stdin;\n\\.\n",
+    ),
+    ("COPY a.m FROM", "Incomplete(13)"),
+    (
+        "COPY public.u FROM stdin;\n2\na \n\\.\n",
+        "0..34 COPY public.u FROM stdin;\n2\na \n\\.\n",
+    ),
+    (
+        "COPY public.u NOT NULL FROM stdin;\n2\na \n\\.\n",
+        "Unknown(14)",
+    ),
+    (
+        "COPY public.t FROM stdin;\n\\.\n",
+        "0..29 COPY public.t FROM stdin;\n\\.\n",
+    ),
+    ("COP", "Unknown(0)"),
+    (
+        "COPY public.v (x, z) FROM stdin;\n\\N\ta \n\\.\n",
+        "0..42 COPY public.v (x, z) FROM stdin;\n\\N\ta \n\\.\n",
+    ),
+    ("COPY public.v (", "Incomplete(15)"),
+    (
+        "COPY public.v FROM stdin;\na \t1\n\\.\n",
+        "0..34 COPY public.v FROM stdin;\na \t1\n\\.\n",
+    ),
+    (
+        "COPY public.v FROM stdin;\n",
+        "0..26 COPY public.v FROM stdin;\n\\.\n",
+    ),
+    (
+        "COPY a.m (x, z, y) FROM stdin;\n1\t3\t1\n2\t\\N\tm\n\\.\n",
+        "0..47 COPY a.m (x, z, y) FROM stdin;\n1\t3\t1\n2\t\\N\tm\n\\.\n",
+    ),
+    ("COPY a.m (x, z, y", "Incomplete(17)"),
+    (
+        "COPY public.u FROM stdin;\n3\tm\t1\n\\.\n",
+        "0..35 COPY public.u FROM stdin;\n3\tm\t1\n\\.\n",
+    ),
+    (
+        "COPY public.u FROM stdin;\n3\tm\t",
+        "0..30 COPY public.u FROM stdin;\n3\tm\t\n\\.\n",
+    ),
+    (
+        "COPY a.v (x, z) FROM stdin;\nm\tm\n\\.\n",
+        "0..35 COPY a.v (x, z) FROM stdin;\nm\tm\n\\.\n",
+    ),
+    (
+        "COPY a.v (x, z) FROM stdin;\nm\tm",
+        "0..31 COPY a.v (x, z) FROM stdin;\nm\tm\n\\.\n",
+    ),
+];
+
+/// Lines that begin with a backslash, and where the rows of a COPY begin and end.
+const LINES: &[(&str, &str)] = &[
+    ("\\connect shop", "0..13 \\connect shop\n"),
+    (
+        "\\connect  Shop \nSET x = 1;",
+        "0..15 \\connect shop\n16..26 SET x = 1;\n",
+    ),
+    (
+        "\\connect \"a\"\"b c\"\r\n",
+        "0..18 \\connect \"a\"\"b c\"\n",
+    ),
+    ("\\connect a b", "Unknown(0)"),
+    ("\\connect", "Unknown(0)"),
+    ("\\connect 'a'", "Unknown(0)"),
+    ("\\connect a;", "Unknown(0)"),
+    ("\\connect a -- b", "Unknown(0)"),
+    ("\\connecta", "Unknown(0)"),
+    ("\\c a", "Unknown(0)"),
+    (
+        "\\connect aaaaaaaaaaaaaaaaaaaaaaaaaaaaaaaaaaaaaaaaaaaaaaaaaaaaaaaaaaaaaaaa",
+        "LongName(0)",
+    ),
+    (
+        "\\restrict x y\n\\unrestrict\nSET a = 1;",
+        "26..36 SET a = 1;\n",
+    ),
+    ("\\restricted", "Unknown(0)"),
+    ("SET a\n\\connect b\n= 1;", "Unknown(6)"),
+    ("SET a = \\connect b\n;", "Lex(BadByte(8))"),
+    (
+        "COPY a.b FROM stdin; \t\r\n\\.\n\\connect c",
+        "0..27 COPY a.b FROM stdin;\n\\.\n27..37 \\connect c\n",
+    ),
+    (
+        "COPY a.b FROM stdin;\n\\.x\n\\.\nSET a = 1;",
+        "0..28 COPY a.b FROM stdin;\n\\.x\n\\.\n28..38 SET a = 1;\n",
+    ),
+    (
+        "COPY a.b FROM stdin;\n'\n\\.\nSET a = 1;",
+        "0..26 COPY a.b FROM stdin;\n'\n\\.\n26..36 SET a = 1;\n",
+    ),
+    ("COPY a.b FROM stdin;", "0..20 COPY a.b FROM stdin;\n\\.\n"),
+    ("COPY a.b FROM stdin; SET a = 1;", "Unknown(21)"),
+    ("COPY a.b FROM stdin; -- x\n\\.\n", "Unknown(21)"),
+    ("COPY a.b FROM stdin;\x0c\n\\.\n", "Unknown(20)"),
+];
+
 fn told(alloc: Global, text: &str) -> Result<String, AllocError> {
     match read_stmts(alloc, text.as_bytes()) {
         Ok(statements) => spelled(alloc, &statements),
@@ -1221,6 +1434,33 @@ fn faults_are_told(rt: HostRuntime) -> Result<(), Fail> {
 #[test]
 fn faults_are_told_2(rt: HostRuntime) -> Result<(), Fail> {
     for (text, want) in FAULTS_2 {
+        let got = told(rt.alloc(), text).ok().ok_or("memory")?;
+        assert_eq!(rt; got.as_str(), *want);
+    }
+    Ok(())
+}
+
+#[test]
+fn copies_are_read(rt: HostRuntime) -> Result<(), Fail> {
+    for (text, want) in COPIES {
+        let got = told(rt.alloc(), text).ok().ok_or("memory")?;
+        assert_eq!(rt; got.as_str(), *want);
+    }
+    Ok(())
+}
+
+#[test]
+fn copies_are_read_2(rt: HostRuntime) -> Result<(), Fail> {
+    for (text, want) in COPIES_2 {
+        let got = told(rt.alloc(), text).ok().ok_or("memory")?;
+        assert_eq!(rt; got.as_str(), *want);
+    }
+    Ok(())
+}
+
+#[test]
+fn lines_with_a_backslash_are_read(rt: HostRuntime) -> Result<(), Fail> {
+    for (text, want) in LINES {
         let got = told(rt.alloc(), text).ok().ok_or("memory")?;
         assert_eq!(rt; got.as_str(), *want);
     }
