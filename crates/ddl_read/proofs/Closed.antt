@@ -18,6 +18,8 @@ use Rattle.cat_model.specs.declared.table.CheckDef.{CheckDef}
 use Rattle.ddl_parts.specs.Leaves.{name, literal, is_literal, qualified}
 use Rattle.ddl_parts.specs.Lists.{listed}
 use Rattle.ddl_parts.specs.Expressions.{expression}
+use Rattle.ddl_rights.specs.Grants.{granted, revoked}
+use Rattle.ddl_read.proofs.RightsClosed.{granted_closes, revoked_closes}
 use Rattle.ddl_read.specs.Clauses.{named_check}
 use Rattle.ddl_read.specs.RelationGrammar.{altered_sequence, view_branch, more_relations}
 use Rattle.ddl_read.proofs.RelationLaws.{altered_sequence_closes, relations_close}
@@ -142,8 +144,9 @@ command_closes : Closes semicolon command
 unfolding command
 command_closes =
     one_of_closes semicolon (record { key = codes "create"; part = created })
-    (record { key = codes "alter"; part = altered } ∷ record { key = codes "select"; part = selected } ∷ record { key = codes "set"; part = setting } ∷ [])
-    (created_closes, (altered_closes, (selected_closes, setting_closes)))
+    (record { key = codes "alter"; part = altered } ∷ record { key = codes "select"; part = selected } ∷ record { key = codes "set"; part = setting }
+    ∷ record { key = codes "grant"; part = granted } ∷ record { key = codes "revoke"; part = revoked } ∷ [])
+    (created_closes, (altered_closes, (selected_closes, (setting_closes, (granted_closes, revoked_closes)))))
 
 pub statement_closes : Closes semicolon statement
 unfolding statement

@@ -17,6 +17,8 @@ use Rattle.ddl_parts.proofs.Leads.{a_sign, a_word, sign_is, word_is, name_laws, 
 use Rattle.ddl_parts.specs.Expressions.{expression}
 use Rattle.ddl_parts.proofs.RunLaws.{expression_laws, expression_ends}
 use Rattle.ddl_parts.proofs.Tables.{one_of_laws, one_of_avoids_others}
+use Rattle.ddl_rights.specs.Grants.{granted, revoked}
+use Rattle.ddl_rights.proofs.GrantLaws.{granted_laws, revoked_laws}
 use Rattle.ddl_read.specs.Clauses.{named_check}
 use Rattle.ddl_read.specs.TableGrammar.{create_enum, create_domain, create_table}
 use Rattle.ddl_read.specs.RelationGrammar.{altered_sequence, view_branch, more_relations}
@@ -150,14 +152,16 @@ command_laws : Lawful command
 unfolding command
 command_laws =
     one_of_laws (record { key = codes "create"; part = created })
-    (record { key = codes "alter"; part = altered } ∷ record { key = codes "select"; part = selected } ∷ record { key = codes "set"; part = setting } ∷ [])
-    refl (created_laws, (altered_laws, (selected_laws, setting_laws)))
+    (record { key = codes "alter"; part = altered } ∷ record { key = codes "select"; part = selected } ∷ record { key = codes "set"; part = setting }
+    ∷ record { key = codes "grant"; part = granted } ∷ record { key = codes "revoke"; part = revoked } ∷ [])
+    refl (created_laws, (altered_laws, (selected_laws, (setting_laws, (granted_laws, revoked_laws)))))
 
 command_avoids : Avoids semicolon command
 unfolding command
 command_avoids =
     one_of_avoids_others semicolon (λ key. word_no_sign key 59) (record { key = codes "create"; part = created })
-    (record { key = codes "alter"; part = altered } ∷ record { key = codes "select"; part = selected } ∷ record { key = codes "set"; part = setting } ∷ [])
+    (record { key = codes "alter"; part = altered } ∷ record { key = codes "select"; part = selected } ∷ record { key = codes "set"; part = setting }
+    ∷ record { key = codes "grant"; part = granted } ∷ record { key = codes "revoke"; part = revoked } ∷ [])
 
 -- the grammar of statements has the laws
 pub statement_laws : Lawful statement

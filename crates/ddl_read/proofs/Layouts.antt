@@ -369,7 +369,7 @@ set_laid_out g n v gap is value =
     let made : IsPut setting s t3 [] = seen_put (λ x. stmt.Set x.0 x.1.1) (name then (equals_or_to then (expression ◂ semicolon))) (n, (tt, v)) t3 [] named in
     let whole = (g ++ codes "SET") ++ t3 in
     let k : IsPut statement (Some s) whole [] =
-    put_as (is_word (codes "set") ▸ setting) statement s (Some s) whole [] (word_lead (codes "set") (codes "SET") g setting s t3 [] set_key gap made refl) (λ ts h. inr (s, refl, inr (inr (inr h)))) in
+    put_as (is_word (codes "set") ▸ setting) statement s (Some s) whole [] (word_lead (codes "set") (codes "SET") g setting s t3 [] set_key gap made refl) (λ ts h. inr (s, refl, inr (inr (inr (inl h))))) in
     laid_out g (set_text n v) s whole k (set_regrouped g (codes "SET") (32 ∷ []) (written_name n) (61 ∷ []) v (59 ∷ []) (10 ∷ []))
 
 -- ---- checks

@@ -38,3 +38,6 @@ pub mod AlterMade
 pub mod SequenceMade
 pub mod RelationMade
 pub mod Made
+pub mod RightsClosed
+pub mod RightsMade
+pub mod RightsLayouts

@@ -16,6 +16,7 @@ use Rattle.ddl_read.specs.RelationGrammar.{altered_sequence, sequence_change, ow
 use Rattle.ddl_read.specs.SequenceGrammar.{create_sequence}
 use Rattle.ddl_read.specs.TableGrammar.{create_enum, create_domain, create_table}
 use Rattle.ddl_read.specs.AlterGrammar.{added, new_default, own_change, table_change, behind_only, altered_table}
+use Rattle.ddl_rights.specs.Grants.{granted, revoked}
 use Rattle.ddl_read.specs.Grammar.{statement, command, created, altered, selected, setting, create_schema, altered_domain, domain_change, new_check, name_and_owner, path_and_owner, new_owner}
 use Rattle.ddl_read.specs.Reading.{◌>>=◌, listed, first_start, fault_of, told, no_more, statement_of, statements_by, statements_within, statements_of}
 use Rattle.ddl_read.specs.Readings.{IsStatement, Reads, all_read, one_read, IsStuck, FailsAt, no_token, stuck, later}
@@ -71,7 +72,7 @@ told_err limit fault (Err s) f e = (s, refl, sym (let is : fault_of limit fault 
 
 -- nothing goes on with a statement
 left_free : (ts : List Lexeme) → starts statement.goes_on ts ≡ false
-unfolding statement command created altered selected setting create_schema create_enum create_domain create_table altered_domain domain_change new_check name_and_owner path_and_owner new_owner added new_default own_change table_change behind_only altered_table altered_sequence sequence_change owned_by create_view replace_view create_index create_unique_index index_parts create_sequence
+unfolding statement command created altered selected setting create_schema create_enum create_domain create_table altered_domain domain_change new_check name_and_owner path_and_owner new_owner added new_default own_change table_change behind_only altered_table altered_sequence sequence_change owned_by create_view replace_view create_index create_unique_index index_parts create_sequence granted revoked
 left_free [] = refl
 left_free (t ∷ ts) = refl
 

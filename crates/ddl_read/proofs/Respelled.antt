@@ -25,6 +25,7 @@ use Rattle.ddl_read.proofs.Standing.{placed, collects}
 use Rattle.ddl_read.proofs.Tokens.{Gap, none, space, newline, spaced, indented, tabbed, indent}
 use Rattle.ddl_read.proofs.RelationLayouts.{owned_by_laid_out, view_laid_out, replaced_laid_out, index_laid_out, unique_index_laid_out}
 use Rattle.ddl_read.proofs.SequenceLayouts.{sequence_laid_out}
+use Rattle.ddl_read.proofs.RightsLayouts.{grant_laid_out, revoke_laid_out, member_laid_out, granted_put, revoked_put}
 use Rattle.ddl_read.proofs.TableLayouts.{enum_laid_out, domain_laid_out, table_laid_out}
 use Rattle.ddl_read.proofs.KeyLayouts.{primary_laid_out, unique_laid_out, foreign_laid_out}
 use Rattle.ddl_read.proofs.AlterLayouts.{set_default_laid_out, added_check_laid_out}
@@ -58,6 +59,9 @@ can_be_written g (stmt.CreateView q body) gap is = record { text = _; spells = r
 can_be_written g (stmt.ReplaceView q body) gap is = record { text = _; spells = refl; laid_out = replaced_laid_out g q body gap is.0 is.1 }
 can_be_written g (stmt.CreateIndex q name method rest) gap is = record { text = _; spells = refl; laid_out = index_laid_out g q name method rest gap is.0 is.1 is.2 is.3 }
 can_be_written g (stmt.CreateUniqueIndex q name method rest) gap is = record { text = _; spells = refl; laid_out = unique_index_laid_out g q name method rest gap is.0 is.1 is.2 is.3 }
+can_be_written g (stmt.Grant o r who option) gap is = record { text = _; spells = refl; laid_out = grant_laid_out g o r who option is.0 is.1 is.2 (λ b k e. granted_put g (stmt.Grant o r who option) b gap k e) }
+can_be_written g (stmt.Revoke o r who) gap is = record { text = _; spells = refl; laid_out = revoke_laid_out g o r who is.0 is.1 is.2 (λ b k e. revoked_put g (stmt.Revoke o r who) b gap k e) }
+can_be_written g (stmt.GrantRole role m c admin inherit z) gap is = record { text = _; spells = refl; laid_out = member_laid_out g role m c admin inherit z is.0 is.1 is.2 (λ b k e. granted_put g (stmt.GrantRole role m c admin inherit z) b gap k e) }
 can_be_written g _ gap is = absurd is
 
 -- ---- where nothing is left

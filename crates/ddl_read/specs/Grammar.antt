@@ -16,6 +16,7 @@ unfoldable pub use Rattle.ddl_read.specs.Clauses.{new_owner}
 use Rattle.ddl_read.specs.AlterGrammar.{altered_table}
 use Rattle.ddl_read.specs.RelationGrammar.{altered_sequence, view_branch, more_relations}
 use Rattle.ddl_read.specs.TableGrammar.{create_enum, create_domain, create_table}
+use Rattle.ddl_rights.specs.Grants.{granted, revoked}
 
 -- ---- CREATE ..
 
@@ -93,7 +94,8 @@ setting = seen (λ x. stmt.Set x.0 x.1.1) (name then (equals_or_to then (express
 unfoldable pub command : Part Stmt
 command =
     one_of (record { key = codes "create"; part = created })
-    (record { key = codes "alter"; part = altered } ∷ record { key = codes "select"; part = selected } ∷ record { key = codes "set"; part = setting } ∷ [])
+    (record { key = codes "alter"; part = altered } ∷ record { key = codes "select"; part = selected } ∷ record { key = codes "set"; part = setting }
+    ∷ record { key = codes "grant"; part = granted } ∷ record { key = codes "revoke"; part = revoked } ∷ [])
 
 -- a semicolon alone is an empty statement
 unfoldable pub statement : Part (Option Stmt)

@@ -11,4 +11,5 @@ pub mod Readings
 pub mod Examples
 pub mod AlterExamples
 pub mod SequenceExamples
+pub mod RightsExamples
 pub mod Respelling

@@ -18,6 +18,7 @@ use Rattle.ddl_parts.specs.Collecting.{collected}
 use Rattle.ddl_parts.specs.Expressions.{nested}
 use Rattle.ddl_parts.specs.Types.{typing, type_of}
 use Rattle.ddl_write.specs.Spelling.{spelling}
+use Rattle.ddl_rights.specs.Writable.{IsObject, AreRights, IsGrantee, IsGrantor}
 use Rattle.ddl_read.specs.declared.located.Located.{Located}
 use Rattle.ddl_read.specs.declared.rests.RestSpot.{RestSpot}
 use Rattle.ddl_read.specs.declared.rests.RestSpot.TheVariants.{Begin, Foreign}
@@ -116,6 +117,9 @@ IsWritable (stmt.CreateView q body) = IsPath q × IsExpressionText body
 IsWritable (stmt.ReplaceView q body) = IsPath q × IsExpressionText body
 IsWritable (stmt.CreateIndex q name method rest) = IsPath q × IsName name × IsName method × IsBracketText rest
 IsWritable (stmt.CreateUniqueIndex q name method rest) = IsPath q × IsName name × IsName method × IsBracketText rest
+IsWritable (stmt.Grant object rights who option) = IsObject object × AreRights object rights × IsGrantee who
+IsWritable (stmt.Revoke object rights who) = IsObject object × AreRights object rights × IsGrantee who
+IsWritable (stmt.GrantRole role member grantor admin inherit may_set) = IsName role × IsName member × IsGrantor grantor
 IsWritable _ = ⊥
 
 abbrev pub AllWritable : List Stmt → Type 0

@@ -10,6 +10,7 @@ use crate::tables::{create_domain, create_enum, create_table, named_check};
 use cat_model::{CheckDef, Owned, QName, Stmt};
 use copy_text::Name;
 use ddl_parts::{Pieces, ReadError, qualified_name};
+use ddl_rights::{granted, revoked};
 use std::alloc::Global;
 
 #[tactic(auto, unfolding(crate::specs::Grammar::create_schema))]
@@ -191,8 +192,16 @@ fn command(alloc: Global, pieces: &Pieces<'_>, at: usize) -> Result<(Stmt, usize
         let at = pieces.word(at, "select")?;
         return selected(alloc, pieces, at);
     }
-    let at = pieces.word(at, "set")?;
-    setting(alloc, pieces, at)
+    if pieces.is_word(at, "set") {
+        let at = pieces.word(at, "set")?;
+        return setting(alloc, pieces, at);
+    }
+    if pieces.is_word(at, "grant") {
+        let at = pieces.word(at, "grant")?;
+        return granted(alloc, pieces, at);
+    }
+    let at = pieces.word(at, "revoke")?;
+    revoked(alloc, pieces, at)
 }
 
 /// The statement at the front of the tokens; an empty one is None.
