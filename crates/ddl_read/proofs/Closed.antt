@@ -19,6 +19,8 @@ use Rattle.cat_model.specs.declared.table.CheckDef.{CheckDef}
 use Rattle.ddl_parts.specs.Leaves.{name, literal, is_literal, qualified}
 use Rattle.ddl_parts.specs.Lists.{listed}
 use Rattle.ddl_parts.specs.Expressions.{expression}
+use Rattle.ddl_rights.specs.Grants.{granted, revoked}
+use Rattle.ddl_read.proofs.RightsClosed.{granted_closes, revoked_closes}
 use Rattle.ddl_read.specs.Clauses.{named_check}
 use Rattle.ddl_read.specs.RelationGrammar.{altered_sequence, view_branch, more_relations}
 use Rattle.ddl_read.proofs.RelationLaws.{altered_sequence_closes, relations_close}
@@ -29,7 +31,7 @@ use Rattle.ddl_read.proofs.ValueLaws.{set_value_closes}
 use Rattle.ddl_read.specs.TableGrammar.{create_enum, enum_of, checking, typed, domain_of, create_domain, table_elements, table_of, create_table}
 use Rattle.ddl_read.specs.AlterGrammar.{altered_table}
 use Rattle.ddl_read.proofs.AlterClosed.{new_owner_closes, altered_table_closes}
-use Rattle.ddl_read.specs.Grammar.{semicolon, create_schema, created, new_owner, new_check, its_owner, one_more_check, domain_changed, domain_change, altered_domain, name_and_owner, path_and_owner, owned_name, owned_path, altered, set_config, catalog_calls, selected, equals_or_to, setting, command, statement}
+use Rattle.ddl_read.specs.Grammar.{semicolon, create_schema, created, new_owner, new_check, its_owner, one_more_check, domain_changed, domain_change, altered_domain, name_and_owner, path_and_owner, owned_name, owned_path, altered, set_config, catalog_calls, selected, equals_or_to, setting, more_commands, command, statement}
 pub use Rattle.ddl_read.proofs.Closing.{ends_with, ends_cons, ends_append, Closes, passes_by, passed, mark_closes, then_closes, seen_closes, choose_closes, lead_closes, end_closes, AllClose, one_of_closes}
 
 -- ---- the kinds
@@ -151,8 +153,8 @@ command_closes : Closes semicolon command
 unfolding command
 command_closes =
     one_of_closes semicolon (record { key = codes "create"; part = created })
-    (record { key = codes "alter"; part = altered } ∷ record { key = codes "select"; part = selected } ∷ record { key = codes "set"; part = setting } ∷ record { key = codes "copy"; part = copy_from } ∷ [])
-    (created_closes, (altered_closes, (selected_closes, (setting_closes, copy_from_closes))))
+    more_commands
+    (created_closes, (altered_closes, (selected_closes, (setting_closes, (copy_from_closes, (granted_closes, revoked_closes))))))
 
 pub statement_closes : Closes semicolon statement
 unfolding statement

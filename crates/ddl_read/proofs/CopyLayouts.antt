@@ -81,7 +81,7 @@ copy_laid_out g q ns gap path_is are =
     let k5 : IsPut copy_from s t4 [] = seen_put (λ x. stmt.CopyRows x.0 x.1 []) (qualified then (some_columns ◂ is_word (codes "from") ◂ is_word (codes "stdin") ◂ semicolon)) (q, ns) t4 [] k4 in
     let t6 = (g ++ codes "COPY") ++ t4 in
     let k6 = word_lead (codes "copy") (codes "COPY") g copy_from s t4 [] copy_key gap k5 refl in
-    let k7 : IsPut statement (Some s) t6 [] = put_as (is_word (codes "copy") ▸ copy_from) statement s (Some s) t6 [] k6 (λ ts h. inr (s, refl, inr (inr (inr (inr h))))) in
+    let k7 : IsPut statement (Some s) t6 [] = put_as (is_word (codes "copy") ▸ copy_from) statement s (Some s) t6 [] k6 (λ ts h. inr (s, refl, inr (inr (inr (inr (inl h)))))) in
     laid_out g (copy_head q ns) s t6 k7
     (head_regrouped g (codes "COPY") (32 ∷ []) (path q) w (codes "FROM") (codes "stdin") (59 ∷ []) (10 ∷ []))
 

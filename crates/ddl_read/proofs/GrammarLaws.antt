@@ -17,6 +17,8 @@ use Rattle.ddl_parts.proofs.Leads.{a_sign, a_word, sign_is, word_is, name_laws, 
 use Rattle.ddl_parts.specs.Expressions.{expression}
 use Rattle.ddl_parts.proofs.RunLaws.{expression_laws, expression_ends}
 use Rattle.ddl_parts.proofs.Tables.{one_of_laws, one_of_avoids_others}
+use Rattle.ddl_rights.specs.Grants.{granted, revoked}
+use Rattle.ddl_rights.proofs.GrantLaws.{granted_laws, revoked_laws}
 use Rattle.ddl_read.specs.Clauses.{named_check}
 use Rattle.ddl_read.specs.CopyGrammar.{copy_from}
 use Rattle.ddl_read.proofs.CopyLaws.{copy_from_laws}
@@ -28,7 +30,7 @@ use Rattle.ddl_read.proofs.ValueLaws.{set_value_laws}
 use Rattle.ddl_read.proofs.TableLaws.{named_check_laws, named_check_free, create_enum_laws, create_domain_laws, create_table_laws}
 use Rattle.ddl_read.specs.AlterGrammar.{altered_table}
 use Rattle.ddl_read.proofs.AlterLaws.{new_owner_laws, altered_table_laws}
-use Rattle.ddl_read.specs.Grammar.{semicolon, create_schema, created, new_owner, new_check, its_owner, one_more_check, domain_changed, domain_change, altered_domain, name_and_owner, path_and_owner, owned_name, owned_path, altered, set_config, catalog_calls, selected, equals_or_to, setting, command, statement}
+use Rattle.ddl_read.specs.Grammar.{semicolon, create_schema, created, new_owner, new_check, its_owner, one_more_check, domain_changed, domain_change, altered_domain, name_and_owner, path_and_owner, owned_name, owned_path, altered, set_config, catalog_calls, selected, equals_or_to, setting, more_commands, command, statement}
 
 free : (test : Lexeme → Bool) → Apart test never
 free test t e = refl
@@ -153,14 +155,14 @@ command_laws : Lawful command
 unfolding command
 command_laws =
     one_of_laws (record { key = codes "create"; part = created })
-    (record { key = codes "alter"; part = altered } ∷ record { key = codes "select"; part = selected } ∷ record { key = codes "set"; part = setting } ∷ record { key = codes "copy"; part = copy_from } ∷ [])
-    refl (created_laws, (altered_laws, (selected_laws, (setting_laws, copy_from_laws))))
+    more_commands
+    refl (created_laws, (altered_laws, (selected_laws, (setting_laws, (copy_from_laws, (granted_laws, revoked_laws))))))
 
 command_avoids : Avoids semicolon command
 unfolding command
 command_avoids =
     one_of_avoids_others semicolon (λ key. word_no_sign key 59) (record { key = codes "create"; part = created })
-    (record { key = codes "alter"; part = altered } ∷ record { key = codes "select"; part = selected } ∷ record { key = codes "set"; part = setting } ∷ record { key = codes "copy"; part = copy_from } ∷ [])
+    more_commands
 
 -- the grammar of statements has the laws
 pub statement_laws : Lawful statement

@@ -44,3 +44,6 @@ pub mod Made
 pub mod CopyLaws
 pub mod CopyLayouts
 pub mod LineTexts
+pub mod RightsClosed
+pub mod RightsMade
+pub mod RightsLayouts

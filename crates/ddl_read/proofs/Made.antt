@@ -14,7 +14,9 @@ use Rattle.ddl_parts.specs.Collecting.{collected}
 use Rattle.ddl_parts.specs.Leaves.{name, literal, qualified}
 use Rattle.ddl_parts.specs.Expressions.{expression}
 use Rattle.ddl_read.specs.declared.located.Located.{Located}
-use Rattle.ddl_read.specs.Grammar.{semicolon, create_schema, created, new_owner, new_check, DomainChange, its_owner, one_more_check, domain_changed, domain_change, altered_domain, name_and_owner, path_and_owner, owned_name, owned_path, altered, set_config, catalog_calls, selected, equals_or_to, setting, command, statement}
+use Rattle.ddl_read.specs.Grammar.{semicolon, create_schema, created, new_owner, new_check, DomainChange, its_owner, one_more_check, domain_changed, domain_change, altered_domain, name_and_owner, path_and_owner, owned_name, owned_path, altered, set_config, catalog_calls, selected, equals_or_to, setting, more_commands, command, statement}
+use Rattle.ddl_rights.specs.Grants.{granted, revoked}
+use Rattle.ddl_read.proofs.RightsMade.{granted_yields, revoked_yields}
 use Rattle.ddl_read.specs.AlterGrammar.{altered_table}
 use Rattle.ddl_read.proofs.AlterMade.{new_owner_yields, altered_table_yields}
 use Rattle.ddl_read.specs.Reading.{Whole, whole, with_rows, completed, listed as listed_before, statements_of}
@@ -180,8 +182,8 @@ command_yields : Yields IsWritable command
 unfolding command
 command_yields =
     one_of_yields IsWritable (record { key = codes "create"; part = created })
-    (record { key = codes "alter"; part = altered } ∷ record { key = codes "select"; part = selected } ∷ record { key = codes "set"; part = setting } ∷ record { key = codes "copy"; part = copy_from } ∷ [])
-    (created_yields, (altered_yields, (selected_yields, (setting_yields, copy_from_yields))))
+    more_commands
+    (created_yields, (altered_yields, (selected_yields, (setting_yields, (copy_from_yields, (granted_yields, revoked_yields))))))
 
 statement_yields : (s : Stmt) (ts : List Lexeme) (r : List ℕ) → AllCame ts r → statement.Spells (Some s) ts → IsWritable s
 unfolding statement

@@ -29,6 +29,7 @@ use Rattle.ddl_lines.specs.MetaLines.{meta_line}
 use Rattle.ddl_lines.proofs.RowTexts.{rows_bounds}
 use Rattle.ddl_read.specs.Reading.{◌>>=◌, Whole, whole, whole_of, with_rows, completed, is_line_kind, line_in, line_at, line_fault, line_said, statements_at, listed, first_start, fault_of, told, no_more, statement_of, statements_by, statements_within, statements_of}
 use Rattle.ddl_read.specs.Readings.{IsStatement, line_token, Reads, all_read, one_read, line_read, IsStuck, FailsAt, no_token, stuck, no_rows, bad_line, later, later_line}
+use Rattle.ddl_rights.specs.Grants.{granted, revoked}
 use Rattle.ddl_read.proofs.GrammarLaws.{statement_laws}
 use Rattle.ddl_read.proofs.Closed.{takes_all}
 
@@ -81,7 +82,7 @@ told_err limit fault (Err s) f e = (s, refl, sym (let is : fault_of limit fault 
 
 -- nothing goes on with a statement
 left_free : (ts : List Lexeme) → starts statement.goes_on ts ≡ false
-unfolding statement command created altered set_config truth set_value selected setting create_schema create_enum create_domain create_table altered_domain domain_change new_check name_and_owner path_and_owner new_owner added new_default own_change table_change behind_only altered_table altered_sequence sequence_change owned_by create_view replace_view create_index create_unique_index index_parts create_sequence copy_from
+unfolding statement command created altered set_config truth set_value selected setting create_schema create_enum create_domain create_table altered_domain domain_change new_check name_and_owner path_and_owner new_owner added new_default own_change table_change behind_only altered_table altered_sequence sequence_change owned_by create_view replace_view create_index create_unique_index index_parts create_sequence copy_from granted revoked
 left_free [] = refl
 left_free (t ∷ ts) = refl
 

@@ -18,6 +18,7 @@ use Rattle.ddl_read.specs.RelationGrammar.{altered_sequence, view_branch, more_r
 use Rattle.ddl_read.specs.CopyGrammar.{copy_from}
 use Rattle.ddl_read.specs.ValueGrammar.{set_value}
 use Rattle.ddl_read.specs.TableGrammar.{create_enum, create_domain, create_table}
+use Rattle.ddl_rights.specs.Grants.{granted, revoked}
 
 -- ---- CREATE ..
 
@@ -100,10 +101,16 @@ setting = seen (λ x. stmt.Set x.0 x.1.1) (name then (equals_or_to then (express
 
 -- ---- statements
 
+-- what stands behind each first word but CREATE
+abbrev pub more_commands : List (Branch Stmt)
+more_commands =
+    record { key = codes "alter"; part = altered } ∷ record { key = codes "select"; part = selected } ∷ record { key = codes "set"; part = setting }
+    ∷ record { key = codes "copy"; part = copy_from } ∷ record { key = codes "grant"; part = granted } ∷ record { key = codes "revoke"; part = revoked } ∷ []
+
 unfoldable pub command : Part Stmt
 command =
     one_of (record { key = codes "create"; part = created })
-    (record { key = codes "alter"; part = altered } ∷ record { key = codes "select"; part = selected } ∷ record { key = codes "set"; part = setting } ∷ record { key = codes "copy"; part = copy_from } ∷ [])
+    more_commands
 
 -- a semicolon alone is an empty statement
 unfoldable pub statement : Part (Option Stmt)

@@ -14,4 +14,5 @@ pub mod Examples
 pub mod AlterExamples
 pub mod SequenceExamples
 pub mod CopyExamples
+pub mod RightsExamples
 pub mod Respelling

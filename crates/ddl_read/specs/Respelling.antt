@@ -20,6 +20,7 @@ use Rattle.ddl_parts.specs.Expressions.{nested}
 use Rattle.ddl_parts.specs.Types.{typing, type_of}
 use Rattle.ddl_lines.specs.CopyRows.{AreRows}
 use Rattle.ddl_write.specs.Spelling.{spelling}
+use Rattle.ddl_rights.specs.Writable.{IsObject, AreRights, IsGrantee, IsGrantor}
 use Rattle.ddl_read.specs.declared.located.Located.{Located}
 use Rattle.ddl_read.specs.declared.rests.RestSpot.{RestSpot}
 use Rattle.ddl_read.specs.declared.rests.RestSpot.TheVariants.{Begin, Foreign}
@@ -122,6 +123,9 @@ IsWritable (stmt.CreateIndex q name method rest) = IsPath q × IsName name × Is
 IsWritable (stmt.CreateUniqueIndex q name method rest) = IsPath q × IsName name × IsName method × IsBracketText rest
 IsWritable (stmt.CopyRows q columns rows) = IsPath q × AllByRecursion IsName columns × AreRows rows
 IsWritable (stmt.Connect n) = IsName n × (list_all in_line n ≡ true)
+IsWritable (stmt.Grant object rights who option) = IsObject object × AreRights object rights × IsGrantee who
+IsWritable (stmt.Revoke object rights who) = IsObject object × AreRights object rights × IsGrantee who
+IsWritable (stmt.GrantRole role member grantor admin inherit may_set) = IsName role × IsName member × IsGrantor grantor
 IsWritable _ = ⊥
 
 abbrev pub AllWritable : List Stmt → Type 0

@@ -12,6 +12,7 @@ use crate::values::set_value;
 use cat_model::{CheckDef, Owned, QName, Stmt};
 use copy_text::Name;
 use ddl_parts::{Pieces, ReadError, qualified_name};
+use ddl_rights::{granted, revoked};
 use std::alloc::Global;
 
 #[tactic(auto, unfolding(crate::specs::Grammar::create_schema))]
@@ -208,8 +209,16 @@ fn command(alloc: Global, pieces: &Pieces<'_>, at: usize) -> Result<(Stmt, usize
         let at = pieces.word(at, "set")?;
         return setting(alloc, pieces, at);
     }
-    let at = pieces.word(at, "copy")?;
-    copy_from(alloc, pieces, at)
+    if pieces.is_word(at, "copy") {
+        let at = pieces.word(at, "copy")?;
+        return copy_from(alloc, pieces, at);
+    }
+    if pieces.is_word(at, "grant") {
+        let at = pieces.word(at, "grant")?;
+        return granted(alloc, pieces, at);
+    }
+    let at = pieces.word(at, "revoke")?;
+    revoked(alloc, pieces, at)
 }
 
 /// The statement at the front of the tokens; an empty one is None.

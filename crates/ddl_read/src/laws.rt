@@ -15,6 +15,7 @@ ghost use Rattle.ddl_read.specs.Examples.{WorkedExamples};
 ghost use Rattle.ddl_read.specs.AlterExamples.{AlterExamples};
 ghost use Rattle.ddl_read.specs.SequenceExamples.{SequenceExamples};
 ghost use Rattle.ddl_read.specs.CopyExamples.{CopyExamples};
+ghost use Rattle.ddl_read.specs.RightsExamples.{RightsExamples};
 
 /// A text is read as statements exactly where it reads as them, so that it reads as one list at most.
 pub fn reading_is_exact()
@@ -51,6 +52,11 @@ pub fn sequences_meet_the_examples()
 /// The same of texts with COPY, and with lines that begin with a backslash.
 pub fn copies_and_lines_meet_the_examples()
     ensures { CopyExamples }
+{}
+
+/// The same of texts that grant rights and roles, or take rights away.
+pub fn grants_meet_the_examples()
+    ensures { RightsExamples }
 {}
 
 /// Statements that are written one after another read as these statements: so the spelling of a statement reads as it.

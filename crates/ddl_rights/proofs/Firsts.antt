@@ -1,0 +1,70 @@
+-- One token that stands for a value: its laws, and how it is read.
+use Rattle.std.proofs.Common.{◌≡◌, ℕ, zero, suc, ◌+◌, ◌<◌, ◌≤◌, Bool, true, false, List, [], ◌∷◌, length, drop, Option, Some, None, Result, Ok, Err, refl, sym, ap, ◌∙◌, arith, eqb-true}
+use Rattle.std.specs.Prelude.{◌==◌}
+use Rattle.sql_lex.specs.declared.token.TokenKind.{TokenKind}
+use Rattle.sql_lex.specs.declared.token.TokenKind.TheVariants.{Word, QuotedName, Literal, Number, Sign, MetaLine}
+use Rattle.ddl_parts.specs.Lexemes.{Lexeme, is_word, is_sign, is_sign_kind}
+use Rattle.ddl_parts.specs.Parts.{first_by, seen_at}
+use Rattle.ddl_parts.specs.Laws.{Lawful, Apart}
+use Rattle.ddl_parts.proofs.Simple.{one_laws}
+use Rattle.ddl_parts.proofs.Leads.{word_no_sign}
+use Rattle.ddl_parts.specs.Leaves.{name, name_value}
+use Rattle.ddl_rights.specs.declared.rights.Wanted.{Wanted}
+use Rattle.ddl_rights.specs.RightsGrammar.{right_first, wanted_first}
+use Rattle.ddl_rights.specs.Grants.{named_by, first}
+use Rattle.ddl_rights.specs.Values.{told, by_first, answered}
+
+pub by_first_laws : {A : Type 0} (value : List Lexeme → Option A) (t : Lexeme) (v : A) → value (t ∷ []) ≡ Some v → Lawful (by_first value)
+by_first_laws value t v e = one_laws (λ t. told (value (t ∷ []))) t v (ap told e)
+
+first_answered : {A : Type 0} (t : Lexeme) (ts : List Lexeme) (o : Option A) → first_by t ts (told o) ≡ answered o (t ∷ ts)
+first_answered t ts None = refl
+first_answered t ts (Some v) = refl
+
+-- where the value is that of the first token alone
+pub by_first_read : {A : Type 0} (value : List Lexeme → Option A) → value [] ≡ None → ((t : Lexeme) (ts : List Lexeme) → value (t ∷ ts) ≡ value (t ∷ [])) → (ts : List Lexeme) → (by_first value).read ts ≡ answered (value ts) ts
+by_first_read value none alone [] = ap (λ o. answered o []) (sym none)
+by_first_read value none alone (t ∷ ts) = first_answered t ts (value (t ∷ [])) ∙ ap (λ o. answered o (t ∷ ts)) (sym (alone t ts))
+
+-- the token at a place before the end
+pub token_at : (ts : List Lexeme) (at : ℕ) → at < length ts → (t : Lexeme) × (drop at ts ≡ t ∷ drop (at + 1) ts)
+token_at [] at low = absurd (omega arith)
+token_at (t ∷ ts) zero low = (t, refl)
+token_at (t ∷ ts) (suc at) low = let h = token_at ts at (omega arith) in (h.0, h.1 ∙ ap (λ (n : ℕ). h.0 ∷ drop n (t ∷ ts)) (let e : suc (at + 1) ≡ suc at + 1 = omega arith in e))
+
+pub none_left : (ts : List Lexeme) (at : ℕ) → length ts ≤ at → drop at ts ≡ []
+none_left [] zero low = refl
+none_left [] (suc at) low = refl
+none_left (t ∷ ts) zero low = absurd (omega arith)
+none_left (t ∷ ts) (suc at) low = none_left ts at (omega arith)
+
+-- a name, and what else its token may stand for
+first_named : (t : Lexeme) (ts : List Lexeme) (o : Option Wanted) (r : Result (List ℕ) Bool) → first_by t ts (named_by o r) ≡ seen_at (λ n. (n, o)) (first_by t ts r)
+first_named t ts o (Ok n) = refl
+first_named t ts o (Err long) = refl
+
+pub first_read : (ts : List Lexeme) → first.read ts ≡ seen_at (λ n. (n, wanted_first ts)) (name.read ts)
+unfolding wanted_first right_first
+first_read [] = refl
+first_read (t ∷ ts) = first_named t ts (wanted_first (t ∷ ts)) (name_value t)
+
+-- ---- tokens that are told apart
+
+pub sign_no_word : (b : ℕ) (key : List ℕ) → Apart (is_sign b) (is_word key)
+sign_no_word b key t e = by (is_word key t) refl
+  where
+    by : (c : Bool) → is_word key t ≡ c → c ≡ false
+    by true is = sym e ∙ word_no_sign key b t is
+    by false is = refl
+
+pub signs_apart : (a b : ℕ) → (b == a) ≡ false → Apart (is_sign a) (is_sign b)
+unfolding is_sign
+signs_apart a b differ t e = by t.kind e
+  where
+    by : (k : TokenKind) → is_sign_kind a k ≡ true → is_sign_kind b k ≡ false
+    by (Sign c) f = ap (λ (x : ℕ). b == x) (sym (eqb-true a c f)) ∙ differ
+    by Word f = refl
+    by QuotedName f = refl
+    by Literal f = refl
+    by Number f = refl
+    by MetaLine f = refl

@@ -1,0 +1,6 @@
+pub mod Depends
+pub mod Firsts
+pub mod RightSets
+pub mod RightsLaws
+pub mod MembershipLaws
+pub mod GrantLaws

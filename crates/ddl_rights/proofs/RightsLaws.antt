@@ -1,0 +1,303 @@
+-- The grammar of rights and of objects has the laws of a part, and a list of rights is one that some kind has.
+use Rattle.std.proofs.Common.{◌≡◌, ℕ, Bool, true, false, not, cond, ◌||◌, List, [], ◌∷◌, ◌++◌, Option, Some, None, option_map, Ok, refl, sym, ap, subst, ◌∙◌, codes}
+use Rattle.std.proofs.lemmas.Bool.{or_left, or_right}
+use Rattle.sql_lex.specs.Meaning.{is_keyword_of}
+use Rattle.cat_model.specs.declared.grant.Rights.{Rights}
+use Rattle.cat_model.specs.declared.grant.Granted.{Granted}
+use Rattle.cat_model.specs.declared.grant.Granted.TheVariants as on
+use Rattle.cat_model.specs.Grants.{table_rights, sequence_rights, schema_rights, type_rights}
+use Rattle.ddl_parts.specs.Lexemes.{Lexeme, is_word, starts}
+use Rattle.ddl_parts.specs.Parts.{Part, Many, no_more, one_more, many, seen}
+use Rattle.ddl_parts.specs.Laws.{Lawful, Begins, Apart}
+use Rattle.ddl_parts.specs.Leaves.{name, qualified}
+use Rattle.ddl_parts.specs.Lists.{comma}
+use Rattle.ddl_parts.proofs.Steps.{avoids_never, avoids_begun, starts-append}
+use Rattle.ddl_parts.proofs.Simple.{seen_laws}
+use Rattle.ddl_parts.proofs.Sequence.{lead_begins}
+use Rattle.ddl_parts.proofs.Repeated.{AreApart, many_laws}
+use Rattle.ddl_parts.proofs.Leads.{a_word, name_laws, qualified_laws, word_laws, sign_laws, word_no_sign, words_apart}
+use Rattle.ddl_rights.specs.declared.rights.Right.{Right}
+use Rattle.ddl_rights.specs.declared.rights.Right.TheVariants.{Select, Usage, Insert, References, Delete, Trigger, Truncate, Update, Create}
+use Rattle.ddl_rights.specs.declared.rights.Kind.{Kind}
+use Rattle.ddl_rights.specs.declared.rights.Kind.TheVariants.{Tables, Sequences, Schemas, Types}
+use Rattle.ddl_rights.specs.declared.rights.Wanted.{Wanted}
+use Rattle.ddl_rights.specs.declared.rights.Wanted.TheVariants.{All, These}
+use Rattle.ddl_rights.specs.Depending.{◌thenby◌}
+use Rattle.ddl_rights.specs.Values.{told}
+use Rattle.ddl_rights.specs.RightsGrammar.{has, with_right, only, within, kind_rights, some_kind_has, goes_with, right_first, wanted_first, wanted, joining, right_behind, more_rights, all_of, rights_from, kind_first, kind_has, having, kind_with, rights_on, object, on_object, rights_and_object}
+use Rattle.ddl_rights.proofs.Depends.{Decided, thenby_laws}
+use Rattle.ddl_rights.proofs.Firsts.{by_first_laws}
+
+-- ---- words
+
+abbrev pub right_word : Right → List ℕ
+right_word Select = codes "select"
+right_word Usage = codes "usage"
+right_word Insert = codes "insert"
+right_word References = codes "references"
+right_word Delete = codes "delete"
+right_word Trigger = codes "trigger"
+right_word Truncate = codes "truncate"
+right_word Update = codes "update"
+right_word Create = codes "create"
+
+right_is : (x : Right) → right_first (a_word (right_word x) ∷ []) ≡ Some x
+unfolding right_first is_word is_keyword_of
+right_is Select = refl
+right_is Usage = refl
+right_is Insert = refl
+right_is References = refl
+right_is Delete = refl
+right_is Trigger = refl
+right_is Truncate = refl
+right_is Update = refl
+right_is Create = refl
+
+abbrev pub kind_word : Kind → List ℕ
+kind_word Tables = codes "table"
+kind_word Sequences = codes "sequence"
+kind_word Schemas = codes "schema"
+kind_word Types = codes "type"
+
+kind_is : (k : Kind) → kind_first (a_word (kind_word k) ∷ []) ≡ Some k
+unfolding kind_first is_word is_keyword_of
+kind_is Tables = refl
+kind_is Sequences = refl
+kind_is Schemas = refl
+kind_is Types = refl
+
+-- ---- rights that some kind has
+
+-- some kind has them all
+abbrev pub CanBeOn : Wanted → Type 0
+CanBeOn All = Unit {0}
+CanBeOn (These r) = some_kind_has r ≡ true
+
+pub one_has : (x : Right) → some_kind_has (only x) ≡ true
+unfolding some_kind_has
+one_has Select = refl
+one_has Usage = refl
+one_has Insert = refl
+one_has References = refl
+one_has Delete = refl
+one_has Trigger = refl
+one_has Truncate = refl
+one_has Update = refl
+one_has Create = refl
+
+pub wanted_can : (ts : List Lexeme) (w : Wanted) → wanted_first ts ≡ Some w → CanBeOn w
+unfolding wanted_first
+wanted_can ts w e = by (starts (is_word (codes "all")) ts) e
+  where
+    listed : (o : Option Right) → option_map (λ x. These (only x)) o ≡ Some w → CanBeOn w
+    listed None f = absurd cc
+    listed (Some x) f = let same : These (only x) ≡ w = cc in subst CanBeOn same (one_has x)
+
+    by : (b : Bool) → cond b (Some All) (option_map (λ x. These (only x)) (right_first ts)) ≡ Some w → CanBeOn w
+    by true f = let same : All ≡ w = cc in subst CanBeOn same tt
+    by false f = listed (right_first ts) f
+
+there : (x : Right) (r : Rights) → has x r ≡ true → with_right x r ≡ r
+there Select r e = ap (λ (b : Bool). record r { select = b }) (sym e)
+there Usage r e = ap (λ (b : Bool). record r { usage = b }) (sym e)
+there Insert r e = ap (λ (b : Bool). record r { insert = b }) (sym e)
+there References r e = ap (λ (b : Bool). record r { references = b }) (sym e)
+there Delete r e = ap (λ (b : Bool). record r { delete = b }) (sym e)
+there Trigger r e = ap (λ (b : Bool). record r { trigger = b }) (sym e)
+there Truncate r e = ap (λ (b : Bool). record r { truncate = b }) (sym e)
+there Update r e = ap (λ (b : Bool). record r { update = b }) (sym e)
+there Create r e = ap (λ (b : Bool). record r { create = b }) (sym e)
+
+pub still_has : (r : Rights) (x : Right) → goes_with r x ≡ true → some_kind_has r ≡ true → some_kind_has (with_right x r) ≡ true
+unfolding goes_with
+still_has r x e can = by (has x r) refl e
+  where
+    by : (b : Bool) → has x r ≡ b → (b || some_kind_has (with_right x r)) ≡ true → some_kind_has (with_right x r) ≡ true
+    by true is f = ap some_kind_has (there x r is) ∙ can
+    by false is f = f
+
+pub joined : (r : Rights) (x : Right) (o : Option Right) → told (joining r o) ≡ Ok x → goes_with r x ≡ true
+joined r x None e = absurd cc
+joined r x (Some y) e = by (goes_with r y) refl e
+  where
+    by : (b : Bool) → goes_with r y ≡ b → told (cond b (Some y) None) ≡ Ok x → goes_with r x ≡ true
+    by true is f = let same : y ≡ x = cc in subst (λ (z : Right). goes_with r z ≡ true) same is
+    by false is f = absurd cc
+
+all_have : (first r : Rights) (xs : List Right) (ts : List Lexeme) → Many (more_rights first) r xs ts → some_kind_has r ≡ true → some_kind_has (all_of r xs) ≡ true
+all_have first r _ _ (no_more _) can = can
+all_have first r _ _ (one_more _ x xs a b spells others) can =
+    let behind = spells.2.4 in
+    let same : x ≡ spells.0.1 = spells.1 in
+    let goes = subst (λ (z : Right). goes_with r z ≡ true) (sym same) (joined r spells.0.1 (right_first (behind.0 ∷ [])) behind.2) in
+    all_have first (with_right x r) xs b others (still_has r x goes can)
+
+-- some kind has all the rights that a list spells
+pub rights_can : (r s : Rights) (ts : List Lexeme) → (rights_from r).Spells s ts → some_kind_has r ≡ true → some_kind_has s ≡ true
+unfolding rights_from
+rights_can r s ts spells can = ap some_kind_has spells.1 ∙ all_have r r spells.0 ts spells.2 can
+
+-- ---- a list of rights
+
+implied : (b : Bool) → (not b || true) ≡ true
+implied true = refl
+implied false = refl
+
+table_has : (r : Rights) → r.usage ≡ false → r.create ≡ false → within r table_rights ≡ true
+table_has r e f =
+    rw (implied r.select, e, implied r.insert, implied r.references, implied r.delete, implied r.trigger, implied r.truncate, implied r.update, f) refl
+
+-- some right may stand behind others
+goes_on : (r : Rights) → (x : Right) × (goes_with r x ≡ true)
+unfolding goes_with some_kind_has
+goes_on r = by r.usage r.create refl refl
+  where
+    by : (u c : Bool) → r.usage ≡ u → r.create ≡ c → (x : Right) × (goes_with r x ≡ true)
+    by true c e f = (Usage, or_left r.usage (some_kind_has (with_right Usage r)) e)
+    by false true e f = (Create, or_left r.create (some_kind_has (with_right Create r)) f)
+    by false false e f =
+        let s = with_right Select r in
+        (Select, or_right r.select (some_kind_has s) (or_left (within s table_rights) (within s sequence_rights || (within s schema_rights || within s type_rights)) (table_has s e f)))
+
+pub right_behind_laws : (r : Rights) → Lawful (right_behind r)
+right_behind_laws r =
+    let h = goes_on r in
+    by_first_laws (λ ts. joining r (right_first ts)) (a_word (right_word h.0)) h.0 (ap (joining r) (right_is h.0) ∙ ap (λ (b : Bool). cond b (Some h.0) None) h.1)
+
+pub rights_apart : (r : Rights) → AreApart comma (more_rights r)
+rights_apart r = record {
+  laws = λ s. sign_laws 44 (right_behind s) (right_behind_laws s);
+  begins = λ s. lead_begins comma (right_behind s);
+  apart = λ s x t e. refl;
+  covers = λ s t e. (e, refl);
+}
+
+pub rights_from_laws : (r : Rights) → Lawful (rights_from r)
+unfolding rights_from
+rights_from_laws r = seen_laws (all_of r) (many comma (more_rights r)) (many_laws comma (more_rights r) (rights_apart r))
+
+-- ---- objects
+
+kind_found : (r : Rights) → some_kind_has r ≡ true → (k : Kind) × (within r (kind_rights k) ≡ true)
+unfolding some_kind_has
+kind_found r e = by_table (within r table_rights) refl e
+  where
+    by_schema : (b : Bool) → within r schema_rights ≡ b → (b || within r type_rights) ≡ true → (k : Kind) × (within r (kind_rights k) ≡ true)
+    by_schema true is f = (Schemas, is)
+    by_schema false is f = (Types, f)
+
+    by_sequence : (b : Bool) → within r sequence_rights ≡ b → (b || (within r schema_rights || within r type_rights)) ≡ true → (k : Kind) × (within r (kind_rights k) ≡ true)
+    by_sequence true is f = (Sequences, is)
+    by_sequence false is f = by_schema (within r schema_rights) refl f
+
+    by_table : (b : Bool) → within r table_rights ≡ b → (b || (within r sequence_rights || (within r schema_rights || within r type_rights))) ≡ true → (k : Kind) × (within r (kind_rights k) ≡ true)
+    by_table true is f = (Tables, is)
+    by_table false is f = by_sequence (within r sequence_rights) refl f
+
+kind_for : (w : Wanted) → CanBeOn w → (k : Kind) × (kind_has w k ≡ true)
+kind_for All can = (Tables, refl)
+kind_for (These r) can = kind_found r can
+
+pub kind_with_laws : (w : Wanted) → CanBeOn w → Lawful (kind_with w)
+kind_with_laws w can =
+    let h = kind_for w can in
+    by_first_laws (λ ts. having w (kind_first ts)) (a_word (kind_word h.0)) h.0 (ap (having w) (kind_is h.0) ∙ ap (λ (b : Bool). cond b (Some h.0) None) h.1)
+
+object_laws : (k : Kind) → Lawful (object k)
+object_laws Tables = seen_laws on.Table qualified qualified_laws
+object_laws Sequences = seen_laws on.Sequence qualified qualified_laws
+object_laws Schemas = seen_laws on.Schema name name_laws
+object_laws Types = seen_laws on.Type qualified qualified_laws
+
+object_ends : (k : Kind) (t : Lexeme) → (object k).goes_on t ≡ false
+object_ends Tables t = refl
+object_ends Sequences t = refl
+object_ends Schemas t = refl
+object_ends Types t = refl
+
+abbrev pub object_on : Wanted → Kind → Part (Granted × Rights)
+object_on w k = seen (λ o. (o, rights_on w k)) (object k)
+
+pub on_object_laws : (w : Wanted) → CanBeOn w → Lawful (on_object w)
+unfolding on_object
+on_object_laws w can =
+    word_laws (codes "on") (kind_with w thenby object_on w)
+    (thenby_laws (kind_with w) (object_on w) (kind_with_laws w can)
+    (record {
+      laws = λ k ts spells. seen_laws (λ o. (o, rights_on w k)) (object k) (object_laws k);
+      ends = object_ends;
+      avoids = λ k ts spells. avoids_never (object_on w k);
+    }))
+
+pub on_object_begins : (w : Wanted) → Begins (is_word (codes "on")) (on_object w)
+unfolding on_object
+on_object_begins w = lead_begins (is_word (codes "on")) (kind_with w thenby object_on w)
+
+on_object_ends : (w : Wanted) (t : Lexeme) → (on_object w).goes_on t ≡ false
+unfolding on_object
+on_object_ends w t = refl
+
+pub rights_and_object_laws : (w : Wanted) → CanBeOn w → Lawful (rights_and_object w)
+unfolding rights_and_object rights_from
+rights_and_object_laws All can = on_object_laws All tt
+rights_and_object_laws (These r) can = thenby_laws (rights_from r) (λ s. on_object (These s)) (rights_from_laws r) (decided r can)
+  where
+    decided : (r : Rights) → some_kind_has r ≡ true → Decided (rights_from r) (λ s. on_object (These s))
+    decided r can = record {
+      laws = λ s ts spells. on_object_laws (These s) (rights_can r s ts spells can);
+      ends = λ s t. on_object_ends (These s) t;
+      avoids = λ s ts spells. avoids_begun (is_word (codes "on")) comma (on_object (These s)) (on_object_begins (These s)) (word_no_sign (codes "on") 44);
+    }
+
+pub rights_and_object_ends : (w : Wanted) (t : Lexeme) → (rights_and_object w).goes_on t ≡ false
+unfolding rights_and_object on_object
+rights_and_object_ends All t = refl
+rights_and_object_ends (These r) t = refl
+
+-- ---- what it begins with
+
+abbrev pub goes_to_object : Lexeme → Bool
+goes_to_object t = comma t || is_word (codes "on") t
+
+comma_first : (ts : List Lexeme) → starts comma ts ≡ true → starts goes_to_object ts ≡ true
+comma_first [] e = absurd cc
+comma_first (t ∷ ts) e = or_left (comma t) (is_word (codes "on") t) e
+
+on_first : (ts : List Lexeme) → starts (is_word (codes "on")) ts ≡ true → starts goes_to_object ts ≡ true
+on_first [] e = absurd cc
+on_first (t ∷ ts) e = or_right (comma t) (is_word (codes "on") t) e
+
+list_first : (first r : Rights) (xs : List Right) (a b : List Lexeme) → Many (more_rights first) r xs a → starts (is_word (codes "on")) b ≡ true → starts goes_to_object (a ++ b) ≡ true
+list_first first r _ _ b (no_more _) e = on_first b e
+list_first first r _ _ b (one_more _ x xs a more spells others) e =
+    comma_first ((a ++ more) ++ b) (starts-append comma (a ++ more) b (starts-append comma a more (lead_begins comma (right_behind r) x a spells)))
+
+pub rights_and_object_begins : (w : Wanted) → Begins goes_to_object (rights_and_object w)
+unfolding rights_and_object rights_from
+rights_and_object_begins All x ts spells = on_first ts (on_object_begins All x ts spells)
+rights_and_object_begins (These r) x ts spells =
+    ap (starts goes_to_object) spells.3 ∙ list_first r r spells.4.0 spells.1 spells.2 spells.4.2 (on_object_begins (These spells.0) x spells.2 spells.5)
+
+pub to_no_object : Apart goes_to_object (is_word (codes "to"))
+to_no_object t e = by (is_word (codes "to") t) refl
+  where
+    no_comma : (b : Bool) → comma t ≡ b → (b || is_word (codes "on") t) ≡ true → comma t ≡ false → is_word (codes "on") t ≡ false → true ≡ false
+    no_comma true is f g h = sym is ∙ g
+    no_comma false is f g h = sym f ∙ h
+
+    by : (b : Bool) → is_word (codes "to") t ≡ b → b ≡ false
+    by true is = no_comma (comma t) refl e (word_no_sign (codes "to") 44 t is) (words_apart (codes "to") (codes "on") refl t is)
+    by false is = refl
+
+-- ---- ALL, or the first right
+
+pub wanted_laws : Lawful wanted
+unfolding wanted_first is_word is_keyword_of
+wanted_laws = by_first_laws wanted_first (a_word (codes "all")) All refl
+
+pub wanted_spelled : (w : Wanted) (ts : List Lexeme) → wanted.Spells w ts → CanBeOn w
+wanted_spelled w ts spells = by (wanted_first (spells.0 ∷ [])) refl spells.2
+  where
+    by : (o : Option Wanted) → wanted_first (spells.0 ∷ []) ≡ o → told o ≡ Ok w → CanBeOn w
+    by None is f = absurd cc
+    by (Some u) is f = let same : u ≡ w = cc in wanted_can (spells.0 ∷ []) w (is ∙ ap Some same)

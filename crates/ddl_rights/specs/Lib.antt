@@ -1,0 +1,6 @@
+pub mod Depending
+pub mod Values
+pub mod RightsGrammar
+pub mod Memberships
+pub mod Grants
+pub mod Writable

@@ -1,0 +1,471 @@
+//! Readers of rights, of objects that have them, and of grantees.
+ghost use Rattle.std.specs.Prelude.{◌≡◌, ◌||◌, not, drop};
+ghost use Rattle.ddl_parts.specs.Pieces.{GivesPart};
+ghost use Rattle.cat_model.specs.Grants.{no_rights};
+ghost use Rattle.ddl_rights.specs.Values.{answered};
+ghost use Rattle.ddl_rights.specs.RightsGrammar.{has, with_right, within, kind_rights, some_kind_has, goes_with, right_first, wanted_first, wanted, joining, right_behind, more_rights, rights_from, kind_first, kind_has, having, kind_with, rights_on, object, on_object, rights_and_object, grantee_of, grantee};
+
+use cat_model::{Granted, Grantee, Rights};
+use copy_text::Name;
+use ddl_parts::{Halt, Pieces, ReadError, qualified_name};
+use std::alloc::Global;
+
+/// A right on an object.
+#[derive(Clone, Copy, Debug, PartialEq, Eq)]
+pub enum Right {
+    /// SELECT.
+    Select,
+    /// USAGE.
+    Usage,
+    /// INSERT.
+    Insert,
+    /// REFERENCES.
+    References,
+    /// DELETE.
+    Delete,
+    /// TRIGGER.
+    Trigger,
+    /// TRUNCATE.
+    Truncate,
+    /// UPDATE.
+    Update,
+    /// CREATE.
+    Create,
+}
+
+/// A kind of object that has rights.
+#[derive(Clone, Copy, Debug, PartialEq, Eq)]
+pub enum Kind {
+    /// Tables and views.
+    Tables,
+    /// Sequences.
+    Sequences,
+    /// Schemas.
+    Schemas,
+    /// Enums and domains.
+    Types,
+}
+
+/// The rights that a statement names.
+#[derive(Clone, Copy, Debug, PartialEq, Eq)]
+pub enum Wanted {
+    /// All that the kind of object has.
+    All,
+    /// Those of a list.
+    These(Rights),
+}
+
+fn no_rights() -> Rights
+    ensures { result ≡ no_rights }
+{
+    Rights {
+        select: false,
+        usage: false,
+        insert: false,
+        references: false,
+        delete: false,
+        trigger: false,
+        truncate: false,
+        update: false,
+        create: false,
+    }
+}
+
+/// Whether a right is one of some rights.
+fn has(right: Right, rights: Rights) -> bool
+    ensures { result ≡ has right rights }
+{
+    match right {
+        Right::Select => rights.select,
+        Right::Usage => rights.usage,
+        Right::Insert => rights.insert,
+        Right::References => rights.references,
+        Right::Delete => rights.delete,
+        Right::Trigger => rights.trigger,
+        Right::Truncate => rights.truncate,
+        Right::Update => rights.update,
+        Right::Create => rights.create,
+    }
+}
+
+/// The rights and one more.
+fn with_right(right: Right, rights: Rights) -> Rights
+    ensures { result ≡ with_right right rights }
+{
+    match right {
+        Right::Select => Rights {
+            select: true,
+            ..rights
+        },
+        Right::Usage => Rights {
+            usage: true,
+            ..rights
+        },
+        Right::Insert => Rights {
+            insert: true,
+            ..rights
+        },
+        Right::References => Rights {
+            references: true,
+            ..rights
+        },
+        Right::Delete => Rights {
+            delete: true,
+            ..rights
+        },
+        Right::Trigger => Rights {
+            trigger: true,
+            ..rights
+        },
+        Right::Truncate => Rights {
+            truncate: true,
+            ..rights
+        },
+        Right::Update => Rights {
+            update: true,
+            ..rights
+        },
+        Right::Create => Rights {
+            create: true,
+            ..rights
+        },
+    }
+}
+
+/// Whether the second holds where the first does.
+fn implies(one: bool, other: bool) -> bool
+    ensures { result ≡ (not one || other) }
+{
+    !one || other
+}
+
+/// Whether each of the first rights is one of the second.
+fn within(rights: Rights, others: Rights) -> bool
+    ensures { result ≡ within rights others }
+{
+    let each = [
+        implies(rights.select, others.select),
+        implies(rights.usage, others.usage),
+        implies(rights.insert, others.insert),
+        implies(rights.references, others.references),
+        implies(rights.delete, others.delete),
+        implies(rights.trigger, others.trigger),
+        implies(rights.truncate, others.truncate),
+        implies(rights.update, others.update),
+        implies(rights.create, others.create),
+    ];
+    each.iter().all(|holds| *holds)
+}
+
+/// The rights that a kind of object has.
+fn kind_rights(kind: Kind) -> Rights
+    ensures { result ≡ kind_rights kind }
+{
+    match kind {
+        Kind::Tables => Rights {
+            select: true,
+            insert: true,
+            references: true,
+            delete: true,
+            trigger: true,
+            truncate: true,
+            update: true,
+            ..no_rights()
+        },
+        Kind::Sequences => Rights {
+            select: true,
+            usage: true,
+            update: true,
+            ..no_rights()
+        },
+        Kind::Schemas => Rights {
+            usage: true,
+            create: true,
+            ..no_rights()
+        },
+        Kind::Types => Rights {
+            usage: true,
+            ..no_rights()
+        },
+    }
+}
+
+/// Whether some kind of object has all of these rights.
+#[tactic(auto, unfolding(crate::specs::RightsGrammar::some_kind_has))]
+fn some_kind_has(rights: Rights) -> bool
+    ensures { result ≡ some_kind_has rights }
+{
+    within(rights, kind_rights(Kind::Tables))
+        || within(rights, kind_rights(Kind::Sequences))
+        || within(rights, kind_rights(Kind::Schemas))
+        || within(rights, kind_rights(Kind::Types))
+}
+
+/// Whether a right may stand behind others.
+#[tactic(auto, unfolding(crate::specs::RightsGrammar::goes_with))]
+fn goes_with(rights: Rights, right: Right) -> bool
+    ensures { result ≡ goes_with rights right }
+{
+    has(right, rights) || some_kind_has(with_right(right, rights))
+}
+
+/// The right at a place.
+#[tactic(auto, unfolding(crate::specs::RightsGrammar::right_first))]
+fn right_at(pieces: &Pieces<'_>, at: usize) -> Option<Right>
+    ensures { result ≡ right_first (drop at pieces.now) }
+{
+    if pieces.is_word(at, "select") {
+        return Some(Right::Select);
+    }
+    if pieces.is_word(at, "usage") {
+        return Some(Right::Usage);
+    }
+    if pieces.is_word(at, "insert") {
+        return Some(Right::Insert);
+    }
+    if pieces.is_word(at, "references") {
+        return Some(Right::References);
+    }
+    if pieces.is_word(at, "delete") {
+        return Some(Right::Delete);
+    }
+    if pieces.is_word(at, "trigger") {
+        return Some(Right::Trigger);
+    }
+    if pieces.is_word(at, "truncate") {
+        return Some(Right::Truncate);
+    }
+    if pieces.is_word(at, "update") {
+        return Some(Right::Update);
+    }
+    if pieces.is_word(at, "create") {
+        return Some(Right::Create);
+    }
+    None
+}
+
+/// ALL, or the first right of a list, at a place.
+#[tactic(auto, unfolding(crate::specs::RightsGrammar::wanted_first))]
+pub(crate) fn wanted_at(pieces: &Pieces<'_>, at: usize) -> Option<Wanted>
+    ensures { result ≡ wanted_first (drop at pieces.now) }
+{
+    if pieces.is_word(at, "all") {
+        return Some(Wanted::All);
+    }
+    match right_at(pieces, at) {
+        Some(right) => Some(Wanted::These(with_right(right, no_rights()))),
+        None => None,
+    }
+}
+
+/// A value of the token at a place, and the place behind it.
+pub(crate) fn behind<T: Copy>(
+    pieces: &Pieces<'_>,
+    at: usize,
+    value: Option<T>,
+) -> Result<(T, usize), ReadError>
+    ensures { GivesPart pieces.now (λ v. v) result (answered value (drop at pieces.now)) }
+{
+    match value {
+        Some(value) if at < pieces.len() => Ok((value, at + 1)),
+        _ => Err(ReadError::Halted(Halt { long: false, at })),
+    }
+}
+
+/// ALL, or the first right of a list.
+pub(crate) fn wanted_rights(pieces: &Pieces<'_>, at: usize) -> Result<(Wanted, usize), ReadError>
+    ensures { GivesPart pieces.now (λ w. w) result (wanted.read (drop at pieces.now)) }
+{
+    behind(pieces, at, wanted_at(pieces, at))
+}
+
+/// The right at a place, where it may stand behind others.
+fn joining(pieces: &Pieces<'_>, at: usize, rights: Rights) -> Option<Right>
+    ensures { result ≡ joining rights (right_first (drop at pieces.now)) }
+{
+    match right_at(pieces, at) {
+        Some(right) if goes_with(rights, right) => Some(right),
+        _ => None,
+    }
+}
+
+fn right_behind(pieces: &Pieces<'_>, at: usize, rights: Rights) -> Result<(Right, usize), ReadError>
+    ensures { GivesPart pieces.now (λ x. x) result ((right_behind rights).read (drop at pieces.now)) }
+{
+    behind(pieces, at, joining(pieces, at, rights))
+}
+
+/// A comma, and a right that may stand behind others.
+fn one_more_right(
+    pieces: &Pieces<'_>,
+    at: usize,
+    rights: Rights,
+) -> Result<(Right, usize), ReadError>
+    ensures { GivesPart pieces.now (λ x. x) result (((more_rights rights).item rights).read (drop at pieces.now)) }
+{
+    let at = pieces.sign(at, b',')?;
+    right_behind(pieces, at, rights)
+}
+
+/// Some rights, and those of the rest of a list.
+fn rights_from(
+    pieces: &Pieces<'_>,
+    from: usize,
+    first: Rights,
+) -> Result<(Rights, usize), ReadError>
+    ensures { GivesPart pieces.now (λ r. r) result ((rights_from first).read (drop from pieces.now)) }
+{
+    let mut rights = first;
+    let mut at = from;
+    'rights: loop {
+        if !pieces.is_sign(at, b',') {
+            return Ok((rights, at));
+        }
+        let (right, next) = one_more_right(pieces, at, rights)?;
+        rights = with_right(right, rights);
+        at = next;
+    }
+}
+
+/// The kind of object at a place.
+#[tactic(auto, unfolding(crate::specs::RightsGrammar::kind_first))]
+fn kind_at(pieces: &Pieces<'_>, at: usize) -> Option<Kind>
+    ensures { result ≡ kind_first (drop at pieces.now) }
+{
+    if pieces.is_word(at, "table") {
+        return Some(Kind::Tables);
+    }
+    if pieces.is_word(at, "sequence") {
+        return Some(Kind::Sequences);
+    }
+    if pieces.is_word(at, "schema") {
+        return Some(Kind::Schemas);
+    }
+    if pieces.is_word(at, "type") {
+        return Some(Kind::Types);
+    }
+    None
+}
+
+/// Whether a kind of object has all these rights.
+fn kind_has(wanted: Wanted, kind: Kind) -> bool
+    ensures { result ≡ kind_has wanted kind }
+{
+    match wanted {
+        Wanted::All => true,
+        Wanted::These(rights) => within(rights, kind_rights(kind)),
+    }
+}
+
+/// The kind of object at a place, where it has all these rights.
+fn having(pieces: &Pieces<'_>, at: usize, wanted: Wanted) -> Option<Kind>
+    ensures { result ≡ having wanted (kind_first (drop at pieces.now)) }
+{
+    match kind_at(pieces, at) {
+        Some(kind) if kind_has(wanted, kind) => Some(kind),
+        _ => None,
+    }
+}
+
+fn kind_with(pieces: &Pieces<'_>, at: usize, wanted: Wanted) -> Result<(Kind, usize), ReadError>
+    ensures { GivesPart pieces.now (λ k. k) result ((kind_with wanted).read (drop at pieces.now)) }
+{
+    behind(pieces, at, having(pieces, at, wanted))
+}
+
+/// The rights on an object of a kind.
+fn rights_on(wanted: Wanted, kind: Kind) -> Rights
+    ensures { result ≡ rights_on wanted kind }
+{
+    match wanted {
+        Wanted::All => kind_rights(kind),
+        Wanted::These(rights) => rights,
+    }
+}
+
+/// An object of a kind.
+fn object(
+    alloc: Global,
+    pieces: &Pieces<'_>,
+    at: usize,
+    kind: Kind,
+) -> Result<(Granted, usize), ReadError>
+    ensures { GivesPart pieces.now (λ o. o) result ((object kind).read (drop at pieces.now)) }
+{
+    match kind {
+        Kind::Tables => {
+            let (q, at) = qualified_name(alloc, pieces, at)?;
+            Ok((Granted::Table(q), at))
+        }
+        Kind::Sequences => {
+            let (q, at) = qualified_name(alloc, pieces, at)?;
+            Ok((Granted::Sequence(q), at))
+        }
+        Kind::Schemas => {
+            let (name, at) = pieces.name(alloc, at)?;
+            Ok((Granted::Schema(name), at))
+        }
+        Kind::Types => {
+            let (q, at) = qualified_name(alloc, pieces, at)?;
+            Ok((Granted::Type(q), at))
+        }
+    }
+}
+
+/// The object behind ON, and the rights on it.
+#[tactic(auto, unfolding(crate::specs::RightsGrammar::on_object))]
+fn on_object(
+    alloc: Global,
+    pieces: &Pieces<'_>,
+    at: usize,
+    wanted: Wanted,
+) -> Result<((Granted, Rights), usize), ReadError>
+    ensures { GivesPart pieces.now (λ x. (x.0, x.1)) result ((on_object wanted).read (drop at pieces.now)) }
+{
+    let at = pieces.word(at, "on")?;
+    let (kind, at) = kind_with(pieces, at, wanted)?;
+    let (object, at) = object(alloc, pieces, at, kind)?;
+    Ok(((object, rights_on(wanted, kind)), at))
+}
+
+/// The rest of a list of rights, the object behind it, and the rights on it.
+#[tactic(auto, unfolding(crate::specs::RightsGrammar::rights_and_object))]
+pub(crate) fn rights_and_object(
+    alloc: Global,
+    pieces: &Pieces<'_>,
+    at: usize,
+    wanted: Wanted,
+) -> Result<((Granted, Rights), usize), ReadError>
+    ensures { GivesPart pieces.now (λ x. (x.0, x.1)) result ((rights_and_object wanted).read (drop at pieces.now)) }
+{
+    match wanted {
+        Wanted::All => on_object(alloc, pieces, at, wanted),
+        Wanted::These(first) => {
+            let (rights, at) = rights_from(pieces, at, first)?;
+            on_object(alloc, pieces, at, Wanted::These(rights))
+        }
+    }
+}
+
+/// Whom a name stands for.
+#[tactic(auto, unfolding(crate::specs::RightsGrammar::grantee_of))]
+fn grantee_of(name: Name) -> Grantee
+    ensures { result ≡ grantee_of name }
+{
+    if name.as_str() == "public" {
+        return Grantee::Public;
+    }
+    Grantee::Role(name)
+}
+
+/// A grantee.
+pub(crate) fn grantee(
+    alloc: Global,
+    pieces: &Pieces<'_>,
+    at: usize,
+) -> Result<(Grantee, usize), ReadError>
+    ensures { GivesPart pieces.now (λ g. g) result (grantee.read (drop at pieces.now)) }
+{
+    let (name, at) = pieces.name(alloc, at)?;
+    Ok((grantee_of(name), at))
+}
