@@ -22,6 +22,10 @@ use Rattle.ddl_read.specs.Clauses.{named_check}
 use Rattle.ddl_read.specs.RelationGrammar.{altered_sequence, view_branch, more_relations}
 use Rattle.ddl_read.proofs.RelationLaws.{altered_sequence_closes, relations_close}
 use Rattle.ddl_read.specs.TableGrammar.{create_enum, enum_of, checking, typed, domain_of, create_domain, table_elements, table_of, create_table}
+use Rattle.ddl_admin.specs.Comments.{comment_on}
+use Rattle.ddl_admin.specs.Roles.{create_role, alter_role}
+use Rattle.ddl_admin.specs.Databases.{create_database}
+use Rattle.ddl_read.proofs.AdminClosed.{comment_on_closes, create_role_closes, alter_role_closes, create_database_closes}
 use Rattle.ddl_read.specs.AlterGrammar.{altered_table}
 use Rattle.ddl_read.proofs.AlterClosed.{new_owner_closes, altered_table_closes}
 use Rattle.ddl_read.specs.Grammar.{semicolon, create_schema, created, new_owner, new_check, its_owner, one_more_check, domain_changed, domain_change, altered_domain, name_and_owner, path_and_owner, owned_name, owned_path, altered, selected, equals_or_to, setting, command, statement}
@@ -69,8 +73,9 @@ created_closes : Closes semicolon created
 unfolding created
 created_closes =
     one_of_closes semicolon (record { key = codes "schema"; part = create_schema })
-    (record { key = codes "type"; part = create_enum } ∷ record { key = codes "domain"; part = create_domain } ∷ record { key = codes "table"; part = create_table } ∷ view_branch ∷ more_relations)
-    (create_schema_closes, (create_enum_closes, (create_domain_closes, (create_table_closes, relations_close))))
+    (record { key = codes "type"; part = create_enum } ∷ record { key = codes "domain"; part = create_domain } ∷ record { key = codes "table"; part = create_table }
+    ∷ record { key = codes "role"; part = create_role } ∷ record { key = codes "database"; part = create_database } ∷ view_branch ∷ more_relations)
+    (create_schema_closes, (create_enum_closes, (create_domain_closes, (create_table_closes, (create_role_closes, (create_database_closes, relations_close))))))
 
 name_and_owner_closes : Closes semicolon name_and_owner
 unfolding name_and_owner
@@ -106,7 +111,8 @@ unfolding altered
 altered_closes =
     one_of_closes semicolon (owned_name (codes "schema") owned.Schema)
     (owned_path (codes "type") owned.Type ∷ record { key = codes "domain"; part = altered_domain } ∷ record { key = codes "table"; part = altered_table }
-    ∷ record { key = codes "sequence"; part = altered_sequence new_owner } ∷ owned_path (codes "view") owned.View ∷ owned_name (codes "database") owned.Database ∷ []) (
+    ∷ record { key = codes "sequence"; part = altered_sequence new_owner } ∷ owned_path (codes "view") owned.View ∷ owned_name (codes "database") owned.Database
+    ∷ record { key = codes "role"; part = alter_role } ∷ []) (
       owned_name_closes (codes "schema") owned.Schema,
       (
         owned_path_closes (codes "type") owned.Type,
@@ -114,7 +120,7 @@ altered_closes =
           altered_domain_closes,
           (
             altered_table_closes,
-            (altered_sequence_closes new_owner new_owner_closes, (owned_path_closes (codes "view") owned.View, owned_name_closes (codes "database") owned.Database)),
+            (altered_sequence_closes new_owner new_owner_closes, (owned_path_closes (codes "view") owned.View, (owned_name_closes (codes "database") owned.Database, alter_role_closes))),
           ),
         ),
       ),
@@ -142,8 +148,9 @@ command_closes : Closes semicolon command
 unfolding command
 command_closes =
     one_of_closes semicolon (record { key = codes "create"; part = created })
-    (record { key = codes "alter"; part = altered } ∷ record { key = codes "select"; part = selected } ∷ record { key = codes "set"; part = setting } ∷ [])
-    (created_closes, (altered_closes, (selected_closes, setting_closes)))
+    (record { key = codes "alter"; part = altered } ∷ record { key = codes "select"; part = selected } ∷ record { key = codes "set"; part = setting }
+    ∷ record { key = codes "comment"; part = comment_on } ∷ [])
+    (created_closes, (altered_closes, (selected_closes, (setting_closes, comment_on_closes))))
 
 pub statement_closes : Closes semicolon statement
 unfolding statement

@@ -17,6 +17,12 @@ use Rattle.ddl_parts.proofs.Leads.{a_sign, a_word, sign_is, word_is, name_laws, 
 use Rattle.ddl_parts.specs.Expressions.{expression}
 use Rattle.ddl_parts.proofs.RunLaws.{expression_laws, expression_ends}
 use Rattle.ddl_parts.proofs.Tables.{one_of_laws, one_of_avoids_others}
+use Rattle.ddl_admin.specs.Comments.{comment_on}
+use Rattle.ddl_admin.specs.Roles.{create_role, alter_role}
+use Rattle.ddl_admin.specs.Databases.{create_database}
+use Rattle.ddl_admin.proofs.CommentLaws.{comment_on_laws}
+use Rattle.ddl_admin.proofs.RoleLaws.{create_role_laws, alter_role_laws}
+use Rattle.ddl_admin.proofs.DatabaseLaws.{create_database_laws}
 use Rattle.ddl_read.specs.Clauses.{named_check}
 use Rattle.ddl_read.specs.TableGrammar.{create_enum, create_domain, create_table}
 use Rattle.ddl_read.specs.RelationGrammar.{altered_sequence, view_branch, more_relations}
@@ -45,8 +51,9 @@ created_laws : Lawful created
 unfolding created
 created_laws =
     one_of_laws (record { key = codes "schema"; part = create_schema })
-    (record { key = codes "type"; part = create_enum } ∷ record { key = codes "domain"; part = create_domain } ∷ record { key = codes "table"; part = create_table } ∷ view_branch ∷ more_relations)
-    refl (create_schema_laws, (create_enum_laws, (create_domain_laws, (create_table_laws, relations_lawful))))
+    (record { key = codes "type"; part = create_enum } ∷ record { key = codes "domain"; part = create_domain } ∷ record { key = codes "table"; part = create_table }
+    ∷ record { key = codes "role"; part = create_role } ∷ record { key = codes "database"; part = create_database } ∷ view_branch ∷ more_relations)
+    refl (create_schema_laws, (create_enum_laws, (create_domain_laws, (create_table_laws, (create_role_laws, (create_database_laws, relations_lawful))))))
 
 new_owner_begins : Begins (is_word (codes "owner")) new_owner
 unfolding new_owner
@@ -89,7 +96,8 @@ unfolding altered
 altered_laws =
     one_of_laws (owned_name (codes "schema") owned.Schema)
     (owned_path (codes "type") owned.Type ∷ record { key = codes "domain"; part = altered_domain } ∷ record { key = codes "table"; part = altered_table }
-    ∷ record { key = codes "sequence"; part = altered_sequence new_owner } ∷ owned_path (codes "view") owned.View ∷ owned_name (codes "database") owned.Database ∷ [])
+    ∷ record { key = codes "sequence"; part = altered_sequence new_owner } ∷ owned_path (codes "view") owned.View ∷ owned_name (codes "database") owned.Database
+    ∷ record { key = codes "role"; part = alter_role } ∷ [])
     refl (
       owned_name_laws (codes "schema") owned.Schema,
       (
@@ -98,7 +106,7 @@ altered_laws =
           altered_domain_laws,
           (
             altered_table_laws,
-            (altered_sequence_laws new_owner new_owner_laws new_owner_begins, (owned_path_laws (codes "view") owned.View, owned_name_laws (codes "database") owned.Database)),
+            (altered_sequence_laws new_owner new_owner_laws new_owner_begins, (owned_path_laws (codes "view") owned.View, (owned_name_laws (codes "database") owned.Database, alter_role_laws))),
           ),
         ),
       ),
@@ -150,14 +158,16 @@ command_laws : Lawful command
 unfolding command
 command_laws =
     one_of_laws (record { key = codes "create"; part = created })
-    (record { key = codes "alter"; part = altered } ∷ record { key = codes "select"; part = selected } ∷ record { key = codes "set"; part = setting } ∷ [])
-    refl (created_laws, (altered_laws, (selected_laws, setting_laws)))
+    (record { key = codes "alter"; part = altered } ∷ record { key = codes "select"; part = selected } ∷ record { key = codes "set"; part = setting }
+    ∷ record { key = codes "comment"; part = comment_on } ∷ [])
+    refl (created_laws, (altered_laws, (selected_laws, (setting_laws, comment_on_laws))))
 
 command_avoids : Avoids semicolon command
 unfolding command
 command_avoids =
     one_of_avoids_others semicolon (λ key. word_no_sign key 59) (record { key = codes "create"; part = created })
-    (record { key = codes "alter"; part = altered } ∷ record { key = codes "select"; part = selected } ∷ record { key = codes "set"; part = setting } ∷ [])
+    (record { key = codes "alter"; part = altered } ∷ record { key = codes "select"; part = selected } ∷ record { key = codes "set"; part = setting }
+    ∷ record { key = codes "comment"; part = comment_on } ∷ [])
 
 -- the grammar of statements has the laws
 pub statement_laws : Lawful statement

@@ -77,7 +77,7 @@ pub view_key : IsKey (codes "view") (codes "VIEW")
 unfolding begins_word in_word is_digit is_utf8 chars encode is_keyword_of
 view_key = record { word = (refl, refl); utf8 = refl; same = refl }
 
-database_key : IsKey (codes "database") (codes "DATABASE")
+pub database_key : IsKey (codes "database") (codes "DATABASE")
 unfolding begins_word in_word is_digit is_utf8 chars encode is_keyword_of
 database_key = record { word = (refl, refl); utf8 = refl; same = refl }
 
@@ -345,7 +345,7 @@ owner_laid_out g (owned.Domain q) r gap is role = domain_owner g q r gap is role
 owner_laid_out g (owned.Table q) r gap is role = table_owner g q r gap is role
 owner_laid_out g (owned.Sequence q) r gap is role = owned_by_path g (codes "sequence") (codes "SEQUENCE") q r owned.Sequence gap sequence_key is role refl (λ ts h. inr (inr (inr (inr (inl (sequence_owner (stmt.OwnerTo (owned.Sequence q) r) ts h))))))
 owner_laid_out g (owned.View q) r gap is role = owned_by_path g (codes "view") (codes "VIEW") q r owned.View gap view_key is role refl (λ ts h. inr (inr (inr (inr (inr (inl h))))))
-owner_laid_out g (owned.Database n) r gap is role = owned_by_name g (codes "database") (codes "DATABASE") n r owned.Database gap database_key is role refl (λ ts h. inr (inr (inr (inr (inr (inr h))))))
+owner_laid_out g (owned.Database n) r gap is role = owned_by_name g (codes "database") (codes "DATABASE") n r owned.Database gap database_key is role refl (λ ts h. inr (inr (inr (inr (inr (inr (inl h)))))))
 
 -- ---- SET
 
@@ -369,7 +369,7 @@ set_laid_out g n v gap is value =
     let made : IsPut setting s t3 [] = seen_put (λ x. stmt.Set x.0 x.1.1) (name then (equals_or_to then (expression ◂ semicolon))) (n, (tt, v)) t3 [] named in
     let whole = (g ++ codes "SET") ++ t3 in
     let k : IsPut statement (Some s) whole [] =
-    put_as (is_word (codes "set") ▸ setting) statement s (Some s) whole [] (word_lead (codes "set") (codes "SET") g setting s t3 [] set_key gap made refl) (λ ts h. inr (s, refl, inr (inr (inr h)))) in
+    put_as (is_word (codes "set") ▸ setting) statement s (Some s) whole [] (word_lead (codes "set") (codes "SET") g setting s t3 [] set_key gap made refl) (λ ts h. inr (s, refl, inr (inr (inr (inl h))))) in
     laid_out g (set_text n v) s whole k (set_regrouped g (codes "SET") (32 ∷ []) (written_name n) (61 ∷ []) v (59 ∷ []) (10 ∷ []))
 
 -- ---- checks

@@ -11,6 +11,7 @@ pub mod Closing
 pub mod AlterClosed
 pub mod SequenceLaws
 pub mod RelationLaws
+pub mod AdminClosed
 pub mod Closed
 pub mod ReadingLaws
 pub mod Standing
@@ -30,6 +31,8 @@ pub mod Bracketed
 pub mod RelationLayouts
 pub mod SequenceNumbers
 pub mod SequenceLayouts
+pub mod AdminLayouts
+pub mod AdminLaidOut
 pub mod Respelled
 pub mod KeyLayouts
 pub mod RestTexts
@@ -37,4 +40,5 @@ pub mod TableMade
 pub mod AlterMade
 pub mod SequenceMade
 pub mod RelationMade
+pub mod AdminMade
 pub mod Made

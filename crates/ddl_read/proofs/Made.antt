@@ -15,6 +15,10 @@ use Rattle.ddl_parts.specs.Leaves.{name, literal, qualified}
 use Rattle.ddl_parts.specs.Expressions.{expression}
 use Rattle.ddl_read.specs.declared.located.Located.{Located}
 use Rattle.ddl_read.specs.Grammar.{semicolon, create_schema, created, new_owner, new_check, DomainChange, its_owner, one_more_check, domain_changed, domain_change, altered_domain, name_and_owner, path_and_owner, owned_name, owned_path, altered, selected, equals_or_to, setting, command, statement}
+use Rattle.ddl_admin.specs.Comments.{comment_on}
+use Rattle.ddl_admin.specs.Roles.{create_role, alter_role}
+use Rattle.ddl_admin.specs.Databases.{create_database}
+use Rattle.ddl_read.proofs.AdminMade.{comment_on_yields, create_role_yields, alter_role_yields, create_database_yields}
 use Rattle.ddl_read.specs.AlterGrammar.{altered_table}
 use Rattle.ddl_read.proofs.AlterMade.{new_owner_yields, altered_table_yields}
 use Rattle.ddl_read.specs.Reading.{listed as listed_before, statements_of}
@@ -41,8 +45,9 @@ created_yields : Yields IsWritable created
 unfolding created
 created_yields =
     one_of_yields IsWritable (record { key = codes "schema"; part = create_schema })
-    (record { key = codes "type"; part = create_enum } ∷ record { key = codes "domain"; part = create_domain } ∷ record { key = codes "table"; part = create_table } ∷ view_branch ∷ more_relations)
-    (create_schema_yields, (create_enum_yields, (create_domain_yields, (create_table_yields, relations_yield))))
+    (record { key = codes "type"; part = create_enum } ∷ record { key = codes "domain"; part = create_domain } ∷ record { key = codes "table"; part = create_table }
+    ∷ record { key = codes "role"; part = create_role } ∷ record { key = codes "database"; part = create_database } ∷ view_branch ∷ more_relations)
+    (create_schema_yields, (create_enum_yields, (create_domain_yields, (create_table_yields, (create_role_yields, (create_database_yields, relations_yield))))))
 
 new_check_yields : Yields IsCheck new_check
 unfolding new_check
@@ -85,7 +90,8 @@ unfolding altered
 altered_yields =
     one_of_yields IsWritable (owned_name (codes "schema") owned.Schema)
     (owned_path (codes "type") owned.Type ∷ record { key = codes "domain"; part = altered_domain } ∷ record { key = codes "table"; part = altered_table }
-    ∷ record { key = codes "sequence"; part = altered_sequence new_owner } ∷ owned_path (codes "view") owned.View ∷ owned_name (codes "database") owned.Database ∷ []) (
+    ∷ record { key = codes "sequence"; part = altered_sequence new_owner } ∷ owned_path (codes "view") owned.View ∷ owned_name (codes "database") owned.Database
+    ∷ record { key = codes "role"; part = alter_role } ∷ []) (
       owned_name_yields (codes "schema") owned.Schema (λ n is. is),
       (
         owned_path_yields (codes "type") owned.Type (λ q is. is),
@@ -95,7 +101,7 @@ altered_yields =
             altered_table_yields,
             (
               altered_sequence_yields new_owner new_owner_yields,
-              (owned_path_yields (codes "view") owned.View (λ q is. is), owned_name_yields (codes "database") owned.Database (λ n is. is)),
+              (owned_path_yields (codes "view") owned.View (λ q is. is), (owned_name_yields (codes "database") owned.Database (λ n is. is), alter_role_yields)),
             ),
           ),
         ),
@@ -134,8 +140,9 @@ command_yields : Yields IsWritable command
 unfolding command
 command_yields =
     one_of_yields IsWritable (record { key = codes "create"; part = created })
-    (record { key = codes "alter"; part = altered } ∷ record { key = codes "select"; part = selected } ∷ record { key = codes "set"; part = setting } ∷ [])
-    (created_yields, (altered_yields, (selected_yields, setting_yields)))
+    (record { key = codes "alter"; part = altered } ∷ record { key = codes "select"; part = selected } ∷ record { key = codes "set"; part = setting }
+    ∷ record { key = codes "comment"; part = comment_on } ∷ [])
+    (created_yields, (altered_yields, (selected_yields, (setting_yields, comment_on_yields))))
 
 statement_yields : (s : Stmt) (ts : List Lexeme) (r : List ℕ) → AllCame ts r → statement.Spells (Some s) ts → IsWritable s
 unfolding statement

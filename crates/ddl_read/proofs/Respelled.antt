@@ -25,6 +25,7 @@ use Rattle.ddl_read.proofs.Standing.{placed, collects}
 use Rattle.ddl_read.proofs.Tokens.{Gap, none, space, newline, spaced, indented, tabbed, indent}
 use Rattle.ddl_read.proofs.RelationLayouts.{owned_by_laid_out, view_laid_out, replaced_laid_out, index_laid_out, unique_index_laid_out}
 use Rattle.ddl_read.proofs.SequenceLayouts.{sequence_laid_out}
+use Rattle.ddl_read.proofs.AdminLaidOut.{comment_laid_out, role_laid_out, changes_laid_out, database_laid_out}
 use Rattle.ddl_read.proofs.TableLayouts.{enum_laid_out, domain_laid_out, table_laid_out}
 use Rattle.ddl_read.proofs.KeyLayouts.{primary_laid_out, unique_laid_out, foreign_laid_out}
 use Rattle.ddl_read.proofs.AlterLayouts.{set_default_laid_out, added_check_laid_out}
@@ -58,6 +59,10 @@ can_be_written g (stmt.CreateView q body) gap is = record { text = _; spells = r
 can_be_written g (stmt.ReplaceView q body) gap is = record { text = _; spells = refl; laid_out = replaced_laid_out g q body gap is.0 is.1 }
 can_be_written g (stmt.CreateIndex q name method rest) gap is = record { text = _; spells = refl; laid_out = index_laid_out g q name method rest gap is.0 is.1 is.2 is.3 }
 can_be_written g (stmt.CreateUniqueIndex q name method rest) gap is = record { text = _; spells = refl; laid_out = unique_index_laid_out g q name method rest gap is.0 is.1 is.2 is.3 }
+can_be_written g (stmt.Comment object text) gap is = record { text = _; spells = refl; laid_out = comment_laid_out g object text gap is.0 is.1 }
+can_be_written g (stmt.CreateRole n) gap is = record { text = _; spells = refl; laid_out = role_laid_out g n gap is }
+can_be_written g (stmt.AlterRole n changes) gap is = record { text = _; spells = refl; laid_out = changes_laid_out g n changes gap is.0 is.1 }
+can_be_written g (stmt.CreateDatabase n encoding) gap is = record { text = _; spells = refl; laid_out = database_laid_out g n encoding gap is }
 can_be_written g _ gap is = absurd is
 
 -- ---- where nothing is left

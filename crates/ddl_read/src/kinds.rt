@@ -9,6 +9,7 @@ use crate::relations::{altered_sequence, created_relation};
 use crate::tables::{create_domain, create_enum, create_table, named_check};
 use cat_model::{CheckDef, Owned, QName, Stmt};
 use copy_text::Name;
+use ddl_admin::{alter_role, comment_on, create_database, create_role};
 use ddl_parts::{Pieces, ReadError, qualified_name};
 use std::alloc::Global;
 
@@ -40,6 +41,14 @@ fn created(alloc: Global, pieces: &Pieces<'_>, at: usize) -> Result<(Stmt, usize
     if pieces.is_word(at, "table") {
         let at = pieces.word(at, "table")?;
         return create_table(alloc, pieces, at);
+    }
+    if pieces.is_word(at, "role") {
+        let at = pieces.word(at, "role")?;
+        return create_role(alloc, pieces, at);
+    }
+    if pieces.is_word(at, "database") {
+        let at = pieces.word(at, "database")?;
+        return create_database(alloc, pieces, at);
     }
     created_relation(alloc, pieces, at)
 }
@@ -131,9 +140,13 @@ fn altered(alloc: Global, pieces: &Pieces<'_>, at: usize) -> Result<(Stmt, usize
         let ((q, role), at) = path_and_owner(alloc, pieces, at)?;
         return Ok((owner_to(Owned::View(q), role), at));
     }
-    let at = pieces.word(at, "database")?;
-    let ((name, role), at) = name_and_owner(alloc, pieces, at)?;
-    Ok((owner_to(Owned::Database(name), role), at))
+    if pieces.is_word(at, "database") {
+        let at = pieces.word(at, "database")?;
+        let ((name, role), at) = name_and_owner(alloc, pieces, at)?;
+        return Ok((owner_to(Owned::Database(name), role), at));
+    }
+    let at = pieces.word(at, "role")?;
+    alter_role(alloc, pieces, at)
 }
 
 #[tactic(auto, unfolding(crate::specs::Grammar::selected))]
@@ -191,8 +204,12 @@ fn command(alloc: Global, pieces: &Pieces<'_>, at: usize) -> Result<(Stmt, usize
         let at = pieces.word(at, "select")?;
         return selected(alloc, pieces, at);
     }
-    let at = pieces.word(at, "set")?;
-    setting(alloc, pieces, at)
+    if pieces.is_word(at, "set") {
+        let at = pieces.word(at, "set")?;
+        return setting(alloc, pieces, at);
+    }
+    let at = pieces.word(at, "comment")?;
+    comment_on(alloc, pieces, at)
 }
 
 /// The statement at the front of the tokens; an empty one is None.
