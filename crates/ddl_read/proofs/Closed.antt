@@ -29,6 +29,10 @@ use Rattle.ddl_read.proofs.CopyLaws.{copy_from_closes}
 use Rattle.ddl_read.specs.ValueGrammar.{set_value}
 use Rattle.ddl_read.proofs.ValueLaws.{set_value_closes}
 use Rattle.ddl_read.specs.TableGrammar.{create_enum, enum_of, checking, typed, domain_of, create_domain, table_elements, table_of, create_table}
+use Rattle.ddl_admin.specs.Comments.{comment_on}
+use Rattle.ddl_admin.specs.Roles.{create_role, alter_role}
+use Rattle.ddl_admin.specs.Databases.{create_database}
+use Rattle.ddl_read.proofs.AdminClosed.{comment_on_closes, create_role_closes, alter_role_closes, create_database_closes}
 use Rattle.ddl_read.specs.AlterGrammar.{altered_table}
 use Rattle.ddl_read.proofs.AlterClosed.{new_owner_closes, altered_table_closes}
 use Rattle.ddl_read.specs.Grammar.{semicolon, create_schema, created, new_owner, new_check, its_owner, one_more_check, domain_changed, domain_change, altered_domain, name_and_owner, path_and_owner, owned_name, owned_path, altered, set_config, catalog_calls, selected, equals_or_to, setting, more_commands, command, statement}
@@ -76,8 +80,9 @@ created_closes : Closes semicolon created
 unfolding created
 created_closes =
     one_of_closes semicolon (record { key = codes "schema"; part = create_schema })
-    (record { key = codes "type"; part = create_enum } ∷ record { key = codes "domain"; part = create_domain } ∷ record { key = codes "table"; part = create_table } ∷ view_branch ∷ more_relations)
-    (create_schema_closes, (create_enum_closes, (create_domain_closes, (create_table_closes, relations_close))))
+    (record { key = codes "type"; part = create_enum } ∷ record { key = codes "domain"; part = create_domain } ∷ record { key = codes "table"; part = create_table }
+    ∷ record { key = codes "role"; part = create_role } ∷ record { key = codes "database"; part = create_database } ∷ view_branch ∷ more_relations)
+    (create_schema_closes, (create_enum_closes, (create_domain_closes, (create_table_closes, (create_role_closes, (create_database_closes, relations_close))))))
 
 name_and_owner_closes : Closes semicolon name_and_owner
 unfolding name_and_owner
@@ -113,7 +118,8 @@ unfolding altered
 altered_closes =
     one_of_closes semicolon (owned_name (codes "schema") owned.Schema)
     (owned_path (codes "type") owned.Type ∷ record { key = codes "domain"; part = altered_domain } ∷ record { key = codes "table"; part = altered_table }
-    ∷ record { key = codes "sequence"; part = altered_sequence } ∷ owned_path (codes "view") owned.View ∷ owned_name (codes "database") owned.Database ∷ []) (
+    ∷ record { key = codes "sequence"; part = altered_sequence } ∷ owned_path (codes "view") owned.View ∷ owned_name (codes "database") owned.Database
+    ∷ record { key = codes "role"; part = alter_role } ∷ []) (
       owned_name_closes (codes "schema") owned.Schema,
       (
         owned_path_closes (codes "type") owned.Type,
@@ -121,7 +127,7 @@ altered_closes =
           altered_domain_closes,
           (
             altered_table_closes,
-            (altered_sequence_closes, (owned_path_closes (codes "view") owned.View, owned_name_closes (codes "database") owned.Database)),
+            (altered_sequence_closes, (owned_path_closes (codes "view") owned.View, (owned_name_closes (codes "database") owned.Database, alter_role_closes))),
           ),
         ),
       ),
@@ -154,7 +160,7 @@ unfolding command
 command_closes =
     one_of_closes semicolon (record { key = codes "create"; part = created })
     more_commands
-    (created_closes, (altered_closes, (selected_closes, (setting_closes, (copy_from_closes, (granted_closes, revoked_closes))))))
+    (created_closes, (altered_closes, (selected_closes, (setting_closes, (copy_from_closes, (granted_closes, (revoked_closes, comment_on_closes)))))))
 
 pub statement_closes : Closes semicolon statement
 unfolding statement

@@ -19,6 +19,12 @@ use Rattle.ddl_parts.proofs.RunLaws.{expression_laws, expression_ends}
 use Rattle.ddl_parts.proofs.Tables.{one_of_laws, one_of_avoids_others}
 use Rattle.ddl_rights.specs.Grants.{granted, revoked}
 use Rattle.ddl_rights.proofs.GrantLaws.{granted_laws, revoked_laws}
+use Rattle.ddl_admin.specs.Comments.{comment_on}
+use Rattle.ddl_admin.specs.Roles.{create_role, alter_role}
+use Rattle.ddl_admin.specs.Databases.{create_database}
+use Rattle.ddl_admin.proofs.CommentLaws.{comment_on_laws}
+use Rattle.ddl_admin.proofs.RoleLaws.{create_role_laws, alter_role_laws}
+use Rattle.ddl_admin.proofs.DatabaseLaws.{create_database_laws}
 use Rattle.ddl_read.specs.Clauses.{named_check}
 use Rattle.ddl_read.specs.CopyGrammar.{copy_from}
 use Rattle.ddl_read.proofs.CopyLaws.{copy_from_laws}
@@ -51,8 +57,9 @@ created_laws : Lawful created
 unfolding created
 created_laws =
     one_of_laws (record { key = codes "schema"; part = create_schema })
-    (record { key = codes "type"; part = create_enum } ∷ record { key = codes "domain"; part = create_domain } ∷ record { key = codes "table"; part = create_table } ∷ view_branch ∷ more_relations)
-    refl (create_schema_laws, (create_enum_laws, (create_domain_laws, (create_table_laws, relations_lawful))))
+    (record { key = codes "type"; part = create_enum } ∷ record { key = codes "domain"; part = create_domain } ∷ record { key = codes "table"; part = create_table }
+    ∷ record { key = codes "role"; part = create_role } ∷ record { key = codes "database"; part = create_database } ∷ view_branch ∷ more_relations)
+    refl (create_schema_laws, (create_enum_laws, (create_domain_laws, (create_table_laws, (create_role_laws, (create_database_laws, relations_lawful))))))
 
 name_and_owner_laws : Lawful name_and_owner
 unfolding name_and_owner
@@ -91,7 +98,8 @@ unfolding altered
 altered_laws =
     one_of_laws (owned_name (codes "schema") owned.Schema)
     (owned_path (codes "type") owned.Type ∷ record { key = codes "domain"; part = altered_domain } ∷ record { key = codes "table"; part = altered_table }
-    ∷ record { key = codes "sequence"; part = altered_sequence } ∷ owned_path (codes "view") owned.View ∷ owned_name (codes "database") owned.Database ∷ [])
+    ∷ record { key = codes "sequence"; part = altered_sequence } ∷ owned_path (codes "view") owned.View ∷ owned_name (codes "database") owned.Database
+    ∷ record { key = codes "role"; part = alter_role } ∷ [])
     refl (
       owned_name_laws (codes "schema") owned.Schema,
       (
@@ -100,7 +108,7 @@ altered_laws =
           altered_domain_laws,
           (
             altered_table_laws,
-            (altered_sequence_laws, (owned_path_laws (codes "view") owned.View, owned_name_laws (codes "database") owned.Database)),
+            (altered_sequence_laws, (owned_path_laws (codes "view") owned.View, (owned_name_laws (codes "database") owned.Database, alter_role_laws))),
           ),
         ),
       ),
@@ -156,7 +164,7 @@ unfolding command
 command_laws =
     one_of_laws (record { key = codes "create"; part = created })
     more_commands
-    refl (created_laws, (altered_laws, (selected_laws, (setting_laws, (copy_from_laws, (granted_laws, revoked_laws))))))
+    refl (created_laws, (altered_laws, (selected_laws, (setting_laws, (copy_from_laws, (granted_laws, (revoked_laws, comment_on_laws)))))))
 
 command_avoids : Avoids semicolon command
 unfolding command

@@ -77,7 +77,7 @@ pub view_key : IsKey (codes "view") (codes "VIEW")
 unfolding begins_word in_word is_digit is_utf8 chars encode is_keyword_of
 view_key = record { word = (refl, refl); utf8 = refl; same = refl }
 
-database_key : IsKey (codes "database") (codes "DATABASE")
+pub database_key : IsKey (codes "database") (codes "DATABASE")
 unfolding begins_word in_word is_digit is_utf8 chars encode is_keyword_of
 database_key = record { word = (refl, refl); utf8 = refl; same = refl }
 
@@ -351,7 +351,7 @@ owner_laid_out g (owned.Domain q) r gap is role = domain_owner g q r gap is role
 owner_laid_out g (owned.Table q) r gap is role = table_owner g q r gap is role
 owner_laid_out g (owned.Sequence q) r gap is role = owned_by_path g (codes "sequence") (codes "SEQUENCE") q r owned.Sequence gap sequence_key is role refl (λ ts h. inr (inr (inr (inr (inl (sequence_owner (stmt.OwnerTo (owned.Sequence q) r) ts h))))))
 owner_laid_out g (owned.View q) r gap is role = owned_by_path g (codes "view") (codes "VIEW") q r owned.View gap view_key is role refl (λ ts h. inr (inr (inr (inr (inr (inl h))))))
-owner_laid_out g (owned.Database n) r gap is role = owned_by_name g (codes "database") (codes "DATABASE") n r owned.Database gap database_key is role refl (λ ts h. inr (inr (inr (inr (inr (inr h))))))
+owner_laid_out g (owned.Database n) r gap is role = owned_by_name g (codes "database") (codes "DATABASE") n r owned.Database gap database_key is role refl (λ ts h. inr (inr (inr (inr (inr (inr (inl h)))))))
 
 -- ---- SET
 

@@ -12,6 +12,7 @@ pub mod AlterClosed
 pub mod SequenceLaws
 pub mod RelationLaws
 pub mod ValueLaws
+pub mod AdminClosed
 pub mod Closed
 pub mod ReadingLaws
 pub mod Standing
@@ -32,6 +33,8 @@ pub mod RelationLayouts
 pub mod SequenceNumbers
 pub mod SequenceLayouts
 pub mod ValueLayouts
+pub mod AdminLayouts
+pub mod AdminLaidOut
 pub mod Respelled
 pub mod KeyLayouts
 pub mod RestTexts
@@ -40,6 +43,7 @@ pub mod AlterMade
 pub mod SequenceMade
 pub mod RelationMade
 pub mod ValueMade
+pub mod AdminMade
 pub mod Made
 pub mod CopyLaws
 pub mod CopyLayouts

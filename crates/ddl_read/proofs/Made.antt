@@ -60,8 +60,9 @@ created_yields : Yields IsWritable created
 unfolding created
 created_yields =
     one_of_yields IsWritable (record { key = codes "schema"; part = create_schema })
-    (record { key = codes "type"; part = create_enum } ∷ record { key = codes "domain"; part = create_domain } ∷ record { key = codes "table"; part = create_table } ∷ view_branch ∷ more_relations)
-    (create_schema_yields, (create_enum_yields, (create_domain_yields, (create_table_yields, relations_yield))))
+    (record { key = codes "type"; part = create_enum } ∷ record { key = codes "domain"; part = create_domain } ∷ record { key = codes "table"; part = create_table }
+    ∷ record { key = codes "role"; part = create_role } ∷ record { key = codes "database"; part = create_database } ∷ view_branch ∷ more_relations)
+    (create_schema_yields, (create_enum_yields, (create_domain_yields, (create_table_yields, (create_role_yields, (create_database_yields, relations_yield))))))
 
 new_check_yields : Yields IsCheck new_check
 unfolding new_check
@@ -104,7 +105,8 @@ unfolding altered
 altered_yields =
     one_of_yields IsWritable (owned_name (codes "schema") owned.Schema)
     (owned_path (codes "type") owned.Type ∷ record { key = codes "domain"; part = altered_domain } ∷ record { key = codes "table"; part = altered_table }
-    ∷ record { key = codes "sequence"; part = altered_sequence } ∷ owned_path (codes "view") owned.View ∷ owned_name (codes "database") owned.Database ∷ []) (
+    ∷ record { key = codes "sequence"; part = altered_sequence } ∷ owned_path (codes "view") owned.View ∷ owned_name (codes "database") owned.Database
+    ∷ record { key = codes "role"; part = alter_role } ∷ []) (
       owned_name_yields (codes "schema") owned.Schema (λ n is. is),
       (
         owned_path_yields (codes "type") owned.Type (λ q is. is),
@@ -114,7 +116,7 @@ altered_yields =
             altered_table_yields,
             (
               altered_sequence_yields,
-              (owned_path_yields (codes "view") owned.View (λ q is. is), owned_name_yields (codes "database") owned.Database (λ n is. is)),
+              (owned_path_yields (codes "view") owned.View (λ q is. is), (owned_name_yields (codes "database") owned.Database (λ n is. is), alter_role_yields)),
             ),
           ),
         ),
@@ -183,7 +185,7 @@ unfolding command
 command_yields =
     one_of_yields IsWritable (record { key = codes "create"; part = created })
     more_commands
-    (created_yields, (altered_yields, (selected_yields, (setting_yields, (copy_from_yields, (granted_yields, revoked_yields))))))
+    (created_yields, (altered_yields, (selected_yields, (setting_yields, (copy_from_yields, (granted_yields, (revoked_yields, comment_on_yields)))))))
 
 statement_yields : (s : Stmt) (ts : List Lexeme) (r : List ℕ) → AllCame ts r → statement.Spells (Some s) ts → IsWritable s
 unfolding statement

@@ -21,6 +21,9 @@ use Rattle.ddl_read.specs.RelationGrammar.{altered_sequence, sequence_change, ow
 use Rattle.ddl_read.specs.SequenceGrammar.{create_sequence}
 use Rattle.ddl_read.specs.CopyGrammar.{copy_from}
 use Rattle.ddl_read.specs.ValueGrammar.{truth, set_value}
+use Rattle.ddl_admin.specs.Comments.{remark_end, name_remarked, path_remarked, column_remarked, constraint_remarked, commented_object, comment_on}
+use Rattle.ddl_admin.specs.Roles.{create_role, alter_role}
+use Rattle.ddl_admin.specs.Databases.{create_database}
 use Rattle.ddl_read.specs.TableGrammar.{create_enum, create_domain, create_table}
 use Rattle.ddl_read.specs.AlterGrammar.{added, new_default, own_change, table_change, behind_only, altered_table}
 use Rattle.ddl_read.specs.Grammar.{statement, command, created, altered, set_config, selected, setting, create_schema, altered_domain, domain_change, new_check, name_and_owner, path_and_owner, new_owner}
@@ -82,7 +85,7 @@ told_err limit fault (Err s) f e = (s, refl, sym (let is : fault_of limit fault 
 
 -- nothing goes on with a statement
 left_free : (ts : List Lexeme) → starts statement.goes_on ts ≡ false
-unfolding statement command created altered set_config truth set_value selected setting create_schema create_enum create_domain create_table altered_domain domain_change new_check name_and_owner path_and_owner new_owner added new_default own_change table_change behind_only altered_table altered_sequence sequence_change owned_by create_view replace_view create_index create_unique_index index_parts create_sequence copy_from granted revoked
+unfolding statement command created altered set_config truth set_value selected setting create_schema create_enum create_domain create_table altered_domain domain_change new_check name_and_owner path_and_owner new_owner added new_default own_change table_change behind_only altered_table altered_sequence sequence_change owned_by create_view replace_view create_index create_unique_index index_parts create_sequence copy_from granted revoked create_role alter_role create_database comment_on commented_object name_remarked path_remarked column_remarked constraint_remarked
 left_free [] = refl
 left_free (t ∷ ts) = refl
 

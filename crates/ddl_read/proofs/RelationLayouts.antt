@@ -136,7 +136,7 @@ view_laid_out g q body gap path_is is =
     let k0 : IsPut create_view s t0 [] = seen_put (λ x. stmt.CreateView x.0 x.1) view_and_body (q, body) t0 [] (view_and_body_put q body path_is is) in
     let t1 = ((32 ∷ []) ++ codes "VIEW") ++ t0 in
     let k1 = word_lead (codes "view") (codes "VIEW") (32 ∷ []) create_view s t0 [] view_key space k0 refl in
-    let k2 : IsPut created s t1 [] = put_as (is_word (codes "view") ▸ create_view) created s s t1 [] k1 (λ ts h. inr (inr (inr (inr (inl h))))) in
+    let k2 : IsPut created s t1 [] = put_as (is_word (codes "view") ▸ create_view) created s s t1 [] k1 (λ ts h. inr (inr (inr (inr (inr (inr (inl h))))))) in
     laid_out g (view_text (codes "CREATE VIEW ") q body) s ((g ++ codes "CREATE") ++ t1) (create_put g s t1 gap k2 refl)
     (view_regrouped g (codes "CREATE") (32 ∷ []) (codes "VIEW") (path q) (codes "AS") (10 ∷ []) (space_before body) body (59 ∷ []) (10 ∷ []))
 
@@ -158,7 +158,7 @@ replaced_laid_out g q body gap path_is is =
     let k2 : IsPut replace_view s t2 [] = word_lead (codes "replace") (codes "REPLACE") (32 ∷ []) (is_word (codes "view") ▸ part) s t1 [] replace_key space k1 refl in
     let t3 = ((32 ∷ []) ++ codes "OR") ++ t2 in
     let k3 = word_lead (codes "or") (codes "OR") (32 ∷ []) replace_view s t2 [] or_key space k2 refl in
-    let k4 : IsPut created s t3 [] = put_as (is_word (codes "or") ▸ replace_view) created s s t3 [] k3 (λ ts h. inr (inr (inr (inr (inr (inl h)))))) in
+    let k4 : IsPut created s t3 [] = put_as (is_word (codes "or") ▸ replace_view) created s s t3 [] k3 (λ ts h. inr (inr (inr (inr (inr (inr (inr (inl h)))))))) in
     laid_out g (view_text (codes "CREATE OR REPLACE VIEW ") q body) s ((g ++ codes "CREATE") ++ t3) (create_put g s t3 gap k4 refl)
     (replaced_regrouped g (codes "CREATE") (32 ∷ []) (codes "OR") (codes "REPLACE") (codes "VIEW") (path q) (codes "AS") (10 ∷ []) (space_before body) body (59 ∷ []) (10 ∷ []))
 
@@ -207,7 +207,7 @@ index_laid_out g q n m rest gap path_is n_is m_is is =
     let k0 : IsPut create_index s t0 [] = seen_put index_of index_parts (n, (q, (m, rest))) t0 [] (index_put q n m rest path_is n_is m_is is) in
     let t1 = ((32 ∷ []) ++ codes "INDEX") ++ t0 in
     let k1 = word_lead (codes "index") (codes "INDEX") (32 ∷ []) create_index s t0 [] index_key space k0 refl in
-    let k2 : IsPut created s t1 [] = put_as (is_word (codes "index") ▸ create_index) created s s t1 [] k1 (λ ts h. inr (inr (inr (inr (inr (inr (inl h))))))) in
+    let k2 : IsPut created s t1 [] = put_as (is_word (codes "index") ▸ create_index) created s s t1 [] k1 (λ ts h. inr (inr (inr (inr (inr (inr (inr (inr (inl h))))))))) in
     laid_out g (index_text (codes "CREATE INDEX ") q n m rest) s ((g ++ codes "CREATE") ++ t1) (create_put g s t1 gap k2 refl)
     (index_regrouped g (codes "CREATE") (32 ∷ []) (codes "INDEX") (written_name n) (codes "ON") (path q) (codes "USING") (written_name m) rest (59 ∷ []) (10 ∷ []))
 
@@ -227,6 +227,6 @@ unique_index_laid_out g q n m rest gap path_is n_is m_is is =
     let k1 : IsPut create_unique_index s t1 [] = word_lead (codes "index") (codes "INDEX") (32 ∷ []) part s t0 [] index_key space k0 refl in
     let t2 = ((32 ∷ []) ++ codes "UNIQUE") ++ t1 in
     let k2 = word_lead (codes "unique") (codes "UNIQUE") (32 ∷ []) create_unique_index s t1 [] unique_key space k1 refl in
-    let k3 : IsPut created s t2 [] = put_as (is_word (codes "unique") ▸ create_unique_index) created s s t2 [] k2 (λ ts h. inr (inr (inr (inr (inr (inr (inr (inl h)))))))) in
+    let k3 : IsPut created s t2 [] = put_as (is_word (codes "unique") ▸ create_unique_index) created s s t2 [] k2 (λ ts h. inr (inr (inr (inr (inr (inr (inr (inr (inr (inl h)))))))))) in
     laid_out g (index_text (codes "CREATE UNIQUE INDEX ") q n m rest) s ((g ++ codes "CREATE") ++ t2) (create_put g s t2 gap k3 refl)
     (unique_regrouped g (codes "CREATE") (32 ∷ []) (codes "UNIQUE") (codes "INDEX") (written_name n) (codes "ON") (path q) (codes "USING") (written_name m) rest (59 ∷ []) (10 ∷ []))

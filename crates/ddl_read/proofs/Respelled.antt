@@ -35,6 +35,7 @@ use Rattle.ddl_read.proofs.RelationLayouts.{owned_by_laid_out, view_laid_out, re
 use Rattle.ddl_read.proofs.SequenceLayouts.{sequence_laid_out}
 use Rattle.ddl_read.proofs.ValueLayouts.{value_laid_out}
 use Rattle.ddl_read.proofs.RightsLayouts.{grant_laid_out, revoke_laid_out, member_laid_out, granted_put, revoked_put}
+use Rattle.ddl_read.proofs.AdminLaidOut.{comment_laid_out, role_laid_out, changes_laid_out, database_laid_out}
 use Rattle.ddl_read.proofs.TableLayouts.{enum_laid_out, domain_laid_out, table_laid_out}
 use Rattle.ddl_read.proofs.KeyLayouts.{primary_laid_out, unique_laid_out, foreign_laid_out}
 use Rattle.ddl_read.proofs.AlterLayouts.{set_default_laid_out, added_check_laid_out}
@@ -84,6 +85,10 @@ can_be_written g (stmt.Connect n) gap is = record { text = connect_line n ++ 10 
 can_be_written g (stmt.Grant o r who option) gap is = record { text = _; spells = refl; lies = by_tokens _ _ (grant_laid_out g o r who option is.0 is.1 is.2 (λ b k e. granted_put g (stmt.Grant o r who option) b gap k e)) (λ t end. refl) }
 can_be_written g (stmt.Revoke o r who) gap is = record { text = _; spells = refl; lies = by_tokens _ _ (revoke_laid_out g o r who is.0 is.1 is.2 (λ b k e. revoked_put g (stmt.Revoke o r who) b gap k e)) (λ t end. refl) }
 can_be_written g (stmt.GrantRole role m c admin inherit z) gap is = record { text = _; spells = refl; lies = by_tokens _ _ (member_laid_out g role m c admin inherit z is.0 is.1 is.2 (λ b k e. granted_put g (stmt.GrantRole role m c admin inherit z) b gap k e)) (λ t end. refl) }
+can_be_written g (stmt.Comment object text) gap is = record { text = _; spells = refl; lies = by_tokens _ _ (comment_laid_out g object text gap is.0 is.1) (λ t end. refl) }
+can_be_written g (stmt.CreateRole n) gap is = record { text = _; spells = refl; lies = by_tokens _ _ (role_laid_out g n gap is) (λ t end. refl) }
+can_be_written g (stmt.AlterRole n changes) gap is = record { text = _; spells = refl; lies = by_tokens _ _ (changes_laid_out g n changes gap is.0 is.1) (λ t end. refl) }
+can_be_written g (stmt.CreateDatabase n encoding) gap is = record { text = _; spells = refl; lies = by_tokens _ _ (database_laid_out g n encoding gap is) (λ t end. refl) }
 can_be_written g _ gap is = absurd is
 
 -- ---- where nothing is left

@@ -689,4 +689,4 @@ pub revoked_put : (g : List ℕ) (s : Stmt) (b : List ℕ) → Gap g → IsPut r
 unfolding statement command
 revoked_put g s b gap k e =
     put_as (is_word (codes "revoke") ▸ revoked) statement s (Some s) ((g ++ codes "REVOKE") ++ b) [] (word_lead (codes "revoke") (codes "REVOKE") g revoked s b [] revoke_key gap k e)
-    (λ ts h. inr (s, refl, inr (inr (inr (inr (inr (inr h)))))))
+    (λ ts h. inr (s, refl, inr (inr (inr (inr (inr (inr (inl h))))))))

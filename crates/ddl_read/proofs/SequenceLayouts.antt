@@ -348,7 +348,7 @@ sequence_laid_out g q kind start step min max cache cycle gap path_is start_is s
     let k4 = subst (λ (x : Stmt). IsPut create_sequence x t2 []) (statement_is q kind start step min max cache cycle) k3 in
     let t5 = ((32 ∷ []) ++ codes "SEQUENCE") ++ t2 in
     let k5 = word_lead (codes "sequence") (codes "SEQUENCE") (32 ∷ []) create_sequence s t2 [] sequence_key space k4 refl in
-    let k6 : IsPut created s t5 [] = put_as (is_word (codes "sequence") ▸ create_sequence) created s s t5 [] k5 (λ ts h. inr (inr (inr (inr (inr (inr (inr (inr h)))))))) in
+    let k6 : IsPut created s t5 [] = put_as (is_word (codes "sequence") ▸ create_sequence) created s s t5 [] k5 (λ ts h. inr (inr (inr (inr (inr (inr (inr (inr (inr (inr h)))))))))) in
     laid_out g (sequence_text q kind start step min max cache cycle) s ((g ++ codes "CREATE") ++ t5) (create_put g s t5 gap k6 refl)
     (sequence_regrouped g (codes "CREATE") (32 ∷ []) (codes "SEQUENCE") (path q) (type_words kind) (codes "\n    START WITH ") (signed_decimal start) (codes "\n    INCREMENT BY ") (signed_decimal step)
     (min_text kind step min) (max_text kind step max) (codes "\n    CACHE ") (signed_decimal cache) (only_if cycle (codes "\n    CYCLE")) (59 ∷ []) (10 ∷ []))

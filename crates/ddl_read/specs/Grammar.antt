@@ -11,6 +11,9 @@ use Rattle.ddl_parts.specs.Lexemes.{is_word, is_sign}
 use Rattle.ddl_parts.specs.Parts.{Part, Branch, mark, seen, choose, one_of, ◌then◌, ◌▸◌, ◌◂◌}
 use Rattle.ddl_parts.specs.Leaves.{name, literal, qualified}
 use Rattle.ddl_parts.specs.Expressions.{expression}
+use Rattle.ddl_admin.specs.Comments.{comment_on}
+use Rattle.ddl_admin.specs.Roles.{create_role, alter_role}
+use Rattle.ddl_admin.specs.Databases.{create_database}
 pub use Rattle.ddl_read.specs.Clauses.{semicolon, named_check}
 unfoldable pub use Rattle.ddl_read.specs.Clauses.{new_owner}
 use Rattle.ddl_read.specs.AlterGrammar.{altered_table}
@@ -29,7 +32,8 @@ create_schema = seen stmt.CreateSchema (name ◂ semicolon)
 unfoldable pub created : Part Stmt
 created =
     one_of (record { key = codes "schema"; part = create_schema })
-    (record { key = codes "type"; part = create_enum } ∷ record { key = codes "domain"; part = create_domain } ∷ record { key = codes "table"; part = create_table } ∷ view_branch ∷ more_relations)
+    (record { key = codes "type"; part = create_enum } ∷ record { key = codes "domain"; part = create_domain } ∷ record { key = codes "table"; part = create_table }
+    ∷ record { key = codes "role"; part = create_role } ∷ record { key = codes "database"; part = create_database } ∷ view_branch ∷ more_relations)
 
 -- ---- ALTER ..
 
@@ -71,7 +75,8 @@ unfoldable pub altered : Part Stmt
 altered =
     one_of (owned_name (codes "schema") owned.Schema)
     (owned_path (codes "type") owned.Type ∷ record { key = codes "domain"; part = altered_domain } ∷ record { key = codes "table"; part = altered_table }
-    ∷ record { key = codes "sequence"; part = altered_sequence } ∷ owned_path (codes "view") owned.View ∷ owned_name (codes "database") owned.Database ∷ [])
+    ∷ record { key = codes "sequence"; part = altered_sequence } ∷ owned_path (codes "view") owned.View ∷ owned_name (codes "database") owned.Database
+    ∷ record { key = codes "role"; part = alter_role } ∷ [])
 
 -- ---- SELECT ..
 
@@ -105,7 +110,8 @@ setting = seen (λ x. stmt.Set x.0 x.1.1) (name then (equals_or_to then (express
 abbrev pub more_commands : List (Branch Stmt)
 more_commands =
     record { key = codes "alter"; part = altered } ∷ record { key = codes "select"; part = selected } ∷ record { key = codes "set"; part = setting }
-    ∷ record { key = codes "copy"; part = copy_from } ∷ record { key = codes "grant"; part = granted } ∷ record { key = codes "revoke"; part = revoked } ∷ []
+    ∷ record { key = codes "copy"; part = copy_from } ∷ record { key = codes "grant"; part = granted } ∷ record { key = codes "revoke"; part = revoked }
+    ∷ record { key = codes "comment"; part = comment_on } ∷ []
 
 unfoldable pub command : Part Stmt
 command =

@@ -8,6 +8,9 @@ use Rattle.cat_model.specs.declared.table.ColumnDef.{ColumnDef}
 use Rattle.cat_model.specs.declared.table.CheckDef.{CheckDef}
 use Rattle.cat_model.specs.declared.grant.Owned.{Owned}
 use Rattle.cat_model.specs.declared.grant.Owned.TheVariants as owned
+use Rattle.cat_model.specs.declared.grant.Commented.{Commented}
+use Rattle.cat_model.specs.declared.grant.Commented.TheVariants as commented
+use Rattle.cat_model.specs.declared.table.RoleChanges.{RoleChanges}
 use Rattle.cat_model.specs.declared.stmt.Stmt.{Stmt}
 use Rattle.cat_model.specs.declared.stmt.Stmt.TheVariants as stmt
 use Rattle.cat_model.specs.declared.type_name.TypeName.{TypeName}
@@ -47,6 +50,31 @@ IsOwnedName (owned.Table q) = IsPath q
 IsOwnedName (owned.Sequence q) = IsPath q
 IsOwnedName (owned.View q) = IsPath q
 IsOwnedName (owned.Database n) = IsName n
+
+abbrev pub IsCommented : Commented → Type 0
+IsCommented (commented.Schema n) = IsName n
+IsCommented (commented.Type q) = IsPath q
+IsCommented (commented.Domain q) = IsPath q
+IsCommented (commented.Table q) = IsPath q
+IsCommented (commented.View q) = IsPath q
+IsCommented (commented.Sequence q) = IsPath q
+IsCommented (commented.Index q) = IsPath q
+IsCommented (commented.Column q n) = IsPath q × IsName n
+IsCommented (commented.Constraint q n) = IsPath q × IsName n
+
+-- a text, if there is one
+abbrev pub IsGivenText : Option (List ℕ) → Type 0
+IsGivenText None = Unit {0}
+IsGivenText (Some text) = IsText text
+
+-- a connection limit, if there is one, has 64 bits
+abbrev pub IsLimit : Option ℤ → Type 0
+IsLimit None = Unit {0}
+IsLimit (Some n) = IsInt n
+
+-- what changes of a role
+abbrev pub AreChanges : RoleChanges → Type 0
+AreChanges c = IsLimit c.limit × IsGivenText c.password × IsGivenText c.valid_until
 
 -- A run of tokens and nothing else: the text begins with its first token and ends with its last.
 pub record IsRunText (m : Machine) (v : List ℕ) : Type 0 where
@@ -126,6 +154,10 @@ IsWritable (stmt.Connect n) = IsName n × (list_all in_line n ≡ true)
 IsWritable (stmt.Grant object rights who option) = IsObject object × AreRights object rights × IsGrantee who
 IsWritable (stmt.Revoke object rights who) = IsObject object × AreRights object rights × IsGrantee who
 IsWritable (stmt.GrantRole role member grantor admin inherit may_set) = IsName role × IsName member × IsGrantor grantor
+IsWritable (stmt.Comment object text) = IsCommented object × IsGivenText text
+IsWritable (stmt.CreateRole n) = IsName n
+IsWritable (stmt.AlterRole n changes) = IsName n × AreChanges changes
+IsWritable (stmt.CreateDatabase n encoding) = IsName n
 IsWritable _ = ⊥
 
 abbrev pub AllWritable : List Stmt → Type 0

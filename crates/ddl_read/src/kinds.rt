@@ -11,6 +11,7 @@ use crate::tables::{create_domain, create_enum, create_table, named_check};
 use crate::values::set_value;
 use cat_model::{CheckDef, Owned, QName, Stmt};
 use copy_text::Name;
+use ddl_admin::{alter_role, comment_on, create_database, create_role};
 use ddl_parts::{Pieces, ReadError, qualified_name};
 use ddl_rights::{granted, revoked};
 use std::alloc::Global;
@@ -43,6 +44,14 @@ fn created(alloc: Global, pieces: &Pieces<'_>, at: usize) -> Result<(Stmt, usize
     if pieces.is_word(at, "table") {
         let at = pieces.word(at, "table")?;
         return create_table(alloc, pieces, at);
+    }
+    if pieces.is_word(at, "role") {
+        let at = pieces.word(at, "role")?;
+        return create_role(alloc, pieces, at);
+    }
+    if pieces.is_word(at, "database") {
+        let at = pieces.word(at, "database")?;
+        return create_database(alloc, pieces, at);
     }
     created_relation(alloc, pieces, at)
 }
@@ -134,9 +143,13 @@ fn altered(alloc: Global, pieces: &Pieces<'_>, at: usize) -> Result<(Stmt, usize
         let ((q, role), at) = path_and_owner(alloc, pieces, at)?;
         return Ok((owner_to(Owned::View(q), role), at));
     }
-    let at = pieces.word(at, "database")?;
-    let ((name, role), at) = name_and_owner(alloc, pieces, at)?;
-    Ok((owner_to(Owned::Database(name), role), at))
+    if pieces.is_word(at, "database") {
+        let at = pieces.word(at, "database")?;
+        let ((name, role), at) = name_and_owner(alloc, pieces, at)?;
+        return Ok((owner_to(Owned::Database(name), role), at));
+    }
+    let at = pieces.word(at, "role")?;
+    alter_role(alloc, pieces, at)
 }
 
 #[tactic(auto, unfolding(crate::specs::Grammar::set_config))]
@@ -217,8 +230,12 @@ fn command(alloc: Global, pieces: &Pieces<'_>, at: usize) -> Result<(Stmt, usize
         let at = pieces.word(at, "grant")?;
         return granted(alloc, pieces, at);
     }
-    let at = pieces.word(at, "revoke")?;
-    revoked(alloc, pieces, at)
+    if pieces.is_word(at, "revoke") {
+        let at = pieces.word(at, "revoke")?;
+        return revoked(alloc, pieces, at);
+    }
+    let at = pieces.word(at, "comment")?;
+    comment_on(alloc, pieces, at)
 }
 
 /// The statement at the front of the tokens; an empty one is None.

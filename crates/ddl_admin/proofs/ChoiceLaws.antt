@@ -1,0 +1,131 @@
+-- Parts that may be left out have the laws of a part, one before another.
+use Rattle.std.proofs.Common.{◌≡◌, ℕ, Bool, true, false, ◌||◌, List, [], ◌∷◌, ◌++◌, Option, Some, None, refl, sym, ap, ◌∙◌, ◌⊎◌, inl, inr}
+use Rattle.std.proofs.lemmas.Bool.{or_parts}
+use Rattle.std.specs.Str.{str_eq_ignore_ascii_case}
+use Rattle.ddl_parts.specs.Lexemes.{Lexeme, is_word, starts}
+use Rattle.ddl_parts.specs.Parts.{Part, mark, seen, choose, nothing, wider, ◌▸◌}
+use Rattle.ddl_parts.specs.Laws.{Lawful, Begins, Apart, Avoids}
+use Rattle.ddl_parts.proofs.Steps.{starts_neither, starts_apart, starts-append}
+use Rattle.ddl_parts.proofs.Simple.{seen_laws, seen_begins, mark_laws, mark_begins, nothing_laws, wider_laws}
+use Rattle.ddl_parts.proofs.Sequence.{then_laws, lead_begins}
+use Rattle.ddl_parts.proofs.Choice.{choose_laws}
+use Rattle.ddl_parts.proofs.Leads.{a_word, word_is, word_laws, word_avoids, choose_avoids}
+use Rattle.ddl_admin.specs.Choices.{any_word, clause, said, flag, ◌before◌}
+use Rattle.ddl_admin.proofs.Telling.{nothing_avoids_some, all_differ, words_differ, any-append}
+
+-- A part that may be left out: what spells it is nothing or begins with one of the key words, and no other token goes on.
+pub record IsOptional {A : Type 0} (keys : List (List ℕ)) (p : Part A) : Type 0 where
+  pub laws : Lawful p
+  pub skips : (v : A) (ts : List Lexeme) → p.Spells v ts → (ts ≡ []) ⊎ (starts (any_word keys) ts ≡ true)
+  pub only : (t : Lexeme) → any_word keys t ≡ false → p.goes_on t ≡ false
+
+starts_more : (test other : Lexeme → Bool) → ((t : Lexeme) → test t ≡ true → other t ≡ true) → (ts : List Lexeme) → starts test ts ≡ true → starts other ts ≡ true
+starts_more test other more [] e = absurd cc
+starts_more test other more (t ∷ ts) e = more t e
+
+or_first : (a b : Bool) → a ≡ true → (a || b) ≡ true
+or_first true b e = refl
+or_first false b e = absurd cc
+
+or_second : (a b : Bool) → b ≡ true → (a || b) ≡ true
+or_second true b e = refl
+or_second false b e = e
+
+any_first : (keys others : List (List ℕ)) (t : Lexeme) → any_word keys t ≡ true → any_word (keys ++ others) t ≡ true
+any_first keys others t e = any-append keys others t ∙ or_first (any_word keys t) (any_word others t) e
+
+any_second : (keys others : List (List ℕ)) (t : Lexeme) → any_word others t ≡ true → any_word (keys ++ others) t ≡ true
+any_second keys others t e = any-append keys others t ∙ or_second (any_word keys t) (any_word others t) e
+
+-- one before another, where their key words differ
+pub before_is : {A B : Type 0} (keys others : List (List ℕ)) (p : Part A) (q : Part B) → IsOptional keys p → IsOptional others q → all_differ others keys ≡ true → IsOptional (keys ++ others) (p before q)
+before_is {A} {B} keys others p q hp hq differ = record { laws = then_laws p (wider p.goes_on q) hp.laws (wider_laws p.goes_on q hq.laws) avoids; skips = skips; only = only }
+  where
+    apart : Apart (any_word others) p.goes_on
+    apart t e = hp.only t (words_differ others keys differ t e)
+
+    avoids_by : (ts rest : List Lexeme) → (ts ≡ []) ⊎ (starts (any_word others) ts ≡ true) → starts p.goes_on rest ≡ false → starts p.goes_on (ts ++ rest) ≡ false
+    avoids_by ts rest (inl none) free = ap (λ (x : List Lexeme). starts p.goes_on (x ++ rest)) none ∙ free
+    avoids_by ts rest (inr begins) free = starts_apart (any_word others) p.goes_on (ts ++ rest) apart (starts-append (any_word others) ts rest begins)
+
+    avoids : Avoids p.goes_on (wider p.goes_on q)
+    avoids v ts rest spells free = avoids_by ts rest (hq.skips v ts spells) (starts_neither q.goes_on p.goes_on rest free).1
+
+    skips_by : (ts a b : List Lexeme) → ts ≡ a ++ b → (a ≡ []) ⊎ (starts (any_word keys) a ≡ true) → (b ≡ []) ⊎ (starts (any_word others) b ≡ true) → (ts ≡ []) ⊎ (starts (any_word (keys ++ others)) ts ≡ true)
+    skips_by ts a b parts (inr begins) behind =
+        inr (ap (starts (any_word (keys ++ others))) parts ∙ starts-append (any_word (keys ++ others)) a b (starts_more (any_word keys) (any_word (keys ++ others)) (any_first keys others) a begins))
+    skips_by ts a b parts (inl none) (inl more) = inl (parts ∙ ap (λ (x : List Lexeme). x ++ b) none ∙ more)
+    skips_by ts a b parts (inl none) (inr begins) =
+        inr (ap (starts (any_word (keys ++ others))) (parts ∙ ap (λ (x : List Lexeme). x ++ b) none) ∙ starts_more (any_word others) (any_word (keys ++ others)) (any_second keys others) b begins)
+
+    skips : (v : A × B) (ts : List Lexeme) → (p before q).Spells v ts → (ts ≡ []) ⊎ (starts (any_word (keys ++ others)) ts ≡ true)
+    skips v ts spells = skips_by ts spells.0 spells.1 spells.2 (hp.skips v.0 spells.0 spells.3) (hq.skips v.1 spells.1 spells.4)
+
+    only : (t : Lexeme) → any_word (keys ++ others) t ≡ false → (p before q).goes_on t ≡ false
+    only t e =
+        let h = or_parts (any_word keys t) (any_word others t) (sym (any-append keys others t) ∙ e) in
+        ap (λ (b : Bool). b || p.goes_on t) (hq.only t h.1) ∙ hp.only t h.0
+
+pub seen_is : {A B : Type 0} (keys : List (List ℕ)) (f : A → B) (p : Part A) → IsOptional keys p → IsOptional keys (seen f p)
+seen_is keys f p h = record { laws = seen_laws f p h.laws; skips = λ w ts spells. h.skips spells.0 ts spells.2; only = h.only }
+
+-- ---- a part behind a key word
+
+one_key : (key : List ℕ) (t : Lexeme) → is_word key t ≡ true → any_word (key ∷ []) t ≡ true
+one_key key t e = or_first (is_word key t) false e
+
+no_key : (key : List ℕ) (keys : List (List ℕ)) (t : Lexeme) → any_word (key ∷ keys) t ≡ false → is_word key t ≡ false
+no_key key keys t e = (or_parts (is_word key t) (any_word keys t) e).0
+
+pub clause_is : {A : Type 0} (key : List ℕ) (p : Part A) → Lawful p → ((t : Lexeme) → p.goes_on t ≡ false) → IsOptional (key ∷ []) (clause key p)
+clause_is {A} key p lp free = record { laws = laws; skips = skips; only = λ t e. ap (λ (b : Bool). b || any_word (key ∷ []) t) (free t) ∙ e }
+  where
+    begins : Begins (is_word key) (seen Some (is_word key ▸ p))
+    begins = seen_begins (is_word key) Some (is_word key ▸ p) (lead_begins (is_word key) p)
+
+    laws : Lawful (clause key p)
+    laws = choose_laws (is_word key) (seen Some (is_word key ▸ p)) (nothing (any_word (key ∷ [])) None) (seen_laws Some (is_word key ▸ p) (word_laws key p lp)) (nothing_laws (any_word (key ∷ [])) None) begins
+        (nothing_avoids_some (any_word (key ∷ [])) (is_word key) None (no_key key []))
+
+    skips : (v : Option A) (ts : List Lexeme) → (clause key p).Spells v ts → (ts ≡ []) ⊎ (starts (any_word (key ∷ [])) ts ≡ true)
+    skips v ts (inl h) = inr (starts_more (is_word key) (any_word (key ∷ [])) (one_key key) ts (begins v ts h))
+    skips v ts (inr h) = inl h.1
+
+-- ---- a key word, or another that denies it
+
+pub flag_is : (key denial : List ℕ) → str_eq_ignore_ascii_case denial key ≡ false → IsOptional (key ∷ denial ∷ []) (flag key denial)
+flag_is key denial differ = record { laws = laws; skips = skips; only = λ t e. e }
+  where
+    first_begins : Begins (is_word key) (seen (said true) (mark (is_word key)))
+    first_begins = seen_begins (is_word key) (said true) (mark (is_word key)) (mark_begins (is_word key))
+
+    second_begins : Begins (is_word denial) (seen (said false) (mark (is_word denial)))
+    second_begins = seen_begins (is_word denial) (said false) (mark (is_word denial)) (mark_begins (is_word denial))
+
+    no_denial : (t : Lexeme) → any_word (key ∷ denial ∷ []) t ≡ false → is_word denial t ≡ false
+    no_denial t e = no_key denial [] t (or_parts (is_word key t) (any_word (denial ∷ []) t) e).1
+
+    second_laws : Lawful (choose (is_word denial) (seen (said false) (mark (is_word denial))) (nothing (any_word (key ∷ denial ∷ [])) None))
+    second_laws = choose_laws (is_word denial) (seen (said false) (mark (is_word denial))) (nothing (any_word (key ∷ denial ∷ [])) None)
+        (seen_laws (said false) (mark (is_word denial)) (mark_laws (is_word denial) (a_word denial) (word_is denial))) (nothing_laws (any_word (key ∷ denial ∷ [])) None) second_begins
+        (nothing_avoids_some (any_word (key ∷ denial ∷ [])) (is_word denial) None no_denial)
+
+    second_avoids : Avoids (is_word key) (choose (is_word denial) (seen (said false) (mark (is_word denial))) (nothing (any_word (key ∷ denial ∷ [])) None))
+    second_avoids = choose_avoids (is_word key) (is_word denial) (seen (said false) (mark (is_word denial))) (nothing (any_word (key ∷ denial ∷ [])) None)
+        (word_avoids key denial (seen (said false) (mark (is_word denial))) differ second_begins)
+        (nothing_avoids_some (any_word (key ∷ denial ∷ [])) (is_word key) None (no_key key (denial ∷ [])))
+
+    laws : Lawful (flag key denial)
+    laws = choose_laws (is_word key) (seen (said true) (mark (is_word key))) (choose (is_word denial) (seen (said false) (mark (is_word denial))) (nothing (any_word (key ∷ denial ∷ [])) None))
+        (seen_laws (said true) (mark (is_word key)) (mark_laws (is_word key) (a_word key) (word_is key))) second_laws first_begins second_avoids
+
+    is_key : (t : Lexeme) → is_word key t ≡ true → any_word (key ∷ denial ∷ []) t ≡ true
+    is_key t e = or_first (is_word key t) (any_word (denial ∷ []) t) e
+
+    is_denial : (t : Lexeme) → is_word denial t ≡ true → any_word (key ∷ denial ∷ []) t ≡ true
+    is_denial t e = or_second (is_word key t) (any_word (denial ∷ []) t) (one_key denial t e)
+
+    skips : (v : Option Bool) (ts : List Lexeme) → (flag key denial).Spells v ts → (ts ≡ []) ⊎ (starts (any_word (key ∷ denial ∷ [])) ts ≡ true)
+    skips v ts (inl h) = inr (starts_more (is_word key) (any_word (key ∷ denial ∷ [])) is_key ts (first_begins v ts h))
+    skips v ts (inr (inl h)) = inr (starts_more (is_word denial) (any_word (key ∷ denial ∷ [])) is_denial ts (second_begins v ts h))
+    skips v ts (inr (inr h)) = inl h.1

@@ -1,0 +1,165 @@
+-- Options that are dropped, and the encoding, as they are read.
+use Rattle.std.proofs.Common.{◌≡◌, ℕ, Bool, true, false, cond, not, ◌&&◌, ◌||◌, List, [], ◌∷◌, Some, None, Result, Ok, Err, bytes_eq, drop, refl, ap, ◌∙◌, codes}
+use Rattle.std.specs.Str.{str_to_ascii_lowercase}
+use Rattle.std.proofs.lemmas.Slice.Eq.{bytes_eq-Decides}
+use Rattle.sql_lex.specs.declared.token.TokenKind.{TokenKind}
+use Rattle.sql_lex.specs.declared.token.TokenKind.TheVariants.{Word, QuotedName, Literal, Number, Sign, MetaLine}
+use Rattle.sql_lex.specs.Meaning.{is_keyword_of}
+use Rattle.cat_model.specs.declared.constraint.Encoding.{Encoding}
+use Rattle.cat_model.specs.declared.constraint.Encoding.TheVariants.{Utf8}
+use Rattle.ddl_parts.specs.Lexemes.{Lexeme, is_word, is_sign, starts}
+use Rattle.ddl_parts.specs.Leaves.{digits_of, number_first, literal, literal_value, is_name, is_literal}
+use Rattle.ddl_parts.specs.Types.{is_word_kind, is_number, is_number_kind}
+use Rattle.ddl_parts.specs.Parts.{Stop, Reading, stop, first_by, seen_at, mark, many, ◌▸◌, ◌>>=◌}
+use Rattle.ddl_parts.specs.Laws.{Lawful, Begins}
+use Rattle.ddl_parts.specs.declared.fault.ReadError.{ReadError}
+use Rattle.ddl_parts.specs.declared.fault.ReadError.TheVariants.{Halted, Memory}
+use Rattle.ddl_parts.specs.Pieces.{Fails, halted}
+use Rattle.ddl_parts.proofs.Steps.{gives}
+use Rattle.ddl_parts.proofs.Simple.{mark_laws, seen_laws}
+use Rattle.ddl_parts.proofs.Sequence.{lead_laws, lead_begins}
+use Rattle.ddl_parts.proofs.Leads.{a_word, a_literal, sign_laws}
+use Rattle.ddl_parts.proofs.Repeated.{AreApart, many_laws}
+use Rattle.ddl_parts.proofs.Items.{items_from, from_item, from_stop, from_none}
+use Rattle.ddl_admin.specs.Choices.{any_word}
+use Rattle.ddl_admin.specs.Databases.{word_first, is_bare, own_options, is_option, is_value, further, furthering, furthers, utf8_in, utf8_value, utf8}
+
+-- ---- bare words
+
+self_by : (k : TokenKind) (w : List ℕ) → is_keyword_of k w w ≡ is_word_kind k
+unfolding is_keyword_of
+self_by Word w = (bytes_eq-Decides (str_to_ascii_lowercase w) (str_to_ascii_lowercase w)).1 refl
+self_by QuotedName w = refl
+self_by Literal w = refl
+self_by Number w = refl
+self_by (Sign c) w = refl
+self_by MetaLine w = refl
+
+-- a token is a bare word where it is the key word that is spelled as it is
+pub bare_is : (ts : List Lexeme) (w : List ℕ) → Some w ≡ word_first ts → starts (is_word w) ts ≡ starts is_bare ts
+unfolding is_word is_bare
+bare_is [] w e = refl
+bare_is (t ∷ ts) w e = let same : w ≡ t.word = cc in ap (λ (x : List ℕ). is_keyword_of t.kind t.word x) same ∙ self_by t.kind t.word
+
+pub no_bare : (ts : List Lexeme) → None ≡ word_first ts → starts is_bare ts ≡ false
+no_bare [] e = refl
+no_bare (t ∷ ts) e = absurd cc
+
+-- ---- tests of the first token
+
+pub option_starts : (ts : List Lexeme) → starts is_option ts ≡ (not (starts (any_word own_options) ts) && starts is_bare ts)
+unfolding is_option
+option_starts [] = refl
+option_starts (t ∷ ts) = refl
+
+pub some_number : (ts : List Lexeme) (w : List ℕ) → Some w ≡ number_first ts → starts is_number ts ≡ true
+unfolding is_number
+some_number [] w e = absurd cc
+some_number (t ∷ ts) w e = by t.kind t.word e
+  where
+    by : (k : TokenKind) (v : List ℕ) → Some w ≡ digits_of k v → is_number_kind k ≡ true
+    by Number v e = refl
+    by Word v e = absurd cc
+    by QuotedName v e = absurd cc
+    by Literal v e = absurd cc
+    by (Sign c) v e = absurd cc
+    by MetaLine v e = absurd cc
+
+pub no_number : (ts : List Lexeme) → None ≡ number_first ts → starts is_number ts ≡ false
+unfolding is_number
+no_number [] e = refl
+no_number (t ∷ ts) e = by t.kind t.word e
+  where
+    by : (k : TokenKind) (v : List ℕ) → None ≡ digits_of k v → is_number_kind k ≡ false
+    by Number v e = absurd cc
+    by Word v e = refl
+    by QuotedName v e = refl
+    by Literal v e = refl
+    by (Sign c) v e = refl
+    by MetaLine v e = refl
+
+pub value_starts : (ts : List Lexeme) → starts is_value ts ≡ (starts is_name ts || (starts is_literal ts || starts is_number ts))
+unfolding is_value
+value_starts [] = refl
+value_starts (t ∷ ts) = refl
+
+-- ---- a further option
+
+option_begun : is_option (a_word (codes "owner")) ≡ true
+unfolding is_option is_bare is_word is_keyword_of
+option_begun = refl
+
+value_is : is_value a_literal ≡ true
+unfolding is_value is_name is_literal is_number
+value_is = refl
+
+pub further_laws : Lawful further
+unfolding further
+further_laws =
+    lead_laws is_option (a_word (codes "owner")) (is_sign 61 ▸ mark is_value) option_begun (sign_laws 61 (mark is_value) (mark_laws is_value a_literal value_is))
+
+further_begins : Begins is_option further
+unfolding further
+further_begins = lead_begins is_option (is_sign 61 ▸ mark is_value)
+
+never_on : (t : Lexeme) → further.goes_on t ≡ false
+unfolding further
+never_on t = refl
+
+pub furthers_apart : AreApart is_option furthering
+furthers_apart = record {
+  laws = λ s. further_laws;
+  begins = λ s. further_begins;
+  apart = λ s v t e. never_on t;
+  covers = λ s t e. (e, never_on t);
+}
+
+pub furthers_laws : Lawful furthers
+unfolding furthers
+furthers_laws = seen_laws (λ options. tt) (many is_option furthering) (many_laws is_option furthering furthers_apart)
+
+-- ---- a loop over further options
+
+abbrev dropped : List (Unit {0}) → Unit {0}
+dropped options = tt
+
+one_dropped : (v : Unit {0}) (r : Reading (List (Unit {0}))) → seen_at dropped (r >>= λ others. gives (v ∷ others.0) others.1) ≡ seen_at dropped r
+one_dropped v (Ok x) = refl
+one_dropped v (Err s) = refl
+
+pub goes_by : (ts : List Lexeme) (at next : ℕ) → starts is_option (drop at ts) ≡ true → further.read (drop at ts) ≡ Ok (tt, drop next ts) → furthers.read (drop at ts) ≡ furthers.read (drop next ts)
+unfolding furthers
+goes_by ts at next begins e =
+    ap (seen_at dropped) (from_item is_option furthering furthers_apart tt (drop at ts) tt (drop next ts) begins e) ∙ one_dropped tt (items_from furthering tt (drop next ts))
+
+pub ends_at : (ts : List Lexeme) (at : ℕ) → starts is_option (drop at ts) ≡ false → furthers.read (drop at ts) ≡ Ok (tt, drop at ts)
+unfolding furthers
+ends_at ts at none = ap (seen_at dropped) (from_none furthering tt (drop at ts) none)
+
+pub stops_by : (ts : List Lexeme) (at : ℕ) (s : Stop) → starts is_option (drop at ts) ≡ true → further.read (drop at ts) ≡ Err s → furthers.read (drop at ts) ≡ Err s
+unfolding furthers
+stops_by ts at s begins e = ap (seen_at dropped) (from_stop furthering tt (drop at ts) s begins e)
+
+pub fails_by : (whole : Reading (Unit {0})) (ts : List Lexeme) (at : ℕ) (error : ReadError) → whole ≡ furthers.read (drop at ts) → starts is_option (drop at ts) ≡ true → Fails ts error (further.read (drop at ts)) → Fails ts error whole
+fails_by whole ts at Memory same begins e = tt
+fails_by whole ts at (Halted h) same begins e = same ∙ stops_by ts at (halted ts h) begins e
+
+-- ---- the encoding
+
+abbrev utf8_by : List Lexeme → Reading (List ℕ) → Reading Encoding
+utf8_by ts (Ok x) = cond (bytes_eq x.0 (codes "UTF8")) (Ok (Utf8, x.1)) (stop ts)
+utf8_by ts (Err s) = Err s
+
+-- a literal is read, and then its text is tried
+pub utf8_read : (ts : List Lexeme) → utf8.read ts ≡ utf8_by ts (literal.read ts)
+unfolding utf8_value
+utf8_read [] = refl
+utf8_read (t ∷ ts) = by (literal_value t)
+  where
+    by_text : (text : List ℕ) (b : Bool) → first_by t ts (cond b (Ok Utf8) (Err false)) ≡ cond b (Ok (Utf8, ts)) (stop (t ∷ ts))
+    by_text text true = refl
+    by_text text false = refl
+
+    by : (r : Result (List ℕ) Bool) → first_by t ts (utf8_in r) ≡ utf8_by (t ∷ ts) (first_by t ts r)
+    by (Ok text) = by_text text (bytes_eq text (codes "UTF8"))
+    by (Err long) = refl

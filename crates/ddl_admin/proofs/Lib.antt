@@ -1,0 +1,9 @@
+pub mod Places
+pub mod DigitParsing
+pub mod Further
+pub mod Telling
+pub mod ChoiceLaws
+pub mod NumberLaws
+pub mod CommentLaws
+pub mod RoleLaws
+pub mod DatabaseLaws

@@ -1,0 +1,106 @@
+-- Tokens that are told apart: key words, signs and numbers.
+use Rattle.std.proofs.Common.{◌≡◌, ℕ, Bool, true, false, not, ◌&&◌, ◌||◌, List, [], ◌∷◌, ◌++◌, refl, sym, ap, ◌∙◌}
+use Rattle.std.proofs.lemmas.Bool.{and_parts, not-true}
+use Rattle.std.specs.Str.{str_eq_ignore_ascii_case}
+use Rattle.sql_lex.specs.declared.token.TokenKind.{TokenKind}
+use Rattle.sql_lex.specs.declared.token.TokenKind.TheVariants.{Word, QuotedName, Literal, Number, Sign, MetaLine}
+use Rattle.sql_lex.specs.Meaning.{is_keyword_of}
+use Rattle.ddl_parts.specs.Lexemes.{Lexeme, is_word, is_sign, is_sign_kind, never, starts}
+use Rattle.ddl_parts.specs.Laws.{Apart, Avoids}
+use Rattle.ddl_parts.specs.Leaves.{is_literal, is_literal_kind}
+use Rattle.ddl_parts.specs.Parts.{nothing}
+use Rattle.ddl_parts.specs.Types.{is_number, is_number_kind, is_word_kind}
+use Rattle.ddl_parts.proofs.Leads.{words_apart}
+use Rattle.ddl_admin.specs.Choices.{any_word}
+
+-- what goes on with no token is followed by anything
+pub free : (test : Lexeme → Bool) → Apart test never
+free test t e = refl
+
+sign_no_word_by : (k : TokenKind) (w key : List ℕ) (b : ℕ) → is_sign_kind b k ≡ true → (is_keyword_of k w key ≡ false) × (is_word_kind k ≡ false)
+unfolding is_keyword_of
+sign_no_word_by (Sign c) w key b e = (refl, refl)
+sign_no_word_by Word w key b e = absurd cc
+sign_no_word_by QuotedName w key b e = absurd cc
+sign_no_word_by Literal w key b e = absurd cc
+sign_no_word_by Number w key b e = absurd cc
+sign_no_word_by MetaLine w key b e = absurd cc
+
+pub sign_no_word : (b : ℕ) (key : List ℕ) → Apart (is_sign b) (is_word key)
+unfolding is_sign is_word
+sign_no_word b key t e = (sign_no_word_by t.kind t.word key b e).0
+
+pub sign_not_bare : (b : ℕ) (t : Lexeme) → is_sign b t ≡ true → is_word_kind t.kind ≡ false
+unfolding is_sign
+sign_not_bare b t e = (sign_no_word_by t.kind t.word [] b e).1
+
+pub number_no_sign : (b : ℕ) → Apart is_number (is_sign b)
+unfolding is_number is_sign
+number_no_sign b t e = by t.kind e
+  where
+    by : (k : TokenKind) → is_number_kind k ≡ true → is_sign_kind b k ≡ false
+    by Number e = refl
+    by Word e = absurd cc
+    by QuotedName e = absurd cc
+    by Literal e = absurd cc
+    by (Sign c) e = absurd cc
+    by MetaLine e = absurd cc
+
+literal_no_word_by : (k : TokenKind) (w key : List ℕ) → is_literal_kind k ≡ true → is_keyword_of k w key ≡ false
+unfolding is_keyword_of
+literal_no_word_by Literal w key e = refl
+literal_no_word_by Word w key e = absurd cc
+literal_no_word_by QuotedName w key e = absurd cc
+literal_no_word_by Number w key e = absurd cc
+literal_no_word_by (Sign c) w key e = absurd cc
+literal_no_word_by MetaLine w key e = absurd cc
+
+pub literal_no_word : (key : List ℕ) → Apart is_literal (is_word key)
+unfolding is_literal is_word
+literal_no_word key t e = literal_no_word_by t.kind t.word key e
+
+pub nothing_avoids_some : {A : Type 0} (more test : Lexeme → Bool) (v : A) → ((t : Lexeme) → more t ≡ false → test t ≡ false) → Avoids test (nothing more v)
+nothing_avoids_some more test v none w ts rest spells free = ap (λ (f : List Lexeme). starts test (f ++ rest)) spells.1 ∙ by rest free
+  where
+    by : (us : List Lexeme) → starts more us ≡ false → starts test us ≡ false
+    by [] e = refl
+    by (u ∷ us) e = none u e
+
+-- ---- one of several key words
+
+abbrev differs : List ℕ → List (List ℕ) → Bool
+differs key [] = true
+differs key (other ∷ more) = not (str_eq_ignore_ascii_case key other) && differs key more
+
+-- no word of one list is one of the other
+abbrev pub all_differ : List (List ℕ) → List (List ℕ) → Bool
+all_differ [] others = true
+all_differ (key ∷ keys) others = differs key others && all_differ keys others
+
+none_of : (key : List ℕ) (others : List (List ℕ)) → differs key others ≡ true → (t : Lexeme) → is_word key t ≡ true → any_word others t ≡ false
+none_of key [] d t e = refl
+none_of key (other ∷ more) d t e =
+    let h = and_parts (not (str_eq_ignore_ascii_case key other)) (differs key more) d in
+    ap (λ (b : Bool). b || any_word more t) (words_apart key other (not-true _ h.0) t e) ∙ none_of key more h.1 t e
+
+pub words_differ : (keys others : List (List ℕ)) → all_differ keys others ≡ true → Apart (any_word keys) (any_word others)
+words_differ [] others d t e = absurd cc
+words_differ (key ∷ keys) others d t e =
+    let h = and_parts (differs key others) (all_differ keys others) d in
+    by (is_word key t) refl (words_differ keys others h.1 t)
+  where
+    by : (b : Bool) → is_word key t ≡ b → (any_word keys t ≡ true → any_word others t ≡ false) → any_word others t ≡ false
+    by true is later = none_of key others (and_parts (differs key others) (all_differ keys others) d).0 t is
+    by false is later = later (ap (λ (c : Bool). c || any_word keys t) (sym is) ∙ e)
+
+or_grouped : (a b c : Bool) → (a || (b || c)) ≡ ((a || b) || c)
+or_grouped true b c = refl
+or_grouped false b c = refl
+
+pub any-append : (keys others : List (List ℕ)) (t : Lexeme) → any_word (keys ++ others) t ≡ (any_word keys t || any_word others t)
+any-append [] others t = refl
+any-append (key ∷ keys) others t = ap (λ (b : Bool). is_word key t || b) (any-append keys others t) ∙ or_grouped (is_word key t) (any_word keys t) (any_word others t)
+
+pub sign_no_words : (b : ℕ) (keys : List (List ℕ)) → Apart (is_sign b) (any_word keys)
+sign_no_words b [] t e = refl
+sign_no_words b (key ∷ keys) t e = ap (λ (c : Bool). c || any_word keys t) (sign_no_word b key t e) ∙ sign_no_words b keys t e

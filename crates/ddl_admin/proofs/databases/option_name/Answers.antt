@@ -1,0 +1,11 @@
+use Rattle.std.proofs.Common.{◌≡◌, true, drop, sym, ◌∙◌, arith}
+use Rattle.ddl_parts.specs.Lexemes.{starts}
+use Rattle.ddl_admin.specs.Databases.{is_option}
+use Rattle.ddl_admin.proofs.Places.{token_at, mark_is}
+use Rattle.ddl_admin.proofs.databases.option_name.Goals as goal
+
+pub returns-then-named : goal.returns-then-named
+returns-then-named c =
+    let ts = c.args.pieces.now in
+    let begins : starts is_option (drop c.args.at ts) ≡ true = sym c.in_ok-named.ensures ∙ c.if-named.true in
+    mark_is is_option ts c.args.at (token_at ts c.args.at (omega (arith, c.if-at-len.false, c.len.ensures))) begins

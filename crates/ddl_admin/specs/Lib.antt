@@ -1,0 +1,5 @@
+pub mod Choices
+pub mod Numbers
+pub mod Comments
+pub mod Roles
+pub mod Databases

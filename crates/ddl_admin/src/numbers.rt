@@ -1,0 +1,94 @@
+//! Whole numbers.
+ghost use Rattle.std.specs.Prelude.{◌≡◌, ◌<◌, ◌^◌, ◌+◌, length, drop, IfSome, IfOk};
+ghost use Rattle.std.specs.List.{list_all};
+ghost use Rattle.sql_lex.specs.Bytes.{is_digit};
+ghost use Rattle.ddl_parts.specs.Pieces.{GivesPart};
+ghost use Rattle.ddl_admin.specs.Numbers.{digits_below, count_first, count, opposite, whole_number};
+
+use ddl_parts::{Halt, Pieces, ReadError};
+
+/// One more than the greatest number.
+const LIMIT: u64 = 1 << 63;
+
+#[tactic(auto, unfolding(sql_lex::specs::Bytes::is_digit))]
+fn is_digit(byte: u8) -> bool
+    ensures { result ≡ is_digit byte }
+{
+    byte.is_ascii_digit()
+}
+
+fn are_digits(word: &[u8]) -> bool
+    ensures { result ≡ list_all is_digit word.now }
+{
+    word.iter().all(|byte| is_digit(*byte))
+}
+
+/// The number of digits, where it is below a limit.
+#[tactic(auto, unfolding(crate::specs::Numbers::digits_below))]
+fn digits_below(word: &[u8], limit: u64) -> Option<u64>
+    requires some { 0 < length word.now }
+    ensures exact { result ≡ digits_below limit word.now }
+    ensures low { IfSome result (λ n. n < limit) }
+{
+    if !are_digits(word) {
+        return None;
+    }
+    let Ok(text) = str::from_utf8(word) else {
+        return None;
+    };
+    match text.parse::<u64>() {
+        Ok(number) if number < limit => Some(number),
+        _ => None,
+    }
+}
+
+/// The number at a place, where it is below a limit.
+fn count_first(pieces: &Pieces<'_>, at: usize, limit: u64) -> Option<u64>
+    ensures exact { result ≡ count_first limit (drop at pieces.now) }
+    ensures low { IfSome result (λ n. n < limit) }
+{
+    match pieces.number(at) {
+        Some(word) => digits_below(word, limit),
+        None => None,
+    }
+}
+
+/// The number with a minus sign.
+fn opposite(number: u64) -> i64
+    requires { number < 2 ^ 63 + 1 }
+    ensures { result ≡ opposite number }
+{
+    if number == 0 {
+        0
+    } else {
+        -1 - (number - 1) as i64
+    }
+}
+
+/// The number at a place, where it is below a limit, and the place behind it.
+fn count(pieces: &Pieces<'_>, at: usize, limit: u64) -> Result<(u64, usize), ReadError>
+    ensures exact { GivesPart pieces.now (λ n. n) result ((count limit).read (drop at pieces.now)) }
+    ensures low { IfOk result (λ x. x.0 < limit) }
+{
+    if at >= pieces.len() {
+        return Err(ReadError::Halted(Halt { long: false, at }));
+    }
+    match count_first(pieces, at, limit) {
+        Some(number) => Ok((number, at + 1)),
+        None => Err(ReadError::Halted(Halt { long: false, at })),
+    }
+}
+
+/// The whole number at a place, and the place behind it.
+#[tactic(auto, unfolding(crate::specs::Numbers::whole_number))]
+pub(crate) fn whole_number(pieces: &Pieces<'_>, at: usize) -> Result<(i64, usize), ReadError>
+    ensures { GivesPart pieces.now (λ n. n) result (whole_number.read (drop at pieces.now)) }
+{
+    if pieces.is_sign(at, b'-') {
+        let at = pieces.sign(at, b'-')?;
+        let (number, at) = count(pieces, at, LIMIT + 1)?;
+        return Ok((opposite(number), at));
+    }
+    let (number, at) = count(pieces, at, LIMIT)?;
+    Ok((number as i64, at))
+}
