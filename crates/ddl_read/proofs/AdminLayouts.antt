@@ -37,7 +37,9 @@ use Rattle.ddl_read.specs.Respelling.{IsPath, IsInt, IsCommented, IsGivenText, I
 use Rattle.ddl_read.proofs.Standing.{is_safe_byte}
 use Rattle.ddl_read.proofs.Tokens.{Gap, none, space}
 use Rattle.ddl_read.proofs.Putting.{begins_by, parts_words, Follows, IsPut, IsKey, IsWrittenSign, behind, begun, begun_whole, safe_parts, put_as, word_put, name_put, literal_put, then_put, seen_put, close_put, nothing_put, word_lead, sign_lead, name_lead, path_lead}
-use Rattle.ddl_read.proofs.SequenceNumbers.{count_by, count_value as read_value, whole_number as read_number, number_put}
+use Rattle.ddl_read.specs.SequenceGrammar.{digits_below as read_below}
+use Rattle.ddl_read.specs.ValueGrammar.{count_value as read_value, whole_number as read_number}
+use Rattle.ddl_read.proofs.SequenceNumbers.{number_put}
 use Rattle.ddl_read.proofs.Layouts.{schema_key, type_key, domain_key, table_key, sequence_key, view_key, constraint_key, dot_sign, ended}
 
 -- ---- key words
@@ -390,21 +392,9 @@ a_clause key w p v text h begins puts = record {
 
 -- ---- numbers
 
-told_same : (limit n : ℕ) (w : List ℕ) (b : Bool) → cond b (Ok (digits_value 10 w)) (Err false) ≡ (let r : Result ℕ Bool = Ok n in r) → counted (cond b (Some (digits_value 10 w)) None) ≡ Ok n
-told_same limit n w true e = e
-told_same limit n w false e = absurd cc
-
 value_same : (limit : ℕ) (t : Lexeme) (n : ℕ) → read_value limit t ≡ Ok n → count_value limit t ≡ Ok n
-unfolding read_value count_value digits_below
-value_same limit t n e = by t.kind t.word e
-  where
-    by : (k : TokenKind) (w : List ℕ) → count_by limit k w ≡ Ok n → counted (option_and_then (digits_below limit) (digits_of k w)) ≡ Ok n
-    by Number w e = told_same limit n w (list_all is_digit w && nat_lt (digits_value 10 w) limit) e
-    by Word w e = absurd cc
-    by QuotedName w e = absurd cc
-    by Literal w e = absurd cc
-    by (Sign b) w e = absurd cc
-    by MetaLine w e = absurd cc
+unfolding read_value count_value digits_below read_below
+value_same limit t n e = e
 
 number_same : (z : ℤ) (ts : List Lexeme) → read_number.Spells z ts → whole_number.Spells z ts
 unfolding read_number whole_number

@@ -85,7 +85,7 @@ told_err limit fault (Err s) f e = (s, refl, sym (let is : fault_of limit fault 
 
 -- nothing goes on with a statement
 left_free : (ts : List Lexeme) → starts statement.goes_on ts ≡ false
-unfolding statement command created altered set_config truth set_value selected setting create_schema create_enum create_domain create_table altered_domain domain_change new_check name_and_owner path_and_owner new_owner added new_default own_change table_change behind_only altered_table altered_sequence sequence_change owned_by create_view replace_view create_index create_unique_index index_parts create_sequence copy_from granted revoked create_role alter_role create_database comment_on commented_object name_remarked path_remarked column_remarked constraint_remarked
+unfolding statement command created altered set_config truth set_value selected setting create_schema create_enum create_domain create_table altered_domain domain_change new_check name_and_owner path_and_owner new_owner added new_default own_change table_change behind_only altered_table altered_sequence sequence_change owned_by create_view replace_view create_index create_unique_index index_parts create_sequence copy_from granted revoked create_role alter_role create_database comment_on commented_object name_remarked path_remarked column_remarked constraint_remarked remark_end
 left_free [] = refl
 left_free (t ∷ ts) = refl
 

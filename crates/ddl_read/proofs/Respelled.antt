@@ -89,7 +89,6 @@ can_be_written g (stmt.Comment object text) gap is = record { text = _; spells =
 can_be_written g (stmt.CreateRole n) gap is = record { text = _; spells = refl; lies = by_tokens _ _ (role_laid_out g n gap is) (λ t end. refl) }
 can_be_written g (stmt.AlterRole n changes) gap is = record { text = _; spells = refl; lies = by_tokens _ _ (changes_laid_out g n changes gap is.0 is.1) (λ t end. refl) }
 can_be_written g (stmt.CreateDatabase n encoding) gap is = record { text = _; spells = refl; lies = by_tokens _ _ (database_laid_out g n encoding gap is) (λ t end. refl) }
-can_be_written g _ gap is = absurd is
 
 -- ---- where nothing is left
 

@@ -158,7 +158,6 @@ IsWritable (stmt.Comment object text) = IsCommented object × IsGivenText text
 IsWritable (stmt.CreateRole n) = IsName n
 IsWritable (stmt.AlterRole n changes) = IsName n × AreChanges changes
 IsWritable (stmt.CreateDatabase n encoding) = IsName n
-IsWritable _ = ⊥
 
 abbrev pub AllWritable : List Stmt → Type 0
 AllWritable [] = Unit {0}
