@@ -1,25 +1,24 @@
 -- What is read of COMMENT ON, CREATE ROLE, ALTER ROLE and CREATE DATABASE can be written.
-use Rattle.std.proofs.Common.{◌≡◌, ℕ, zero, suc, ◌+◌, ◌<◌, ◌^◌, ℤ, pos, Bool, true, false, cond, ◌&&◌, List, Option, Some, None, Result, Ok, Err, refl, sym, subst, arith, ◌⊎◌, inl, inr, option_and_then, codes}
+use Rattle.std.proofs.Common.{◌≡◌, ℕ, zero, suc, ◌+◌, ◌<◌, ◌^◌, pos, Bool, true, false, cond, ◌&&◌, List, [], ◌∷◌, Option, Some, None, Ok, refl, sym, subst, arith, option_and_then, codes}
 use Rattle.std.specs.Prelude.{nat_lt}
 use Rattle.std.specs.List.{list_all}
 use Rattle.std.specs.Str.{IsUtf8}
 use Rattle.std.specs.Str.Parse.{digits_value}
 use Rattle.std.proofs.lemmas.Bool.{lt-ltb, ltb-true}
 use Rattle.sql_lex.specs.Bytes.{is_digit}
-use Rattle.copy_text.specs.Texts.{IsName, IsText}
+use Rattle.copy_text.specs.Texts.{IsName}
 use Rattle.cat_model.specs.declared.object.QName.{QName}
 use Rattle.cat_model.specs.declared.constraint.Encoding.{Encoding}
 use Rattle.cat_model.specs.declared.grant.Commented.{Commented}
 use Rattle.cat_model.specs.declared.grant.Commented.TheVariants as commented
-use Rattle.cat_model.specs.declared.stmt.Stmt.{Stmt}
 use Rattle.cat_model.specs.declared.stmt.Stmt.TheVariants as stmt
-use Rattle.ddl_parts.specs.Lexemes.{Lexeme, is_word, is_sign}
+use Rattle.ddl_parts.specs.Lexemes.{is_word, is_sign}
 use Rattle.ddl_parts.specs.Leaves.{name, literal, qualified, digits_of}
-use Rattle.ddl_parts.specs.Parts.{Part, mark, seen, nothing, wider, ◌then◌, ◌▸◌, ◌◂◌}
+use Rattle.ddl_parts.specs.Parts.{Part, mark, seen, nothing, wider, ◌▸◌, ◌◂◌}
 use Rattle.ddl_admin.specs.Choices.{any_word, clause, ◌before◌}
 use Rattle.ddl_admin.specs.Numbers.{digits_below, counted, count_value, count, opposite, whole_number}
 use Rattle.ddl_admin.specs.Comments.{remark, remark_end, name_remarked, path_remarked, column_remarked, constraint_remarked, on_path, on_schema, on_column, on_constraint, on_others, commented_object, comment_on}
-use Rattle.ddl_admin.specs.Roles.{Settings, Flags, create_role, role_flags, role_settings, changes_by, role_changes, alter_role}
+use Rattle.ddl_admin.specs.Roles.{Settings, create_role, role_flags, role_settings, role_changes, alter_role}
 use Rattle.ddl_admin.specs.Databases.{options, create_database}
 use Rattle.ddl_read.specs.Clauses.{semicolon}
 use Rattle.ddl_read.specs.Respelling.{IsPath, IsInt, IsCommented, IsGivenText, IsLimit, AreChanges, IsWritable}

@@ -1324,6 +1324,129 @@ const LINES: &[(&str, &str)] = &[
     ("COPY a.b FROM stdin; SET a = 1;", "Unknown(21)"),
     ("COPY a.b FROM stdin; -- x\n\\.\n", "Unknown(21)"),
     ("COPY a.b FROM stdin;\x0c\n\\.\n", "Unknown(20)"),
+/// Comments, roles and databases.
+const ADMINISTRATION: &[(&str, &str)] = &[
+    (
+        "COMMENT ON SEQUENCE a.m IS 'hi';",
+        "0..32 COMMENT ON SEQUENCE a.m IS 'hi';\n",
+    ),
+    ("COMMENT ON SE", "Unknown(11)"),
+    (
+        "COMMENT ON SCHEMA a IS 'hi';",
+        "0..28 COMMENT ON SCHEMA a IS 'hi';\n",
+    ),
+    ("COMMENT ON ", "Incomplete(11)"),
+    (
+        "COMMENT ON DOMAIN public.u IS 'hi';",
+        "0..35 COMMENT ON DOMAIN public.u IS 'hi';\n",
+    ),
+    ("COMMENT ON DOMAIN public.u IS", "Incomplete(29)"),
+    (
+        "COMMENT ON TYPE public.m IS '';",
+        "0..31 COMMENT ON TYPE public.m IS '';\n",
+    ),
+    ("COMMENT ON TYPE public.m IS '' x;", "Unknown(31)"),
+    (
+        "COMMENT ON COLUMN a.v.x IS 'hi';",
+        "0..32 COMMENT ON COLUMN a.v.x IS 'hi';\n",
+    ),
+    ("COMMENT ON COLUM 'q'N a.v.x IS 'hi';", "Unknown(11)"),
+    (
+        "CREATE DATABASE k WITH TEMPLATE = template0;",
+        "0..44 CREATE DATABASE k WITH TEMPLATE = template0;\n",
+    ),
+    ("CREATE DATABASE k WITH ", "Incomplete(23)"),
+    (
+        "COMMENT ON SEQUENCE public.v IS 'hi';",
+        "0..37 COMMENT ON SEQUENCE public.v IS 'hi';\n",
+    ),
+    ("COMMENT ON", "Incomplete(10)"),
+    (
+        "COMMENT ON INDEX a.t IS 'hi';",
+        "0..29 COMMENT ON INDEX a.t IS 'hi';\n",
+    ),
+    ("COMMENT ON IND", "Unknown(11)"),
+    (
+        "COMMENT ON DOMAIN a.t IS 'hi';",
+        "0..30 COMMENT ON DOMAIN a.t IS 'hi';\n",
+    ),
+    ("COMMENT ON DOMAIN a", "Incomplete(19)"),
+    (
+        "COMMENT ON COLUMN public.k.y IS 'hi';",
+        "0..37 COMMENT ON COLUMN public.k.y IS 'hi';\n",
+    ),
+    ("COMMENT ON COLUMN public.k.y ) IS 'hi';", "Unknown(29)"),
+    (
+        "COMMENT ON CONSTRAINT n ON public.k IS '';",
+        "0..42 COMMENT ON CONSTRAINT n ON public.k IS '';\n",
+    ),
+    ("COMMENT ON CONSTRAINT n ON p", "Incomplete(28)"),
+    (
+        "COMMENT ON SCHEMA a IS '';",
+        "0..26 COMMENT ON SCHEMA a IS '';\n",
+    ),
+    ("COMMENT ON SCHEMA a IS", "Incomplete(22)"),
+    (
+        "CREATE ROLE eve; ALTER ROLE eve WITH NOLOGIN CONNECTION LIMIT -1;",
+        "0..16 CREATE ROLE eve;\n17..65 ALTER ROLE eve WITH NOLOGIN CONNECTION LIMIT -1;\n",
+    ),
+    ("ALTER ROLE r WITH LOGIN SUPERUSER;", "Unknown(24)"),
+    (
+        "COMMENT ON CONSTRAINT c ON DOMAIN a.b IS 'x';",
+        "Unknown(34)",
+    ),
+    (
+        "CREATE DATABASE k WITH TEMPLATE = template0 X = 1 ENCODING = 'UTF8' ENCODING = 'UTF8';",
+        "Unknown(68)",
+    ),
+];
+
+const RIGHTS: &[(&str, &str)] = &[
+    ("GRANT postgres TO postgres;", "0..27 GRANT postgres TO postgres WITH ADMIN FALSE, SET TRUE;\n"),
+    ("GRANT postgres TO postgr", "Incomplete(24)"),
+    ("GRANT eve TO postgres WITH INHERIT FALSE GRANTED BY bob;", "0..56 GRANT eve TO postgres WITH ADMIN FALSE, INHERIT FALSE, SET TRUE GRANTED BY bob;\n"),
+    ("GRANT eve TO po", "Incomplete(15)"),
+    ("REVOKE ALL ON TABLE public.m FROM bob;", "0..38 REVOKE ALL ON TABLE public.m FROM bob;\n"),
+    ("REVOKE ALL ", "Incomplete(11)"),
+    ("GRANT ALL ON SEQUENCE public.n TO postgres;", "0..43 GRANT ALL ON SEQUENCE public.n TO postgres;\n"),
+    ("GRANT ALL ON SEQUEN 7CE public.n TO postgres;", "Unknown(13)"),
+    ("GRANT eve TO postgres WITH ADMIN OPTION GRANTED BY eve;", "0..55 GRANT eve TO postgres WITH ADMIN TRUE, SET TRUE GRANTED BY eve;\n"),
+    ("GR", "Unknown(0)"),
+    ("GRANT postgres TO postgres WITH ADMIN OPTION;", "0..45 GRANT postgres TO postgres WITH ADMIN TRUE, SET TRUE;\n"),
+    ("GRANT postgres TO postg", "Incomplete(23)"),
+    ("GRANT REFERENCES,SELECT,DELETE,TRIGGER,UPDATE,INSERT,TRUNCATE ON TABLE a.n TO eve WITH GRANT OPTION;", "0..100 GRANT ALL ON TABLE a.n TO eve WITH GRANT OPTION;\n"),
+    ("GRANT REFERENCES,SELECT,DELETE,TRIGGER,UPDATE,INSERT,TRUNCATE ON TABLE a.n TO ev )e WITH GRANT OPTION;", "Unknown(81)"),
+    ("GRANT bob TO eve WITH INHERIT FALSE GRANTED BY bob;", "0..51 GRANT bob TO eve WITH ADMIN FALSE, INHERIT FALSE, SET TRUE GRANTED BY bob;\n"),
+    ("GRANT bob TO eve WITH", "Incomplete(21)"),
+    ("REVOKE ALL ON SCHEMA public FROM PUBLIC;", "0..40 REVOKE ALL ON SCHEMA public FROM PUBLIC;\n"),
+    (",REVOKE ALL ON SCHEMA public FROM PUBLIC;", "Unknown(0)"),
+    ("REVOKE USAGE ON TYPE public.n FROM postgres;", "0..44 REVOKE ALL ON TYPE public.n FROM postgres;\n"),
+    ("REVOKE USAGE ON TYPE pu", "Incomplete(23)"),
+    ("GRANT ALL ON TYPE a.t TO eve;", "0..29 GRANT ALL ON TYPE a.t TO eve;\n"),
+];
+
+const RIGHTS_2: &[(&str, &str)] = &[
+    ("GRANT ALL ON TYPE a.", "Incomplete(20)"),
+    ("REVOKE TRUNCATE,TRIGGER,DELETE,SELECT,REFERENCES,UPDATE,INSERT ON TABLE public.u FROM postgres;", "0..95 REVOKE ALL ON TABLE public.u FROM postgres;\n"),
+    ("REVOKE TRUNCATE,TRIGGER,DELETE,SELECT,REFERENCES,UPDATE,INSERT", "Incomplete(62)"),
+    ("REVOKE CREATE,USAGE ON SCHEMA public FROM bob;", "0..46 REVOKE ALL ON SCHEMA public FROM bob;\n"),
+    ("REVOKE CREATE,USAGE ON SCHEMA public F", "Unknown(37)"),
+    ("GRANT ALL ON TYPE a.m TO PUBLIC;", "0..32 GRANT ALL ON TYPE a.m TO PUBLIC;\n"),
+    ("GRANT A 'q'LL ON TYPE a.m TO PUBLIC;", "Unknown(8)"),
+    ("GRANT eve TO bob;", "0..17 GRANT eve TO bob WITH ADMIN FALSE, SET TRUE;\n"),
+    ("GRA", "Unknown(0)"),
+    ("GRANT UPDATE,SELECT,USAGE ON SEQUENCE a.t TO PUBLIC;", "0..52 GRANT ALL ON SEQUENCE a.t TO PUBLIC;\n"),
+    ("GRANT UPDATE,SELECT,USAGE ON SEQ 'q'UENCE a.t TO PUBLIC;", "Unknown(29)"),
+    ("GRANT bob TO bob WITH INHERIT FALSE GRANTED BY bob;", "0..51 GRANT bob TO bob WITH ADMIN FALSE, INHERIT FALSE, SET TRUE GRANTED BY bob;\n"),
+    ("GRANT bob TO bob WITH INHERIT FALSE ", "Incomplete(36)"),
+    ("REVOKE ALL ON TYPE public.k FROM PUBLIC;", "0..40 REVOKE ALL ON TYPE public.k FROM PUBLIC;\n"),
+    ("REVOKE ALL ON TYPE public.k FROM PUBL", "Incomplete(37)"),
+    ("REVOKE CREATE ON SCHEMA public FROM eve;", "0..40 REVOKE CREATE ON SCHEMA public FROM eve;\n"),
+    ("REVOK 'q'E CREATE ON SCHEMA public FROM eve;", "Unknown(0)"),
+    ("GRANT ALL ON SCHEMA a TO postgres;", "0..34 GRANT ALL ON SCHEMA a TO postgres;\n"),
+    ("GRANT ALL ON SCHEMA a TO  NOT NULLpostgres;", "Unknown(30)"),
+    ("REVOKE USAGE ON TYPE a.m FROM PUBLIC;", "0..37 REVOKE ALL ON TYPE a.m FROM PUBLIC;\n"),
+    ("REVOKE USAGE ON TYPE a.m FROM PUBL", "Incomplete(34)"),
 ];
 
 fn told(alloc: Global, text: &str) -> Result<String, AllocError> {
@@ -1353,6 +1476,15 @@ fn spelled(alloc: Global, statements: &[Located]) -> Result<String, AllocError> 
 #[test]
 fn schemas_owners_and_settings_are_read(rt: HostRuntime) -> Result<(), Fail> {
     for (text, want) in OTHERS {
+        let got = told(rt.alloc(), text).ok().ok_or("memory")?;
+        assert_eq!(rt; got.as_str(), *want);
+    }
+    Ok(())
+}
+
+#[test]
+fn comments_roles_and_databases_are_read(rt: HostRuntime) -> Result<(), Fail> {
+    for (text, want) in ADMINISTRATION {
         let got = told(rt.alloc(), text).ok().ok_or("memory")?;
         assert_eq!(rt; got.as_str(), *want);
     }
@@ -1461,6 +1593,24 @@ fn copies_are_read_2(rt: HostRuntime) -> Result<(), Fail> {
 #[test]
 fn lines_with_a_backslash_are_read(rt: HostRuntime) -> Result<(), Fail> {
     for (text, want) in LINES {
+        let got = told(rt.alloc(), text).ok().ok_or("memory")?;
+        assert_eq!(rt; got.as_str(), *want);
+    }
+    Ok(())
+}
+
+#[test]
+fn rights_are_granted_and_revoked(rt: HostRuntime) -> Result<(), Fail> {
+    for (text, want) in RIGHTS {
+        let got = told(rt.alloc(), text).ok().ok_or("memory")?;
+        assert_eq!(rt; got.as_str(), *want);
+    }
+    Ok(())
+}
+
+#[test]
+fn rights_are_granted_and_revoked_2(rt: HostRuntime) -> Result<(), Fail> {
+    for (text, want) in RIGHTS_2 {
         let got = told(rt.alloc(), text).ok().ok_or("memory")?;
         assert_eq!(rt; got.as_str(), *want);
     }
