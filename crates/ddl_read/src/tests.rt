@@ -1,4 +1,5 @@
 use super::*;
+use cat_model::Stmt;
 use ddl_write::write_stmt;
 use std::alloc::{AllocError, Global};
 use std::process::Abort;
@@ -1324,6 +1325,8 @@ const LINES: &[(&str, &str)] = &[
     ("COPY a.b FROM stdin; SET a = 1;", "Unknown(21)"),
     ("COPY a.b FROM stdin; -- x\n\\.\n", "Unknown(21)"),
     ("COPY a.b FROM stdin;\x0c\n\\.\n", "Unknown(20)"),
+];
+
 /// Comments, roles and databases.
 const ADMINISTRATION: &[(&str, &str)] = &[
     (
@@ -1402,51 +1405,325 @@ const ADMINISTRATION: &[(&str, &str)] = &[
 ];
 
 const RIGHTS: &[(&str, &str)] = &[
-    ("GRANT postgres TO postgres;", "0..27 GRANT postgres TO postgres WITH ADMIN FALSE, SET TRUE;\n"),
+    (
+        "GRANT postgres TO postgres;",
+        "0..27 GRANT postgres TO postgres WITH ADMIN FALSE, SET TRUE;\n",
+    ),
     ("GRANT postgres TO postgr", "Incomplete(24)"),
-    ("GRANT eve TO postgres WITH INHERIT FALSE GRANTED BY bob;", "0..56 GRANT eve TO postgres WITH ADMIN FALSE, INHERIT FALSE, SET TRUE GRANTED BY bob;\n"),
+    (
+        "GRANT eve TO postgres WITH INHERIT FALSE GRANTED BY bob;",
+        "0..56 GRANT eve TO postgres WITH ADMIN FALSE, INHERIT FALSE, SET TRUE GRANTED BY bob;\n",
+    ),
     ("GRANT eve TO po", "Incomplete(15)"),
-    ("REVOKE ALL ON TABLE public.m FROM bob;", "0..38 REVOKE ALL ON TABLE public.m FROM bob;\n"),
+    (
+        "REVOKE ALL ON TABLE public.m FROM bob;",
+        "0..38 REVOKE ALL ON TABLE public.m FROM bob;\n",
+    ),
     ("REVOKE ALL ", "Incomplete(11)"),
-    ("GRANT ALL ON SEQUENCE public.n TO postgres;", "0..43 GRANT ALL ON SEQUENCE public.n TO postgres;\n"),
-    ("GRANT ALL ON SEQUEN 7CE public.n TO postgres;", "Unknown(13)"),
-    ("GRANT eve TO postgres WITH ADMIN OPTION GRANTED BY eve;", "0..55 GRANT eve TO postgres WITH ADMIN TRUE, SET TRUE GRANTED BY eve;\n"),
+    (
+        "GRANT ALL ON SEQUENCE public.n TO postgres;",
+        "0..43 GRANT ALL ON SEQUENCE public.n TO postgres;\n",
+    ),
+    (
+        "GRANT ALL ON SEQUEN 7CE public.n TO postgres;",
+        "Unknown(13)",
+    ),
+    (
+        "GRANT eve TO postgres WITH ADMIN OPTION GRANTED BY eve;",
+        "0..55 GRANT eve TO postgres WITH ADMIN TRUE, SET TRUE GRANTED BY eve;\n",
+    ),
     ("GR", "Unknown(0)"),
-    ("GRANT postgres TO postgres WITH ADMIN OPTION;", "0..45 GRANT postgres TO postgres WITH ADMIN TRUE, SET TRUE;\n"),
+    (
+        "GRANT postgres TO postgres WITH ADMIN OPTION;",
+        "0..45 GRANT postgres TO postgres WITH ADMIN TRUE, SET TRUE;\n",
+    ),
     ("GRANT postgres TO postg", "Incomplete(23)"),
-    ("GRANT REFERENCES,SELECT,DELETE,TRIGGER,UPDATE,INSERT,TRUNCATE ON TABLE a.n TO eve WITH GRANT OPTION;", "0..100 GRANT ALL ON TABLE a.n TO eve WITH GRANT OPTION;\n"),
-    ("GRANT REFERENCES,SELECT,DELETE,TRIGGER,UPDATE,INSERT,TRUNCATE ON TABLE a.n TO ev )e WITH GRANT OPTION;", "Unknown(81)"),
-    ("GRANT bob TO eve WITH INHERIT FALSE GRANTED BY bob;", "0..51 GRANT bob TO eve WITH ADMIN FALSE, INHERIT FALSE, SET TRUE GRANTED BY bob;\n"),
+    (
+        "GRANT REFERENCES,SELECT,DELETE,TRIGGER,UPDATE,INSERT,TRUNCATE ON TABLE a.n TO eve WITH GRANT OPTION;",
+        "0..100 GRANT ALL ON TABLE a.n TO eve WITH GRANT OPTION;\n",
+    ),
+    (
+        "GRANT REFERENCES,SELECT,DELETE,TRIGGER,UPDATE,INSERT,TRUNCATE ON TABLE a.n TO ev )e WITH GRANT OPTION;",
+        "Unknown(81)",
+    ),
+    (
+        "GRANT bob TO eve WITH INHERIT FALSE GRANTED BY bob;",
+        "0..51 GRANT bob TO eve WITH ADMIN FALSE, INHERIT FALSE, SET TRUE GRANTED BY bob;\n",
+    ),
     ("GRANT bob TO eve WITH", "Incomplete(21)"),
-    ("REVOKE ALL ON SCHEMA public FROM PUBLIC;", "0..40 REVOKE ALL ON SCHEMA public FROM PUBLIC;\n"),
+    (
+        "REVOKE ALL ON SCHEMA public FROM PUBLIC;",
+        "0..40 REVOKE ALL ON SCHEMA public FROM PUBLIC;\n",
+    ),
     (",REVOKE ALL ON SCHEMA public FROM PUBLIC;", "Unknown(0)"),
-    ("REVOKE USAGE ON TYPE public.n FROM postgres;", "0..44 REVOKE ALL ON TYPE public.n FROM postgres;\n"),
+    (
+        "REVOKE USAGE ON TYPE public.n FROM postgres;",
+        "0..44 REVOKE ALL ON TYPE public.n FROM postgres;\n",
+    ),
     ("REVOKE USAGE ON TYPE pu", "Incomplete(23)"),
-    ("GRANT ALL ON TYPE a.t TO eve;", "0..29 GRANT ALL ON TYPE a.t TO eve;\n"),
+    (
+        "GRANT ALL ON TYPE a.t TO eve;",
+        "0..29 GRANT ALL ON TYPE a.t TO eve;\n",
+    ),
 ];
 
 const RIGHTS_2: &[(&str, &str)] = &[
     ("GRANT ALL ON TYPE a.", "Incomplete(20)"),
-    ("REVOKE TRUNCATE,TRIGGER,DELETE,SELECT,REFERENCES,UPDATE,INSERT ON TABLE public.u FROM postgres;", "0..95 REVOKE ALL ON TABLE public.u FROM postgres;\n"),
-    ("REVOKE TRUNCATE,TRIGGER,DELETE,SELECT,REFERENCES,UPDATE,INSERT", "Incomplete(62)"),
-    ("REVOKE CREATE,USAGE ON SCHEMA public FROM bob;", "0..46 REVOKE ALL ON SCHEMA public FROM bob;\n"),
+    (
+        "REVOKE TRUNCATE,TRIGGER,DELETE,SELECT,REFERENCES,UPDATE,INSERT ON TABLE public.u FROM postgres;",
+        "0..95 REVOKE ALL ON TABLE public.u FROM postgres;\n",
+    ),
+    (
+        "REVOKE TRUNCATE,TRIGGER,DELETE,SELECT,REFERENCES,UPDATE,INSERT",
+        "Incomplete(62)",
+    ),
+    (
+        "REVOKE CREATE,USAGE ON SCHEMA public FROM bob;",
+        "0..46 REVOKE ALL ON SCHEMA public FROM bob;\n",
+    ),
     ("REVOKE CREATE,USAGE ON SCHEMA public F", "Unknown(37)"),
-    ("GRANT ALL ON TYPE a.m TO PUBLIC;", "0..32 GRANT ALL ON TYPE a.m TO PUBLIC;\n"),
+    (
+        "GRANT ALL ON TYPE a.m TO PUBLIC;",
+        "0..32 GRANT ALL ON TYPE a.m TO PUBLIC;\n",
+    ),
     ("GRANT A 'q'LL ON TYPE a.m TO PUBLIC;", "Unknown(8)"),
-    ("GRANT eve TO bob;", "0..17 GRANT eve TO bob WITH ADMIN FALSE, SET TRUE;\n"),
+    (
+        "GRANT eve TO bob;",
+        "0..17 GRANT eve TO bob WITH ADMIN FALSE, SET TRUE;\n",
+    ),
     ("GRA", "Unknown(0)"),
-    ("GRANT UPDATE,SELECT,USAGE ON SEQUENCE a.t TO PUBLIC;", "0..52 GRANT ALL ON SEQUENCE a.t TO PUBLIC;\n"),
-    ("GRANT UPDATE,SELECT,USAGE ON SEQ 'q'UENCE a.t TO PUBLIC;", "Unknown(29)"),
-    ("GRANT bob TO bob WITH INHERIT FALSE GRANTED BY bob;", "0..51 GRANT bob TO bob WITH ADMIN FALSE, INHERIT FALSE, SET TRUE GRANTED BY bob;\n"),
+    (
+        "GRANT UPDATE,SELECT,USAGE ON SEQUENCE a.t TO PUBLIC;",
+        "0..52 GRANT ALL ON SEQUENCE a.t TO PUBLIC;\n",
+    ),
+    (
+        "GRANT UPDATE,SELECT,USAGE ON SEQ 'q'UENCE a.t TO PUBLIC;",
+        "Unknown(29)",
+    ),
+    (
+        "GRANT bob TO bob WITH INHERIT FALSE GRANTED BY bob;",
+        "0..51 GRANT bob TO bob WITH ADMIN FALSE, INHERIT FALSE, SET TRUE GRANTED BY bob;\n",
+    ),
     ("GRANT bob TO bob WITH INHERIT FALSE ", "Incomplete(36)"),
-    ("REVOKE ALL ON TYPE public.k FROM PUBLIC;", "0..40 REVOKE ALL ON TYPE public.k FROM PUBLIC;\n"),
+    (
+        "REVOKE ALL ON TYPE public.k FROM PUBLIC;",
+        "0..40 REVOKE ALL ON TYPE public.k FROM PUBLIC;\n",
+    ),
     ("REVOKE ALL ON TYPE public.k FROM PUBL", "Incomplete(37)"),
-    ("REVOKE CREATE ON SCHEMA public FROM eve;", "0..40 REVOKE CREATE ON SCHEMA public FROM eve;\n"),
+    (
+        "REVOKE CREATE ON SCHEMA public FROM eve;",
+        "0..40 REVOKE CREATE ON SCHEMA public FROM eve;\n",
+    ),
     ("REVOK 'q'E CREATE ON SCHEMA public FROM eve;", "Unknown(0)"),
-    ("GRANT ALL ON SCHEMA a TO postgres;", "0..34 GRANT ALL ON SCHEMA a TO postgres;\n"),
+    (
+        "GRANT ALL ON SCHEMA a TO postgres;",
+        "0..34 GRANT ALL ON SCHEMA a TO postgres;\n",
+    ),
     ("GRANT ALL ON SCHEMA a TO  NOT NULLpostgres;", "Unknown(30)"),
-    ("REVOKE USAGE ON TYPE a.m FROM PUBLIC;", "0..37 REVOKE ALL ON TYPE a.m FROM PUBLIC;\n"),
+    (
+        "REVOKE USAGE ON TYPE a.m FROM PUBLIC;",
+        "0..37 REVOKE ALL ON TYPE a.m FROM PUBLIC;\n",
+    ),
     ("REVOKE USAGE ON TYPE a.m FROM PUBL", "Incomplete(34)"),
+];
+
+/// A statement of each kind as it is written.
+const EACH_KIND: &[(&str, &str)] = &[
+    ("Set", "SET search_path = a;\n"),
+    (
+        "SetConfig",
+        "SELECT pg_catalog.set_config('search_path', '', false);\n",
+    ),
+    ("CreateSchema", "CREATE SCHEMA a;\n"),
+    (
+        "CreateEnum",
+        "CREATE TYPE a.e AS ENUM (\n    'x',\n    'y'\n);\n",
+    ),
+    (
+        "CreateDomain",
+        "CREATE DOMAIN a.d AS integer NOT NULL DEFAULT 1\n\tCONSTRAINT c CHECK ((VALUE > 0));\n",
+    ),
+    (
+        "AddDomainCheck",
+        "ALTER DOMAIN a.d\n    ADD CONSTRAINT c2 CHECK ((VALUE < 9));\n",
+    ),
+    (
+        "CreateTable",
+        "CREATE TABLE a.t (\n    x integer DEFAULT 1 NOT NULL,\n    y a.e,\n    CONSTRAINT c CHECK ((x > 0))\n);\n",
+    ),
+    (
+        "CreateSequence",
+        "CREATE SEQUENCE a.s\n    AS integer\n    START WITH 1\n    INCREMENT BY 2\n    MINVALUE 0\n    MAXVALUE 9\n    CACHE 1\n    CYCLE;\n",
+    ),
+    ("OwnedBy", "ALTER SEQUENCE a.s OWNED BY a.t.x;\n"),
+    ("SetVal", "SELECT pg_catalog.setval('a.s', 3, true);\n"),
+    (
+        "CreateView",
+        "CREATE VIEW a.v AS\n SELECT t.x\n   FROM a.t;\n",
+    ),
+    (
+        "ReplaceView",
+        "CREATE OR REPLACE VIEW a.v AS\nSELECT\n    t.x\n   FROM a.t;\n",
+    ),
+    (
+        "SetDefault",
+        "ALTER TABLE ONLY a.t ALTER COLUMN x SET DEFAULT nextval('a.s'::regclass);\n",
+    ),
+    (
+        "AddPrimary",
+        "ALTER TABLE ONLY a.t\n    ADD CONSTRAINT p PRIMARY KEY (x, y);\n",
+    ),
+    (
+        "AddUnique",
+        "ALTER TABLE ONLY a.t\n    ADD CONSTRAINT u UNIQUE (y) DEFERRABLE INITIALLY DEFERRED;\n",
+    ),
+    (
+        "AddForeign",
+        "ALTER TABLE ONLY a.t\n    ADD CONSTRAINT f FOREIGN KEY (x) REFERENCES a.t(x) ON UPDATE CASCADE ON DELETE SET NULL;\n",
+    ),
+    (
+        "AddCheck",
+        "ALTER TABLE ONLY a.t\n    ADD CONSTRAINT k CHECK ((x > 1));\n",
+    ),
+    ("CreateIndex", "CREATE INDEX i ON a.t USING btree (x, y);\n"),
+    (
+        "CreateUniqueIndex",
+        "CREATE UNIQUE INDEX j ON a.t USING btree (y) WHERE (x > 0);\n",
+    ),
+    ("CopyRows", "COPY a.t (x, y) FROM stdin;\n1\tx\n\\.\n"),
+    (
+        "Grant",
+        "GRANT SELECT,INSERT ON TABLE a.t TO b WITH GRANT OPTION;\n",
+    ),
+    ("Revoke", "REVOKE ALL ON SCHEMA a FROM PUBLIC;\n"),
+    ("Comment", "COMMENT ON COLUMN a.t.x IS 'it''s';\n"),
+    ("OwnerTo", "ALTER TABLE a.t OWNER TO b;\n"),
+    ("CreateRole", "CREATE ROLE b;\n"),
+    (
+        "AlterRole",
+        "ALTER ROLE b WITH NOSUPERUSER INHERIT NOCREATEROLE NOCREATEDB LOGIN NOREPLICATION NOBYPASSRLS CONNECTION LIMIT 5 PASSWORD 'x' VALID UNTIL 'y';\n",
+    ),
+    (
+        "GrantRole",
+        "GRANT b TO c WITH ADMIN FALSE, INHERIT TRUE, SET TRUE GRANTED BY postgres;\n",
+    ),
+    (
+        "CreateDatabase",
+        "CREATE DATABASE d WITH TEMPLATE = template0 ENCODING = 'UTF8';\n",
+    ),
+    ("Connect", "\\connect d\n"),
+];
+
+/// What a reader also takes, and how it is written.
+const VARIANTS: &[(&str, &str)] = &[
+    ("\\restrict k\nset a to 1; ;", "SET a = 1;\n"),
+    (
+        "CREATE DOMAIN a.d AS text DEFAULT 'x' NOT NULL;",
+        "CREATE DOMAIN a.d AS text NOT NULL DEFAULT 'x';\n",
+    ),
+    (
+        "CREATE TABLE a.t (x text NOT NULL DEFAULT 'a');",
+        "CREATE TABLE a.t (\n    x text DEFAULT 'a' NOT NULL\n);\n",
+    ),
+    ("CREATE TABLE a.t ();", "CREATE TABLE a.t (\n);\n"),
+    (
+        "CREATE SEQUENCE a.s CYCLE CACHE 2 NO MAXVALUE INCREMENT BY -1;",
+        "CREATE SEQUENCE a.s\n    START WITH -1\n    INCREMENT BY -1\n    NO MINVALUE\n    NO MAXVALUE\n    CACHE 2\n    CYCLE;\n",
+    ),
+    (
+        "CREATE VIEW a.v AS SELECT 1 ;",
+        "CREATE VIEW a.v AS\n SELECT 1;\n",
+    ),
+    (
+        "ALTER TABLE a.t ADD CONSTRAINT u UNIQUE (\"Y\");",
+        "ALTER TABLE ONLY a.t\n    ADD CONSTRAINT u UNIQUE (\"Y\");\n",
+    ),
+    (
+        "ALTER TABLE a.t ALTER COLUMN x SET DEFAULT 1;",
+        "ALTER TABLE ONLY a.t ALTER COLUMN x SET DEFAULT 1;\n",
+    ),
+    (
+        "GRANT update , select,Select ON TABLE a.t TO \"public\";",
+        "GRANT SELECT,UPDATE ON TABLE a.t TO PUBLIC;\n",
+    ),
+    (
+        "GRANT CREATE,USAGE ON SCHEMA a TO b;",
+        "GRANT ALL ON SCHEMA a TO b;\n",
+    ),
+    (
+        "GRANT select TO c WITH ADMIN OPTION;",
+        "GRANT \"select\" TO c WITH ADMIN TRUE, SET TRUE;\n",
+    ),
+    (
+        "GRANT b TO c WITH INHERIT OPTION, SET FALSE;",
+        "GRANT b TO c WITH ADMIN FALSE, INHERIT TRUE, SET FALSE;\n",
+    ),
+    (
+        "CREATE DATABASE d WITH TEMPLATE = template0 LOCALE = 'C';",
+        "CREATE DATABASE d WITH TEMPLATE = template0;\n",
+    ),
+    (
+        "/* c */ COMMENT ON SCHEMA a IS NULL; -- d\n\\unrestrict k\n",
+        "COMMENT ON SCHEMA a IS NULL;\n",
+    ),
+    ("COPY a.t FROM stdin;\n1", "COPY a.t FROM stdin;\n1\n\\.\n"),
+];
+
+/// A fault in each kind.
+const FAULT_OF_EACH: &[(&str, &str)] = &[
+    ("SET x ;", "Unknown(6)"),
+    (
+        "SELECT pg_catalog.set_config('a', 'b', true);",
+        "Unknown(39)",
+    ),
+    ("CREATE SCHEMA 'a';", "Unknown(14)"),
+    ("CREATE TYPE a.e AS ENUM (x);", "Unknown(25)"),
+    ("CREATE DOMAIN a.d AS 'x';", "Unknown(21)"),
+    (
+        "ALTER DOMAIN a.d ADD CONSTRAINT c UNIQUE (x);",
+        "Unknown(34)",
+    ),
+    (
+        "CREATE TABLE a.t (x text, CONSTRAINT c CHECK (x), y text);",
+        "Unknown(50)",
+    ),
+    ("CREATE SEQUENCE a.s START 1;", "Unknown(26)"),
+    ("ALTER SEQUENCE a.s OWNED BY a.t;", "Unknown(31)"),
+    ("SELECT pg_catalog.setval('a.s', 1);", "Unknown(33)"),
+    ("CREATE VIEW a.v (x) AS SELECT 1;", "Unknown(16)"),
+    ("CREATE OR REPLACE TABLE a.t ();", "Unknown(18)"),
+    (
+        "ALTER TABLE a.t ALTER COLUMN c SET DEFAULT 1 NULL;",
+        "Unknown(45)",
+    ),
+    (
+        "ALTER TABLE a.t ADD CONSTRAINT p PRIMARY KEY ();",
+        "Unknown(46)",
+    ),
+    (
+        "ALTER TABLE a.t ADD CONSTRAINT u UNIQUE (x) INITIALLY DEFERRED;",
+        "Unknown(44)",
+    ),
+    (
+        "ALTER TABLE a.t ADD CONSTRAINT f FOREIGN KEY (x) REFERENCES a.t(x) ON DELETE CASCADE ON UPDATE CASCADE;",
+        "Unknown(88)",
+    ),
+    ("ALTER TABLE a.t ADD CONSTRAINT c CHECK ();", "Unknown(40)"),
+    ("CREATE INDEX i ON a.t (x);", "Unknown(22)"),
+    ("CREATE UNIQUE INDEX i ON a.t USING btree x;", "Unknown(41)"),
+    ("COPY a.t (x) FROM 'f';", "Unknown(18)"),
+    ("GRANT SELECT, CREATE ON TABLE a.t TO b;", "Unknown(14)"),
+    ("REVOKE USAGE ON TABLE a.t FROM b;", "Unknown(16)"),
+    ("COMMENT ON ROLE b IS 'x';", "Unknown(11)"),
+    ("ALTER TABLE a.t OWNER b;", "Unknown(22)"),
+    ("CREATE ROLE b LOGIN;", "Unknown(14)"),
+    ("ALTER ROLE b WITH LOGIN SUPERUSER;", "Unknown(24)"),
+    ("GRANT a TO b WITH SET TRUE, ADMIN FALSE;", "Unknown(28)"),
+    (
+        "CREATE DATABASE d WITH TEMPLATE = template0 ENCODING = 'LATIN1';",
+        "Unknown(55)",
+    ),
+    ("\\connect a b", "Unknown(0)"),
 ];
 
 fn told(alloc: Global, text: &str) -> Result<String, AllocError> {
@@ -1455,6 +1732,16 @@ fn told(alloc: Global, text: &str) -> Result<String, AllocError> {
         Err(ReadStmtsError::Fault(fault)) => format!(in alloc; "{fault:?}"),
         Err(ReadStmtsError::Memory) => Err(AllocError),
     }
+}
+
+/// The kind of a statement.
+fn kind(alloc: Global, stmt: &Stmt) -> Result<String, AllocError> {
+    let shown = format!(in alloc; "{stmt:?}")?;
+    let kind = match shown.as_str().split_once(' ') {
+        Some((kind, _)) => kind,
+        None => "",
+    };
+    format!(in alloc; "{kind}")
 }
 
 fn spelled(alloc: Global, statements: &[Located]) -> Result<String, AllocError> {
@@ -1611,6 +1898,59 @@ fn rights_are_granted_and_revoked(rt: HostRuntime) -> Result<(), Fail> {
 #[test]
 fn rights_are_granted_and_revoked_2(rt: HostRuntime) -> Result<(), Fail> {
     for (text, want) in RIGHTS_2 {
+        let got = told(rt.alloc(), text).ok().ok_or("memory")?;
+        assert_eq!(rt; got.as_str(), *want);
+    }
+    Ok(())
+}
+
+#[test]
+fn one_script_has_each_kind(rt: HostRuntime) -> Result<(), Fail> {
+    let alloc = rt.alloc();
+    let mut script = String::new(alloc);
+    for (_, text) in EACH_KIND {
+        script.push_str(text)?;
+    }
+    let statements = read_stmts(alloc, script.as_bytes())
+        .ok()
+        .ok_or("no reading")?;
+    assert_eq!(rt; statements.len(), EACH_KIND.len());
+    for (located, (name, text)) in statements.iter().zip(EACH_KIND) {
+        assert_eq!(rt; kind(alloc, &located.stmt)?.as_str(), *name);
+        let mut out = Vec::new(alloc);
+        write_stmt(&located.stmt, &mut out)
+            .ok()
+            .ok_or("no spelling")?;
+        assert_eq!(rt; out.as_slice(), text.as_bytes());
+    }
+    Ok(())
+}
+
+#[test]
+fn variants_are_read_in_one_script(rt: HostRuntime) -> Result<(), Fail> {
+    let alloc = rt.alloc();
+    let mut script = String::new(alloc);
+    for (text, _) in VARIANTS {
+        script.push_str(text)?;
+        script.push_str("\n")?;
+    }
+    let statements = read_stmts(alloc, script.as_bytes())
+        .ok()
+        .ok_or("no reading")?;
+    assert_eq!(rt; statements.len(), VARIANTS.len());
+    for (located, (_, text)) in statements.iter().zip(VARIANTS) {
+        let mut out = Vec::new(alloc);
+        write_stmt(&located.stmt, &mut out)
+            .ok()
+            .ok_or("no spelling")?;
+        assert_eq!(rt; out.as_slice(), text.as_bytes());
+    }
+    Ok(())
+}
+
+#[test]
+fn each_kind_has_its_first_fault(rt: HostRuntime) -> Result<(), Fail> {
+    for (text, want) in FAULT_OF_EACH {
         let got = told(rt.alloc(), text).ok().ok_or("memory")?;
         assert_eq!(rt; got.as_str(), *want);
     }
