@@ -1,5 +1,5 @@
 -- Grants that can be written: names are names, and the rights are some that the object has.
-use Rattle.std.specs.Prelude.{◌≡◌, ℕ, Bool, true, false, List, Option, Some, None, codes}
+use Rattle.std.specs.Prelude.{◌≡◌, ℕ, true, false, List, Option, Some, None, codes}
 use Rattle.copy_text.specs.Texts.{IsName}
 use Rattle.cat_model.specs.declared.grant.Rights.{Rights}
 use Rattle.cat_model.specs.declared.grant.Granted.{Granted}
