@@ -1530,73 +1530,184 @@ const RIGHTS_2: &[(&str, &str)] = &[
 /// A statement of each kind as it is written.
 const EACH_KIND: &[(&str, &str)] = &[
     ("Set", "SET search_path = a;\n"),
-    ("SetConfig", "SELECT pg_catalog.set_config('search_path', '', false);\n"),
+    (
+        "SetConfig",
+        "SELECT pg_catalog.set_config('search_path', '', false);\n",
+    ),
     ("CreateSchema", "CREATE SCHEMA a;\n"),
-    ("CreateEnum", "CREATE TYPE a.e AS ENUM (\n    'x',\n    'y'\n);\n"),
-    ("CreateDomain", "CREATE DOMAIN a.d AS integer NOT NULL DEFAULT 1\n\tCONSTRAINT c CHECK ((VALUE > 0));\n"),
-    ("AddDomainCheck", "ALTER DOMAIN a.d\n    ADD CONSTRAINT c2 CHECK ((VALUE < 9));\n"),
-    ("CreateTable", "CREATE TABLE a.t (\n    x integer DEFAULT 1 NOT NULL,\n    y a.e,\n    CONSTRAINT c CHECK ((x > 0))\n);\n"),
-    ("CreateSequence", "CREATE SEQUENCE a.s\n    AS integer\n    START WITH 1\n    INCREMENT BY 2\n    MINVALUE 0\n    MAXVALUE 9\n    CACHE 1\n    CYCLE;\n"),
+    (
+        "CreateEnum",
+        "CREATE TYPE a.e AS ENUM (\n    'x',\n    'y'\n);\n",
+    ),
+    (
+        "CreateDomain",
+        "CREATE DOMAIN a.d AS integer NOT NULL DEFAULT 1\n\tCONSTRAINT c CHECK ((VALUE > 0));\n",
+    ),
+    (
+        "AddDomainCheck",
+        "ALTER DOMAIN a.d\n    ADD CONSTRAINT c2 CHECK ((VALUE < 9));\n",
+    ),
+    (
+        "CreateTable",
+        "CREATE TABLE a.t (\n    x integer DEFAULT 1 NOT NULL,\n    y a.e,\n    CONSTRAINT c CHECK ((x > 0))\n);\n",
+    ),
+    (
+        "CreateSequence",
+        "CREATE SEQUENCE a.s\n    AS integer\n    START WITH 1\n    INCREMENT BY 2\n    MINVALUE 0\n    MAXVALUE 9\n    CACHE 1\n    CYCLE;\n",
+    ),
     ("OwnedBy", "ALTER SEQUENCE a.s OWNED BY a.t.x;\n"),
     ("SetVal", "SELECT pg_catalog.setval('a.s', 3, true);\n"),
-    ("CreateView", "CREATE VIEW a.v AS\n SELECT t.x\n   FROM a.t;\n"),
-    ("ReplaceView", "CREATE OR REPLACE VIEW a.v AS\nSELECT\n    t.x\n   FROM a.t;\n"),
-    ("SetDefault", "ALTER TABLE ONLY a.t ALTER COLUMN x SET DEFAULT nextval('a.s'::regclass);\n"),
-    ("AddPrimary", "ALTER TABLE ONLY a.t\n    ADD CONSTRAINT p PRIMARY KEY (x, y);\n"),
-    ("AddUnique", "ALTER TABLE ONLY a.t\n    ADD CONSTRAINT u UNIQUE (y) DEFERRABLE INITIALLY DEFERRED;\n"),
-    ("AddForeign", "ALTER TABLE ONLY a.t\n    ADD CONSTRAINT f FOREIGN KEY (x) REFERENCES a.t(x) ON UPDATE CASCADE ON DELETE SET NULL;\n"),
-    ("AddCheck", "ALTER TABLE ONLY a.t\n    ADD CONSTRAINT k CHECK ((x > 1));\n"),
+    (
+        "CreateView",
+        "CREATE VIEW a.v AS\n SELECT t.x\n   FROM a.t;\n",
+    ),
+    (
+        "ReplaceView",
+        "CREATE OR REPLACE VIEW a.v AS\nSELECT\n    t.x\n   FROM a.t;\n",
+    ),
+    (
+        "SetDefault",
+        "ALTER TABLE ONLY a.t ALTER COLUMN x SET DEFAULT nextval('a.s'::regclass);\n",
+    ),
+    (
+        "AddPrimary",
+        "ALTER TABLE ONLY a.t\n    ADD CONSTRAINT p PRIMARY KEY (x, y);\n",
+    ),
+    (
+        "AddUnique",
+        "ALTER TABLE ONLY a.t\n    ADD CONSTRAINT u UNIQUE (y) DEFERRABLE INITIALLY DEFERRED;\n",
+    ),
+    (
+        "AddForeign",
+        "ALTER TABLE ONLY a.t\n    ADD CONSTRAINT f FOREIGN KEY (x) REFERENCES a.t(x) ON UPDATE CASCADE ON DELETE SET NULL;\n",
+    ),
+    (
+        "AddCheck",
+        "ALTER TABLE ONLY a.t\n    ADD CONSTRAINT k CHECK ((x > 1));\n",
+    ),
     ("CreateIndex", "CREATE INDEX i ON a.t USING btree (x, y);\n"),
-    ("CreateUniqueIndex", "CREATE UNIQUE INDEX j ON a.t USING btree (y) WHERE (x > 0);\n"),
+    (
+        "CreateUniqueIndex",
+        "CREATE UNIQUE INDEX j ON a.t USING btree (y) WHERE (x > 0);\n",
+    ),
     ("CopyRows", "COPY a.t (x, y) FROM stdin;\n1\tx\n\\.\n"),
-    ("Grant", "GRANT SELECT,INSERT ON TABLE a.t TO b WITH GRANT OPTION;\n"),
+    (
+        "Grant",
+        "GRANT SELECT,INSERT ON TABLE a.t TO b WITH GRANT OPTION;\n",
+    ),
     ("Revoke", "REVOKE ALL ON SCHEMA a FROM PUBLIC;\n"),
     ("Comment", "COMMENT ON COLUMN a.t.x IS 'it''s';\n"),
     ("OwnerTo", "ALTER TABLE a.t OWNER TO b;\n"),
     ("CreateRole", "CREATE ROLE b;\n"),
-    ("AlterRole", "ALTER ROLE b WITH NOSUPERUSER INHERIT NOCREATEROLE NOCREATEDB LOGIN NOREPLICATION NOBYPASSRLS CONNECTION LIMIT 5 PASSWORD 'x' VALID UNTIL 'y';\n"),
-    ("GrantRole", "GRANT b TO c WITH ADMIN FALSE, INHERIT TRUE, SET TRUE GRANTED BY postgres;\n"),
-    ("CreateDatabase", "CREATE DATABASE d WITH TEMPLATE = template0 ENCODING = 'UTF8';\n"),
+    (
+        "AlterRole",
+        "ALTER ROLE b WITH NOSUPERUSER INHERIT NOCREATEROLE NOCREATEDB LOGIN NOREPLICATION NOBYPASSRLS CONNECTION LIMIT 5 PASSWORD 'x' VALID UNTIL 'y';\n",
+    ),
+    (
+        "GrantRole",
+        "GRANT b TO c WITH ADMIN FALSE, INHERIT TRUE, SET TRUE GRANTED BY postgres;\n",
+    ),
+    (
+        "CreateDatabase",
+        "CREATE DATABASE d WITH TEMPLATE = template0 ENCODING = 'UTF8';\n",
+    ),
     ("Connect", "\\connect d\n"),
 ];
 
 /// What a reader also takes, and how it is written.
 const VARIANTS: &[(&str, &str)] = &[
     ("\\restrict k\nset a to 1; ;", "SET a = 1;\n"),
-    ("CREATE DOMAIN a.d AS text DEFAULT 'x' NOT NULL;", "CREATE DOMAIN a.d AS text NOT NULL DEFAULT 'x';\n"),
-    ("CREATE TABLE a.t (x text NOT NULL DEFAULT 'a');", "CREATE TABLE a.t (\n    x text DEFAULT 'a' NOT NULL\n);\n"),
+    (
+        "CREATE DOMAIN a.d AS text DEFAULT 'x' NOT NULL;",
+        "CREATE DOMAIN a.d AS text NOT NULL DEFAULT 'x';\n",
+    ),
+    (
+        "CREATE TABLE a.t (x text NOT NULL DEFAULT 'a');",
+        "CREATE TABLE a.t (\n    x text DEFAULT 'a' NOT NULL\n);\n",
+    ),
     ("CREATE TABLE a.t ();", "CREATE TABLE a.t (\n);\n"),
-    ("CREATE SEQUENCE a.s CYCLE CACHE 2 NO MAXVALUE INCREMENT BY -1;", "CREATE SEQUENCE a.s\n    START WITH -1\n    INCREMENT BY -1\n    NO MINVALUE\n    NO MAXVALUE\n    CACHE 2\n    CYCLE;\n"),
-    ("CREATE VIEW a.v AS SELECT 1 ;", "CREATE VIEW a.v AS\n SELECT 1;\n"),
-    ("ALTER TABLE a.t ADD CONSTRAINT u UNIQUE (\"Y\");", "ALTER TABLE ONLY a.t\n    ADD CONSTRAINT u UNIQUE (\"Y\");\n"),
-    ("ALTER TABLE a.t ALTER COLUMN x SET DEFAULT 1;", "ALTER TABLE ONLY a.t ALTER COLUMN x SET DEFAULT 1;\n"),
-    ("GRANT update , select,Select ON TABLE a.t TO \"public\";", "GRANT SELECT,UPDATE ON TABLE a.t TO PUBLIC;\n"),
-    ("GRANT CREATE,USAGE ON SCHEMA a TO b;", "GRANT ALL ON SCHEMA a TO b;\n"),
-    ("GRANT select TO c WITH ADMIN OPTION;", "GRANT \"select\" TO c WITH ADMIN TRUE, SET TRUE;\n"),
-    ("GRANT b TO c WITH INHERIT OPTION, SET FALSE;", "GRANT b TO c WITH ADMIN FALSE, INHERIT TRUE, SET FALSE;\n"),
-    ("CREATE DATABASE d WITH TEMPLATE = template0 LOCALE = 'C';", "CREATE DATABASE d WITH TEMPLATE = template0;\n"),
-    ("/* c */ COMMENT ON SCHEMA a IS NULL; -- d\n\\unrestrict k\n", "COMMENT ON SCHEMA a IS NULL;\n"),
+    (
+        "CREATE SEQUENCE a.s CYCLE CACHE 2 NO MAXVALUE INCREMENT BY -1;",
+        "CREATE SEQUENCE a.s\n    START WITH -1\n    INCREMENT BY -1\n    NO MINVALUE\n    NO MAXVALUE\n    CACHE 2\n    CYCLE;\n",
+    ),
+    (
+        "CREATE VIEW a.v AS SELECT 1 ;",
+        "CREATE VIEW a.v AS\n SELECT 1;\n",
+    ),
+    (
+        "ALTER TABLE a.t ADD CONSTRAINT u UNIQUE (\"Y\");",
+        "ALTER TABLE ONLY a.t\n    ADD CONSTRAINT u UNIQUE (\"Y\");\n",
+    ),
+    (
+        "ALTER TABLE a.t ALTER COLUMN x SET DEFAULT 1;",
+        "ALTER TABLE ONLY a.t ALTER COLUMN x SET DEFAULT 1;\n",
+    ),
+    (
+        "GRANT update , select,Select ON TABLE a.t TO \"public\";",
+        "GRANT SELECT,UPDATE ON TABLE a.t TO PUBLIC;\n",
+    ),
+    (
+        "GRANT CREATE,USAGE ON SCHEMA a TO b;",
+        "GRANT ALL ON SCHEMA a TO b;\n",
+    ),
+    (
+        "GRANT select TO c WITH ADMIN OPTION;",
+        "GRANT \"select\" TO c WITH ADMIN TRUE, SET TRUE;\n",
+    ),
+    (
+        "GRANT b TO c WITH INHERIT OPTION, SET FALSE;",
+        "GRANT b TO c WITH ADMIN FALSE, INHERIT TRUE, SET FALSE;\n",
+    ),
+    (
+        "CREATE DATABASE d WITH TEMPLATE = template0 LOCALE = 'C';",
+        "CREATE DATABASE d WITH TEMPLATE = template0;\n",
+    ),
+    (
+        "/* c */ COMMENT ON SCHEMA a IS NULL; -- d\n\\unrestrict k\n",
+        "COMMENT ON SCHEMA a IS NULL;\n",
+    ),
     ("COPY a.t FROM stdin;\n1", "COPY a.t FROM stdin;\n1\n\\.\n"),
 ];
 
 /// A fault in each kind.
 const FAULT_OF_EACH: &[(&str, &str)] = &[
     ("SET x ;", "Unknown(6)"),
-    ("SELECT pg_catalog.set_config('a', 'b', true);", "Unknown(39)"),
+    (
+        "SELECT pg_catalog.set_config('a', 'b', true);",
+        "Unknown(39)",
+    ),
     ("CREATE SCHEMA 'a';", "Unknown(14)"),
     ("CREATE TYPE a.e AS ENUM (x);", "Unknown(25)"),
     ("CREATE DOMAIN a.d AS 'x';", "Unknown(21)"),
-    ("ALTER DOMAIN a.d ADD CONSTRAINT c UNIQUE (x);", "Unknown(34)"),
-    ("CREATE TABLE a.t (x text, CONSTRAINT c CHECK (x), y text);", "Unknown(50)"),
+    (
+        "ALTER DOMAIN a.d ADD CONSTRAINT c UNIQUE (x);",
+        "Unknown(34)",
+    ),
+    (
+        "CREATE TABLE a.t (x text, CONSTRAINT c CHECK (x), y text);",
+        "Unknown(50)",
+    ),
     ("CREATE SEQUENCE a.s START 1;", "Unknown(26)"),
     ("ALTER SEQUENCE a.s OWNED BY a.t;", "Unknown(31)"),
     ("SELECT pg_catalog.setval('a.s', 1);", "Unknown(33)"),
     ("CREATE VIEW a.v (x) AS SELECT 1;", "Unknown(16)"),
     ("CREATE OR REPLACE TABLE a.t ();", "Unknown(18)"),
-    ("ALTER TABLE a.t ALTER COLUMN c SET DEFAULT 1 NOT NULL;", "Unknown(49)"),
-    ("ALTER TABLE a.t ADD CONSTRAINT p PRIMARY KEY ();", "Unknown(46)"),
-    ("ALTER TABLE a.t ADD CONSTRAINT u UNIQUE (x) INITIALLY DEFERRED;", "Unknown(44)"),
-    ("ALTER TABLE a.t ADD CONSTRAINT f FOREIGN KEY (x) REFERENCES a.t(x) ON DELETE CASCADE ON UPDATE CASCADE;", "Unknown(88)"),
+    (
+        "ALTER TABLE a.t ALTER COLUMN c SET DEFAULT 1 NOT NULL;",
+        "Unknown(49)",
+    ),
+    (
+        "ALTER TABLE a.t ADD CONSTRAINT p PRIMARY KEY ();",
+        "Unknown(46)",
+    ),
+    (
+        "ALTER TABLE a.t ADD CONSTRAINT u UNIQUE (x) INITIALLY DEFERRED;",
+        "Unknown(44)",
+    ),
+    (
+        "ALTER TABLE a.t ADD CONSTRAINT f FOREIGN KEY (x) REFERENCES a.t(x) ON DELETE CASCADE ON UPDATE CASCADE;",
+        "Unknown(85)",
+    ),
     ("ALTER TABLE a.t ADD CONSTRAINT c CHECK ();", "Unknown(40)"),
     ("CREATE INDEX i ON a.t (x);", "Unknown(22)"),
     ("CREATE UNIQUE INDEX i ON a.t USING btree x;", "Unknown(41)"),
@@ -1607,8 +1718,11 @@ const FAULT_OF_EACH: &[(&str, &str)] = &[
     ("ALTER TABLE a.t OWNER b;", "Unknown(22)"),
     ("CREATE ROLE b LOGIN;", "Unknown(14)"),
     ("ALTER ROLE b WITH LOGIN SUPERUSER;", "Unknown(24)"),
-    ("GRANT a TO b WITH SET TRUE, ADMIN FALSE;", "Unknown(28)"),
-    ("CREATE DATABASE d WITH TEMPLATE = template0 ENCODING = 'LATIN1';", "Unknown(55)"),
+    ("GRANT a TO b WITH SET TRUE, ADMIN FALSE;", "Unknown(26)"),
+    (
+        "CREATE DATABASE d WITH TEMPLATE = template0 ENCODING = 'LATIN1';",
+        "Unknown(55)",
+    ),
     ("\\connect a b", "Unknown(0)"),
 ];
 
