@@ -1,17 +1,12 @@
 -- COMMENT ON, CREATE ROLE, ALTER ROLE and CREATE DATABASE as they are written behind their first words, laid out in tokens.
-use Rattle.std.proofs.Common.{◌≡◌, ℕ, ◌+◌, ◌^◌, ℤ, Bool, true, false, cond, ◌&&◌, List, [], ◌∷◌, ◌++◌, append_assoc, append-nil, Option, Some, None, Result, Ok, Err, refl, ap, ◌∙◌, inl, inr, codes, option_and_then}
-use Rattle.std.specs.Prelude.{nat_lt}
-use Rattle.std.specs.List.{list_all}
+use Rattle.std.proofs.Common.{◌≡◌, ℕ, ◌+◌, ◌^◌, ℤ, Bool, true, false, List, [], ◌∷◌, ◌++◌, append_assoc, append-nil, Option, Some, None, Ok, refl, ap, ◌∙◌, inl, inr, codes}
 use Rattle.std.specs.Fmt.{signed_decimal}
 use Rattle.std.specs.Str.{IsUtf8, is_utf8, chars}
-use Rattle.std.specs.Str.Parse.{digits_value}
 use Rattle.std.proofs.Math.Utf8.{encode}
 use Rattle.std.proofs.lemmas.Str.{IsUtf8-from_is_utf8}
 use Rattle.sql_lex.specs.Bytes.{is_blank, is_digit, begins_word, in_word, is_sign as is_sign_byte}
 use Rattle.sql_lex.specs.Meaning.{is_keyword_of}
 use Rattle.sql_lex.specs.Written.{quoted, doubled, written_name, written_literal}
-use Rattle.sql_lex.specs.declared.token.TokenKind.{TokenKind}
-use Rattle.sql_lex.specs.declared.token.TokenKind.TheVariants.{Word, QuotedName, Literal, Number, Sign, MetaLine}
 use Rattle.copy_text.specs.Texts.{IsName}
 use Rattle.cat_model.specs.declared.object.QName.{QName}
 use Rattle.cat_model.specs.declared.table.RoleChanges.{RoleChanges}
@@ -22,13 +17,13 @@ use Rattle.cat_model.specs.declared.grant.Commented.TheVariants as commented
 use Rattle.cat_model.specs.declared.stmt.Stmt.{Stmt}
 use Rattle.cat_model.specs.declared.stmt.Stmt.TheVariants as stmt
 use Rattle.ddl_parts.specs.Lexemes.{Lexeme, is_word, is_sign, spelled}
-use Rattle.ddl_parts.specs.Leaves.{name, literal, digits_of}
+use Rattle.ddl_parts.specs.Leaves.{name, literal}
 use Rattle.ddl_parts.specs.Parts.{Part, no_more, mark, nothing, wider, ◌then◌, ◌▸◌, ◌◂◌}
 use Rattle.ddl_write.specs.Paths.{path}
 use Rattle.ddl_write.specs.Roles.{role_text, flag_text, limit_text, given_literal, changes_text, encoding_text, database_text}
 use Rattle.ddl_write.specs.RightsText.{remark_text, comment_text}
 use Rattle.ddl_admin.specs.Choices.{any_word, said, clause, flag, ◌before◌}
-use Rattle.ddl_admin.specs.Numbers.{digits_below, counted, count_value, whole_number}
+use Rattle.ddl_admin.specs.Numbers.{digits_below, count_value, whole_number}
 use Rattle.ddl_admin.specs.Comments.{remark, remark_end, name_remarked, path_remarked, column_remarked, constraint_remarked, on_path, on_schema, on_column, on_constraint, commented_object, comment_on}
 use Rattle.ddl_admin.specs.Roles.{LaterFlags, Flags, Settings, create_role, later_flags, role_flags, role_settings, changes_by, role_changes, alter_role}
 use Rattle.ddl_admin.specs.Databases.{furthers, utf8_in, utf8_value, utf8, encoded, goes_on, maybe_encoded, options, create_database}

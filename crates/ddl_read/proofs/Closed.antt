@@ -19,17 +19,14 @@ use Rattle.cat_model.specs.declared.table.CheckDef.{CheckDef}
 use Rattle.ddl_parts.specs.Leaves.{name, literal, is_literal, qualified}
 use Rattle.ddl_parts.specs.Lists.{listed}
 use Rattle.ddl_parts.specs.Expressions.{expression}
-use Rattle.ddl_rights.specs.Grants.{granted, revoked}
 use Rattle.ddl_read.proofs.RightsClosed.{granted_closes, revoked_closes}
 use Rattle.ddl_read.specs.Clauses.{named_check}
 use Rattle.ddl_read.specs.RelationGrammar.{altered_sequence, view_branch, more_relations}
 use Rattle.ddl_read.proofs.RelationLaws.{altered_sequence_closes, relations_close}
-use Rattle.ddl_read.specs.CopyGrammar.{copy_from}
 use Rattle.ddl_read.proofs.CopyLaws.{copy_from_closes}
 use Rattle.ddl_read.specs.ValueGrammar.{set_value}
 use Rattle.ddl_read.proofs.ValueLaws.{set_value_closes}
 use Rattle.ddl_read.specs.TableGrammar.{create_enum, enum_of, checking, typed, domain_of, create_domain, table_elements, table_of, create_table}
-use Rattle.ddl_admin.specs.Comments.{comment_on}
 use Rattle.ddl_admin.specs.Roles.{create_role, alter_role}
 use Rattle.ddl_admin.specs.Databases.{create_database}
 use Rattle.ddl_read.proofs.AdminClosed.{comment_on_closes, create_role_closes, alter_role_closes, create_database_closes}

@@ -17,16 +17,13 @@ use Rattle.ddl_parts.proofs.Leads.{a_sign, a_word, sign_is, word_is, name_laws, 
 use Rattle.ddl_parts.specs.Expressions.{expression}
 use Rattle.ddl_parts.proofs.RunLaws.{expression_laws, expression_ends}
 use Rattle.ddl_parts.proofs.Tables.{one_of_laws, one_of_avoids_others}
-use Rattle.ddl_rights.specs.Grants.{granted, revoked}
 use Rattle.ddl_rights.proofs.GrantLaws.{granted_laws, revoked_laws}
-use Rattle.ddl_admin.specs.Comments.{comment_on}
 use Rattle.ddl_admin.specs.Roles.{create_role, alter_role}
 use Rattle.ddl_admin.specs.Databases.{create_database}
 use Rattle.ddl_admin.proofs.CommentLaws.{comment_on_laws}
 use Rattle.ddl_admin.proofs.RoleLaws.{create_role_laws, alter_role_laws}
 use Rattle.ddl_admin.proofs.DatabaseLaws.{create_database_laws}
 use Rattle.ddl_read.specs.Clauses.{named_check}
-use Rattle.ddl_read.specs.CopyGrammar.{copy_from}
 use Rattle.ddl_read.proofs.CopyLaws.{copy_from_laws}
 use Rattle.ddl_read.specs.TableGrammar.{create_enum, create_domain, create_table}
 use Rattle.ddl_read.specs.RelationGrammar.{altered_sequence, view_branch, more_relations}

@@ -15,8 +15,6 @@ use Rattle.ddl_parts.specs.Leaves.{name, literal, qualified}
 use Rattle.ddl_parts.specs.Expressions.{expression}
 use Rattle.ddl_read.specs.declared.located.Located.{Located}
 use Rattle.ddl_read.specs.Grammar.{semicolon, create_schema, created, new_owner, new_check, DomainChange, its_owner, one_more_check, domain_changed, domain_change, altered_domain, name_and_owner, path_and_owner, owned_name, owned_path, altered, set_config, catalog_calls, selected, equals_or_to, setting, more_commands, command, statement}
-use Rattle.ddl_rights.specs.Grants.{granted, revoked}
-use Rattle.ddl_admin.specs.Comments.{comment_on}
 use Rattle.ddl_admin.specs.Roles.{create_role, alter_role}
 use Rattle.ddl_admin.specs.Databases.{create_database}
 use Rattle.ddl_read.proofs.AdminMade.{comment_on_yields, create_role_yields, alter_role_yields, create_database_yields}
