@@ -1,9 +1,7 @@
 pub mod Places
-pub mod DigitParsing
 pub mod Further
 pub mod Telling
 pub mod ChoiceLaws
-pub mod NumberLaws
 pub mod CommentLaws
 pub mod RoleLaws
 pub mod DatabaseLaws

@@ -1,44 +1,8 @@
--- The token at a place, and parts of one token that are read there.
-use Rattle.std.proofs.Common.{◌≡◌, Bool, cond, true, false, ℕ, zero, suc, ◌+◌, ◌<◌, ◌≤◌, List, [], ◌∷◌, length, drop, Option, Some, None, Ok, Err, refl, sym, ap, ◌∙◌, option_and_then, arith}
+-- A token that passes a test is read where it stands.
+use Rattle.std.proofs.Common.{◌≡◌, Bool, cond, true, false, ℕ, ◌+◌, List, drop, Ok, Err, sym, ap, ◌∙◌}
 use Rattle.ddl_parts.specs.Lexemes.{Lexeme, starts}
-use Rattle.ddl_parts.specs.Leaves.{digits_of}
 use Rattle.ddl_parts.specs.Parts.{Reading, stop, first_by, mark}
-use Rattle.ddl_admin.specs.Numbers.{digits_below, count_first, counted, count_value, count}
-
--- the token at a place before the end
-pub record IsAt (ts : List Lexeme) (at : ℕ) : Type 0 where
-  pub token : Lexeme
-  pub here : drop at ts ≡ token ∷ drop (at + 1) ts
-
-pub token_at : (ts : List Lexeme) (at : ℕ) → at < length ts → IsAt ts at
-token_at [] at low = absurd (omega arith)
-token_at (t ∷ ts) zero low = record { token = t; here = refl }
-token_at (t ∷ ts) (suc at) low = let h = token_at ts at (omega arith) in record { token = h.token; here = h.here ∙ ap (λ (n : ℕ). h.token ∷ drop n (t ∷ ts)) (let e : suc (at + 1) ≡ suc at + 1 = omega arith in e) }
-
-pub none_behind : (ts : List Lexeme) (at : ℕ) → length ts ≤ at → drop at ts ≡ []
-none_behind [] zero low = refl
-none_behind [] (suc at) low = refl
-none_behind (t ∷ ts) zero low = absurd (omega arith)
-none_behind (t ∷ ts) (suc at) low = none_behind ts at (omega arith)
-
--- ---- a number
-
-abbrev by_count : Lexeme → List Lexeme → Option ℕ → Reading ℕ
-by_count t ts n = first_by t ts (counted n)
-
-pub count_is : (limit : ℕ) (ts : List Lexeme) (at n : ℕ) (h : IsAt ts at) → count_first limit (drop at ts) ≡ Some n → (count limit).read (drop at ts) ≡ Ok (n, drop (at + 1) ts)
-unfolding count_value
-count_is limit ts at n h e =
-    let value : option_and_then (digits_below limit) (digits_of h.token.kind h.token.word) ≡ Some n = ap (count_first limit) (sym h.here) ∙ e in
-    ap (count limit).read h.here ∙ ap (by_count h.token (drop (at + 1) ts)) value
-
-pub no_count : (limit : ℕ) (ts : List Lexeme) (at : ℕ) (h : IsAt ts at) → count_first limit (drop at ts) ≡ None → (count limit).read (drop at ts) ≡ stop (drop at ts)
-unfolding count_value
-no_count limit ts at h e =
-    let value : option_and_then (digits_below limit) (digits_of h.token.kind h.token.word) ≡ None = ap (count_first limit) (sym h.here) ∙ e in
-    ap (count limit).read h.here ∙ ap (by_count h.token (drop (at + 1) ts)) value ∙ ap stop (sym h.here)
-
--- ---- a token that passes a test
+use Rattle.ddl_numbers.proofs.Places.{IsAt}
 
 abbrev by_test : Lexeme → List Lexeme → Bool → Reading (Unit {0})
 by_test t ts b = first_by t ts (cond b (Ok tt) (Err false))

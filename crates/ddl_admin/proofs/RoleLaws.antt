@@ -10,11 +10,11 @@ use Rattle.ddl_parts.proofs.Simple.{seen_laws}
 use Rattle.ddl_parts.proofs.Sequence.{then_laws}
 use Rattle.ddl_parts.proofs.Leads.{name_laws, literal_laws, word_laws, ended_laws}
 use Rattle.ddl_admin.specs.Choices.{semicolon, clause, flag, ◌before◌}
-use Rattle.ddl_admin.specs.Numbers.{whole_number}
+use Rattle.ddl_numbers.specs.Numbers.{whole_number}
 use Rattle.ddl_admin.specs.Roles.{create_role, later_flags, role_flags, role_settings, changes_by, role_changes, alter_role}
 use Rattle.ddl_admin.proofs.Telling.{free, sign_no_words}
 use Rattle.ddl_admin.proofs.ChoiceLaws.{IsOptional, before_is, seen_is, clause_is, flag_is}
-use Rattle.ddl_admin.proofs.NumberLaws.{whole_number_laws, whole_number_ends}
+use Rattle.ddl_numbers.proofs.NumberLaws.{whole_number_laws, whole_number_ends}
 
 pub create_role_laws : Lawful create_role
 unfolding create_role

@@ -9,7 +9,7 @@ use Rattle.ddl_parts.specs.Lexemes.{Lexeme, is_word, is_sign, is_sign_kind, neve
 use Rattle.ddl_parts.specs.Laws.{Apart, Avoids}
 use Rattle.ddl_parts.specs.Leaves.{is_literal, is_literal_kind}
 use Rattle.ddl_parts.specs.Parts.{nothing}
-use Rattle.ddl_parts.specs.Types.{is_number, is_number_kind, is_word_kind}
+use Rattle.ddl_parts.specs.Types.{is_word_kind}
 use Rattle.ddl_parts.proofs.Leads.{words_apart}
 use Rattle.ddl_admin.specs.Choices.{any_word}
 
@@ -33,18 +33,6 @@ sign_no_word b key t e = (sign_no_word_by t.kind t.word key b e).0
 pub sign_not_bare : (b : ℕ) (t : Lexeme) → is_sign b t ≡ true → is_word_kind t.kind ≡ false
 unfolding is_sign
 sign_not_bare b t e = (sign_no_word_by t.kind t.word [] b e).1
-
-pub number_no_sign : (b : ℕ) → Apart is_number (is_sign b)
-unfolding is_number is_sign
-number_no_sign b t e = by t.kind e
-  where
-    by : (k : TokenKind) → is_number_kind k ≡ true → is_sign_kind b k ≡ false
-    by Number e = refl
-    by Word e = absurd cc
-    by QuotedName e = absurd cc
-    by Literal e = absurd cc
-    by (Sign c) e = absurd cc
-    by MetaLine e = absurd cc
 
 literal_no_word_by : (k : TokenKind) (w key : List ℕ) → is_literal_kind k ≡ true → is_keyword_of k w key ≡ false
 unfolding is_keyword_of

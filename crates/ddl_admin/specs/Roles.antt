@@ -7,7 +7,7 @@ use Rattle.ddl_parts.specs.Lexemes.{is_word}
 use Rattle.ddl_parts.specs.Parts.{Part, seen, ◌then◌, ◌▸◌, ◌◂◌}
 use Rattle.ddl_parts.specs.Leaves.{name, literal}
 use Rattle.ddl_admin.specs.Choices.{semicolon, clause, flag, ◌before◌}
-use Rattle.ddl_admin.specs.Numbers.{whole_number}
+use Rattle.ddl_numbers.specs.Numbers.{whole_number}
 
 -- ---- CREATE ROLE
 

@@ -4,7 +4,6 @@
 mod comments;
 mod databases;
 pub mod laws;
-mod numbers;
 mod roles;
 
 pub use comments::comment_on;

@@ -5,12 +5,12 @@ ghost use Rattle.ddl_parts.specs.Parts.{◌▸◌};
 ghost use Rattle.ddl_parts.specs.Leaves.{literal};
 ghost use Rattle.ddl_parts.specs.Pieces.{GivesPart};
 ghost use Rattle.ddl_admin.specs.Choices.{clause, flag};
-ghost use Rattle.ddl_admin.specs.Numbers.{whole_number};
+ghost use Rattle.ddl_numbers.specs.Numbers.{whole_number};
 ghost use Rattle.ddl_admin.specs.Roles.{create_role, later_flags, role_flags, role_settings, role_changes, alter_role};
 
-use crate::numbers::whole_number;
 use cat_model::{RoleChanges, Stmt};
 use copy_text::Text;
+use ddl_numbers::whole_number;
 use ddl_parts::{Pieces, ReadError};
 use std::alloc::Global;
 

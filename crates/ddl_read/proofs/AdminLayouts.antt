@@ -1,5 +1,5 @@
 -- COMMENT ON, CREATE ROLE, ALTER ROLE and CREATE DATABASE as they are written behind their first words, laid out in tokens.
-use Rattle.std.proofs.Common.{◌≡◌, ℕ, ◌+◌, ◌^◌, ℤ, Bool, true, false, List, [], ◌∷◌, ◌++◌, append_assoc, append-nil, Option, Some, None, Ok, refl, ap, ◌∙◌, inl, inr, codes}
+use Rattle.std.proofs.Common.{◌≡◌, ℕ, ℤ, Bool, true, false, List, [], ◌∷◌, ◌++◌, append_assoc, append-nil, Option, Some, None, refl, ap, ◌∙◌, inl, inr, codes}
 use Rattle.std.specs.Fmt.{signed_decimal}
 use Rattle.std.specs.Str.{IsUtf8, is_utf8, chars}
 use Rattle.std.proofs.Math.Utf8.{encode}
@@ -23,7 +23,7 @@ use Rattle.ddl_write.specs.Paths.{path}
 use Rattle.ddl_write.specs.Roles.{role_text, flag_text, limit_text, given_literal, changes_text, encoding_text, database_text}
 use Rattle.ddl_write.specs.RightsText.{remark_text, comment_text}
 use Rattle.ddl_admin.specs.Choices.{any_word, said, clause, flag, ◌before◌}
-use Rattle.ddl_admin.specs.Numbers.{digits_below, count_value, whole_number}
+use Rattle.ddl_numbers.specs.Numbers.{whole_number}
 use Rattle.ddl_admin.specs.Comments.{remark, remark_end, name_remarked, path_remarked, column_remarked, constraint_remarked, on_path, on_schema, on_column, on_constraint, commented_object, comment_on}
 use Rattle.ddl_admin.specs.Roles.{LaterFlags, Flags, Settings, create_role, later_flags, role_flags, role_settings, changes_by, role_changes, alter_role}
 use Rattle.ddl_admin.specs.Databases.{furthers, utf8_in, utf8_value, utf8, encoded, goes_on, maybe_encoded, options, create_database}
@@ -32,8 +32,6 @@ use Rattle.ddl_read.specs.Respelling.{IsPath, IsInt, IsCommented, IsGivenText, I
 use Rattle.ddl_read.proofs.Standing.{is_safe_byte}
 use Rattle.ddl_read.proofs.Tokens.{Gap, none, space}
 use Rattle.ddl_read.proofs.Putting.{begins_by, parts_words, Follows, IsPut, IsKey, IsWrittenSign, behind, begun, begun_whole, safe_parts, put_as, word_put, name_put, literal_put, then_put, seen_put, close_put, nothing_put, word_lead, sign_lead, name_lead, path_lead}
-use Rattle.ddl_read.specs.SequenceGrammar.{digits_below as read_below}
-use Rattle.ddl_read.specs.ValueGrammar.{count_value as read_value, whole_number as read_number}
 use Rattle.ddl_read.proofs.SequenceNumbers.{number_put}
 use Rattle.ddl_read.proofs.Layouts.{schema_key, type_key, domain_key, table_key, sequence_key, view_key, constraint_key, dot_sign, ended}
 
@@ -387,23 +385,8 @@ a_clause key w p v text h begins puts = record {
 
 -- ---- numbers
 
-value_same : (limit : ℕ) (t : Lexeme) (n : ℕ) → read_value limit t ≡ Ok n → count_value limit t ≡ Ok n
-unfolding read_value count_value digits_below read_below
-value_same limit t n e = e
-
-number_same : (z : ℤ) (ts : List Lexeme) → read_number.Spells z ts → whole_number.Spells z ts
-unfolding read_number whole_number
-number_same z ts spells = by spells
-  where
-    by : read_number.Spells z ts → whole_number.Spells z ts
-    by (inl h) =
-        let s = h.2.2 in
-        let d = s.4 in
-        inl (h.0, h.1, (h.2.0, h.2.1, (s.0, s.1, s.2, s.3, (d.0, d.1, value_same (2 ^ 63 + 1) d.0 h.2.0.1 d.2))))
-    by (inr h) = let d = h.2 in inr (h.0, h.1, (d.0, d.1, value_same (2 ^ 63) d.0 h.0 d.2))
-
 whole_put : (z : ℤ) (others : List Lexeme) → IsInt z → Follows others → begins_by is_safe_byte (spelled others) ≡ true → IsPut whole_number z ((32 ∷ []) ++ signed_decimal z) others
-whole_put z others is follows e = put_as read_number whole_number z z ((32 ∷ []) ++ signed_decimal z) others (number_put z (32 ∷ []) others is space follows e) (number_same z)
+whole_put z others is follows e = number_put z (32 ∷ []) others is space follows e
 
 -- ---- ALTER ROLE
 

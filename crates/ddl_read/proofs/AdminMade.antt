@@ -1,11 +1,6 @@
 -- What is read of COMMENT ON, CREATE ROLE, ALTER ROLE and CREATE DATABASE can be written.
-use Rattle.std.proofs.Common.{◌≡◌, ℕ, zero, suc, ◌+◌, ◌<◌, ◌^◌, pos, Bool, true, false, cond, ◌&&◌, List, [], ◌∷◌, Option, Some, None, Ok, refl, sym, subst, arith, option_and_then, codes}
-use Rattle.std.specs.Prelude.{nat_lt}
-use Rattle.std.specs.List.{list_all}
+use Rattle.std.proofs.Common.{ℕ, List, [], ◌∷◌, Option, Some, None, sym, subst, codes}
 use Rattle.std.specs.Str.{IsUtf8}
-use Rattle.std.specs.Str.Parse.{digits_value}
-use Rattle.std.proofs.lemmas.Bool.{lt-ltb, ltb-true}
-use Rattle.sql_lex.specs.Bytes.{is_digit}
 use Rattle.copy_text.specs.Texts.{IsName}
 use Rattle.cat_model.specs.declared.object.QName.{QName}
 use Rattle.cat_model.specs.declared.constraint.Encoding.{Encoding}
@@ -13,13 +8,14 @@ use Rattle.cat_model.specs.declared.grant.Commented.{Commented}
 use Rattle.cat_model.specs.declared.grant.Commented.TheVariants as commented
 use Rattle.cat_model.specs.declared.stmt.Stmt.TheVariants as stmt
 use Rattle.ddl_parts.specs.Lexemes.{is_word, is_sign}
-use Rattle.ddl_parts.specs.Leaves.{name, literal, qualified, digits_of}
+use Rattle.ddl_parts.specs.Leaves.{name, literal, qualified}
 use Rattle.ddl_parts.specs.Parts.{Part, mark, seen, nothing, wider, ◌▸◌, ◌◂◌}
 use Rattle.ddl_admin.specs.Choices.{any_word, clause, ◌before◌}
-use Rattle.ddl_admin.specs.Numbers.{digits_below, counted, count_value, count, opposite, whole_number}
+use Rattle.ddl_numbers.specs.Numbers.{whole_number}
 use Rattle.ddl_admin.specs.Comments.{remark, remark_end, name_remarked, path_remarked, column_remarked, constraint_remarked, on_path, on_schema, on_column, on_constraint, on_others, commented_object, comment_on}
 use Rattle.ddl_admin.specs.Roles.{Settings, create_role, role_flags, role_settings, role_changes, alter_role}
 use Rattle.ddl_admin.specs.Databases.{options, create_database}
+use Rattle.ddl_read.proofs.NumberMade.{whole_number_yields}
 use Rattle.ddl_read.specs.Clauses.{semicolon}
 use Rattle.ddl_read.specs.Respelling.{IsPath, IsInt, IsCommented, IsGivenText, IsLimit, AreChanges, IsWritable}
 use Rattle.ddl_read.proofs.Yielding.{Yields, then_yields, seen_yields, any_yields, lead_yields, end_yields, choose_yields, one_of_yields, name_yields, literal_yields, qualified_yields}
@@ -104,37 +100,6 @@ comment_on_yields = lead_yields IsWritable (is_word (codes "on")) commented_obje
 pub create_role_yields : Yields IsWritable create_role
 unfolding create_role
 create_role_yields = seen_yields IsWritable stmt.CreateRole (name ◂ semicolon) (end_yields IsName semicolon name name_yields)
-
--- ---- numbers
-
-below_by : (limit n d : ℕ) (a b : Bool) → nat_lt d limit ≡ b → counted (cond (a && b) (Some d) None) ≡ Ok n → n < limit
-below_by limit n d true true is e = let same : d ≡ n = cc in subst (λ (x : ℕ). x < limit) same (ltb-true d limit is)
-below_by limit n d true false is e = absurd cc
-below_by limit n d false true is e = absurd cc
-below_by limit n d false false is e = absurd cc
-
-count_yields : (limit : ℕ) → Yields (λ n. n < limit) (count limit)
-unfolding count_value digits_below
-count_yields limit n ts r came spells = by (digits_of spells.0.kind spells.0.word) spells.2
-  where
-    by : (o : Option (List ℕ)) → counted (option_and_then (digits_below limit) o) ≡ Ok n → n < limit
-    by None e = absurd cc
-    by (Some w) e = below_by limit n (digits_value 10 w) (list_all is_digit w) (nat_lt (digits_value 10 w) limit) refl e
-
-positive_is : (n : ℕ) → n < 2 ^ 63 → IsInt (pos n)
-positive_is n small = lt-ltb n (2 ^ 63) small
-
-opposite_is : (n : ℕ) → n < 2 ^ 63 + 1 → IsInt (opposite n)
-opposite_is zero small = lt-ltb 0 (2 ^ 63) (omega arith)
-opposite_is (suc n) small = lt-ltb n (2 ^ 63) (omega arith)
-
-whole_number_yields : Yields IsInt whole_number
-unfolding whole_number
-whole_number_yields =
-    choose_yields IsInt (is_sign 45) (seen opposite (is_sign 45 ▸ count (2 ^ 63 + 1))) (seen pos (count (2 ^ 63)))
-    (seen_yields IsInt opposite (is_sign 45 ▸ count (2 ^ 63 + 1))
-    (λ n ts r came spells. opposite_is n (lead_yields (λ n. n < 2 ^ 63 + 1) (is_sign 45) (count (2 ^ 63 + 1)) (count_yields (2 ^ 63 + 1)) n ts r came spells)))
-    (seen_yields IsInt pos (count (2 ^ 63)) (λ n ts r came spells. positive_is n (count_yields (2 ^ 63) n ts r came spells)))
 
 -- ---- ALTER ROLE
 

@@ -2,7 +2,6 @@ pub mod Statements
 pub mod Telling
 pub mod TableLaws
 pub mod RestScans
-pub mod DigitParsing
 pub mod SequenceScans
 pub mod ColumnLaws
 pub mod AlterLaws
@@ -43,6 +42,7 @@ pub mod AlterMade
 pub mod SequenceMade
 pub mod RelationMade
 pub mod ValueMade
+pub mod NumberMade
 pub mod AdminMade
 pub mod Made
 pub mod CopyLaws

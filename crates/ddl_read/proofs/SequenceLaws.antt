@@ -14,6 +14,7 @@ use Rattle.ddl_parts.proofs.Simple.{seen_laws}
 use Rattle.ddl_parts.proofs.Sequence.{then_laws}
 use Rattle.ddl_parts.proofs.Machines.{CanEnd, machine_laws}
 use Rattle.ddl_parts.proofs.Leads.{a_word, qualified_laws, ended_laws}
+use Rattle.ddl_numbers.specs.Numbers.{digits_below}
 use Rattle.ddl_read.specs.declared.sequences.Bound.TheVariants.{Usual}
 use Rattle.ddl_read.specs.declared.sequences.Field.TheVariants.{First, Step}
 use Rattle.ddl_read.specs.declared.sequences.Open.TheVariants.{Both, Lower, Upper}
@@ -21,7 +22,7 @@ use Rattle.ddl_read.specs.declared.sequences.ClauseSpot.{ClauseSpot}
 use Rattle.ddl_read.specs.declared.sequences.ClauseSpot.TheVariants.{Between, BehindAs, BehindStart, BehindIncrement, BehindNo, Due, BehindMinus}
 use Rattle.ddl_read.specs.declared.sequences.Clauses.{Clauses}
 use Rattle.ddl_read.specs.Clauses.{semicolon}
-use Rattle.ddl_read.specs.SequenceGrammar.{digits_below, with_number, reached, clause_first, kind_first, usual_first, step_first, is_between, begins_clause, first_reached, clausing, clauses_of, sequence_clauses, sequence_of, create_sequence}
+use Rattle.ddl_read.specs.SequenceGrammar.{with_number, reached, clause_first, kind_first, usual_first, step_first, is_between, begins_clause, first_reached, clausing, clauses_of, sequence_clauses, sequence_of, create_sequence}
 use Rattle.ddl_read.proofs.Telling.{sign_no_word}
 use Rattle.ddl_read.proofs.Closing.{Closes, then_closes, seen_closes, end_closes}
 

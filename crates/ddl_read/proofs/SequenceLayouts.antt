@@ -18,6 +18,7 @@ use Rattle.ddl_parts.specs.Parts.{Part, stop, run, ◌then◌, ◌▸◌, ◌◂
 use Rattle.ddl_parts.specs.Leaves.{qualified}
 use Rattle.ddl_write.specs.Paths.{path, only_if}
 use Rattle.ddl_write.specs.Sequences.{usual_min, usual_max, type_words, bound, min_text, max_text, sequence_text}
+use Rattle.ddl_numbers.specs.Numbers.{whole_number}
 use Rattle.ddl_read.specs.declared.sequences.Bound.{Bound}
 use Rattle.ddl_read.specs.declared.sequences.Bound.TheVariants.{Usual, Given}
 use Rattle.ddl_read.specs.declared.sequences.Field.{Field}
@@ -33,7 +34,6 @@ use Rattle.ddl_read.specs.Respelling.{IsPath, IsInt}
 use Rattle.ddl_read.proofs.Standing.{is_safe_byte, Stands}
 use Rattle.ddl_read.proofs.Tokens.{Gap, space, indented, indent, word_token, a_word}
 use Rattle.ddl_read.proofs.Putting.{begins_by, parts_words, parted, Follows, IsPut, behind, begun, begins-append, safe_parts, put_as, one_put, then_put, seen_put, close_put, word_lead, path_lead}
-use Rattle.ddl_read.specs.ValueGrammar.{whole_number}
 use Rattle.ddl_read.proofs.SequenceNumbers.{number_put, number_runs}
 use Rattle.ddl_read.proofs.Layouts.{IsLaidOut, laid_out, sequence_key, ended, create_put}
 

@@ -12,6 +12,7 @@ use Rattle.ddl_parts.specs.Lexemes.{Lexeme, is_word, is_sign, starts}
 use Rattle.ddl_parts.specs.Parts.{run, ◌◂◌}
 use Rattle.ddl_parts.specs.Leaves.{qualified, number_first}
 use Rattle.ddl_write.specs.Sequences.{usual_min, usual_max}
+use Rattle.ddl_numbers.specs.Numbers.{count_first, digits_below, opposite}
 use Rattle.ddl_read.specs.declared.sequences.Bound.{Bound}
 use Rattle.ddl_read.specs.declared.sequences.Bound.TheVariants.{Unsaid, Usual, Given}
 use Rattle.ddl_read.specs.declared.sequences.Field.{Field}
@@ -22,7 +23,7 @@ use Rattle.ddl_read.specs.declared.sequences.ClauseSpot.TheVariants.{Between, Be
 use Rattle.ddl_read.specs.declared.sequences.Clauses.{Clauses}
 use Rattle.ddl_read.specs.declared.sequences.Reached.{Reached}
 use Rattle.ddl_read.specs.Clauses.{semicolon}
-use Rattle.ddl_read.specs.SequenceGrammar.{digits_below, count_first, opposite, no_clauses, is_unsaid, with_number, reached, only_if, behind_no, clause_first, kind_first, lower, upper, usual_first, numbered, step_first, clausing, first_reached, clauses_of, sequence_clauses, given_or, bound_or, usual_start, sequence_of, create_sequence}
+use Rattle.ddl_read.specs.SequenceGrammar.{no_clauses, is_unsaid, with_number, reached, only_if, behind_no, clause_first, kind_first, lower, upper, usual_first, numbered, step_first, clausing, first_reached, clauses_of, sequence_clauses, given_or, bound_or, usual_start, sequence_of, create_sequence}
 use Rattle.ddl_read.specs.Respelling.{IsPath, IsInt, IsWritable}
 use Rattle.ddl_read.proofs.Yielding.{Yields, then_yields, end_yields, qualified_yields}
 

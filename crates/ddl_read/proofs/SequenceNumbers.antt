@@ -18,12 +18,12 @@ use Rattle.sql_lex.specs.declared.token.TokenKind.TheVariants.{Number, Sign}
 use Rattle.sql_lex.proofs.WriteLaws.{spelling_is_read}
 use Rattle.ddl_parts.specs.Lexemes.{Lexeme, spelled, is_sign}
 use Rattle.ddl_parts.specs.Parts.{passes, run, mark, seen, ◌▸◌}
+use Rattle.ddl_numbers.specs.Numbers.{count, count_first, count_value, counted, digits_below, opposite, whole_number}
 use Rattle.ddl_read.specs.declared.sequences.Field.{Field}
 use Rattle.ddl_read.specs.declared.sequences.ClauseSpot.TheVariants.{Between, Due}
 use Rattle.ddl_read.specs.declared.sequences.Clauses.{Clauses}
-use Rattle.ddl_read.specs.SequenceGrammar.{digits_below, count_first, opposite, with_number, reached, step_first, clausing}
-use Rattle.ddl_read.specs.ValueGrammar.{count_of, count_value, count, whole_number}
-use Rattle.ddl_read.proofs.ValueLaws.{count_begins, number_no_sign}
+use Rattle.ddl_read.specs.SequenceGrammar.{with_number, reached, step_first, clausing}
+use Rattle.ddl_numbers.proofs.NumberLaws.{count_begins, number_no_sign}
 use Rattle.ddl_read.specs.Respelling.{is_int}
 use Rattle.ddl_read.proofs.Closing.{passed}
 use Rattle.ddl_read.proofs.Standing.{is_safe_byte, Stands}
@@ -119,27 +119,27 @@ number_put (negsuc n) g others is gap follows e =
 
 -- ---- what a number brings on
 
-counted_by : (o : Option ℕ) (n : ℕ) → count_of o ≡ (let r : Result ℕ Bool = Ok n in r) → o ≡ Some n
+counted_by : (o : Option ℕ) (n : ℕ) → counted o ≡ (let r : Result ℕ Bool = Ok n in r) → o ≡ Some n
 counted_by (Some m) n e = let same : m ≡ n = cc in ap Some same
 counted_by None n e = absurd cc
 
-counted : (limit : ℕ) (t : Lexeme) (n : ℕ) → count_value limit t ≡ Ok n → count_first limit (t ∷ []) ≡ Some n
+is_counted : (limit : ℕ) (t : Lexeme) (n : ℕ) → count_value limit t ≡ Ok n → count_first limit (t ∷ []) ≡ Some n
 unfolding count_value
-counted limit t n e = counted_by (count_first limit (t ∷ [])) n e
+is_counted limit t n e = counted_by (count_first limit (t ∷ [])) n e
 
 no_minus : (limit : ℕ) (t : Lexeme) (n : ℕ) → count_value limit t ≡ Ok n → is_sign 45 t ≡ false
 no_minus limit t n e = number_no_sign 45 t (count_begins limit n (t ∷ []) (t, refl, e))
 
 positive_runs : (f : Field) (c : Clauses) (t : Lexeme) (n : ℕ) → count_value (2 ^ 63) t ≡ Ok n → run clausing (Some (reached c (Due f))) (t ∷ []) ≡ Some (reached (with_number f (pos n) c) Between)
 unfolding step_first
-positive_runs f c t n e = rw (no_minus (2 ^ 63) t n e, counted (2 ^ 63) t n e) refl
+positive_runs f c t n e = rw (no_minus (2 ^ 63) t n e, is_counted (2 ^ 63) t n e) refl
 
 minus_is : (t : Lexeme) (u : Unit {0}) → passes (is_sign 45) t ≡ Ok u → is_sign 45 t ≡ true
 minus_is t u e = passed u (is_sign 45 t) e
 
 negative_runs : (f : Field) (c : Clauses) (m t : Lexeme) (n : ℕ) → is_sign 45 m ≡ true → count_value (2 ^ 63 + 1) t ≡ Ok n → run clausing (Some (reached c (Due f))) (m ∷ t ∷ []) ≡ Some (reached (with_number f (opposite n) c) Between)
 unfolding step_first
-negative_runs f c m t n minus e = rw (minus, counted (2 ^ 63 + 1) t n e) refl
+negative_runs f c m t n minus e = rw (minus, is_counted (2 ^ 63 + 1) t n e) refl
 
 abbrev Runs : Field → Clauses → ℤ → List Lexeme → Type 0
 Runs f c z ts = run clausing (Some (reached c (Due f))) ts ≡ Some (reached (with_number f z c) Between)

@@ -1,37 +1,34 @@
 -- The grammar of a sequence's value has the laws of a part, and ends with a semicolon.
-use Rattle.std.proofs.Common.{◌≡◌, ℕ, ◌+◌, ◌<◌, ◌≤◌, ◌^◌, ℤ, pos, Bool, true, false, List, [], ◌∷◌, length, append-nil, drop, cond, Option, Some, None, Result, Ok, Err, refl, sym, ap, subst, ◌∙◌, arith, codes}
-use Rattle.std.specs.Prelude.{is_some, option_and_then}
+use Rattle.std.proofs.Common.{◌≡◌, ℕ, ℤ, Bool, true, false, List, [], ◌∷◌, append-nil, drop, cond, Option, Some, None, Result, Ok, Err, refl, sym, ap, subst, ◌∙◌, codes}
+use Rattle.std.specs.Prelude.{is_some}
 use Rattle.std.specs.Str.{is_utf8, chars}
 use Rattle.std.proofs.Math.Utf8.{encode}
-use Rattle.std.proofs.lemmas.Bool.{lt-ltb}
 use Rattle.sql_lex.specs.Bytes.{is_blank, is_digit, begins_word, in_word, is_sign as is_sign_byte, marks_escapes, in_line, next_is}
 use Rattle.sql_lex.specs.Ends.{run_end, quote_end, escape_end, comment_end, fraction_end, number_end}
 use Rattle.sql_lex.specs.Pieces.{begins_line, closed, begun, in_utf8, piece_at}
 use Rattle.sql_lex.specs.Next.{next_within, next_token_of}
 use Rattle.sql_lex.specs.Meaning.{inside, undoubled, name_of, literal_of, spelling}
 use Rattle.sql_lex.specs.declared.fault.LexFault.{LexFault}
-use Rattle.sql_lex.specs.declared.token.TokenKind.{TokenKind}
-use Rattle.sql_lex.specs.declared.token.TokenKind.TheVariants.{Word, QuotedName, Literal, Number, Sign, MetaLine}
+use Rattle.sql_lex.specs.declared.token.TokenKind.TheVariants.{Literal}
 use Rattle.cat_model.specs.declared.object.QName.{QName}
-use Rattle.ddl_parts.specs.Lexemes.{Lexeme, is_word, is_sign, is_sign_kind}
+use Rattle.ddl_parts.specs.Lexemes.{Lexeme, is_word, is_sign}
 use Rattle.ddl_parts.specs.Parts.{Part, Stop, Reading, first_by, mark, seen, ◌then◌, ◌▸◌, ◌◂◌}
-use Rattle.ddl_parts.specs.Laws.{Lawful, Apart, Begins}
-use Rattle.ddl_parts.specs.Leaves.{name_in, name_value, text_in, literal, literal_value, qualified, digits_of}
+use Rattle.ddl_parts.specs.Laws.{Lawful, Apart}
+use Rattle.ddl_parts.specs.Leaves.{name_in, name_value, text_in, literal, literal_value, qualified}
 use Rattle.ddl_parts.specs.Pieces.{lexemes, Fails, halted}
 use Rattle.ddl_parts.specs.declared.fault.Halt.{Halt}
 use Rattle.ddl_parts.specs.declared.fault.ReadError.{ReadError}
 use Rattle.ddl_parts.specs.declared.fault.ReadError.TheVariants.{Halted, Memory}
-use Rattle.ddl_parts.specs.Types.{is_number, is_number_kind}
 use Rattle.ddl_parts.specs.Collecting.{collected_within, collected}
 use Rattle.ddl_parts.proofs.Steps.{avoids_never, value_is, rest_is}
-use Rattle.ddl_parts.proofs.Simple.{one_laws, one_begins, seen_laws, seen_begins, mark_laws, mark_begins}
-use Rattle.ddl_parts.proofs.Sequence.{then_laws, lead_begins}
+use Rattle.ddl_parts.proofs.Simple.{one_laws, seen_laws, seen_begins, mark_laws, mark_begins}
+use Rattle.ddl_parts.proofs.Sequence.{then_laws}
 use Rattle.ddl_parts.proofs.Choice.{choose_apart}
 use Rattle.ddl_parts.proofs.Leads.{a_word, word_is, qualified_laws, sign_laws, ended_laws, words_apart}
+use Rattle.ddl_numbers.specs.Numbers.{whole_number}
+use Rattle.ddl_numbers.proofs.NumberLaws.{whole_number_laws}
 use Rattle.ddl_read.specs.Clauses.{semicolon}
-use Rattle.ddl_read.specs.SequenceGrammar.{digits_below, count_first, opposite}
-use Rattle.ddl_read.specs.ValueGrammar.{GivesPath, if_last, whole_path, path_in, path_of, path_value, literal_path, count_of, count_value, count, whole_number, truth, value_of_sequence, set_value}
-use Rattle.ddl_read.proofs.RestScans.{token_at, none_behind}
+use Rattle.ddl_read.specs.ValueGrammar.{GivesPath, if_last, whole_path, path_in, path_of, path_value, literal_path, truth, value_of_sequence, set_value}
 use Rattle.ddl_read.proofs.Telling.{free}
 use Rattle.ddl_read.proofs.Closing.{Closes, then_closes, seen_closes, lead_closes, end_closes}
 
@@ -79,55 +76,6 @@ path_only text q h =
     let ts = lexemes text (collected text 0).pieces in
     let read : qualified.read ts ≡ Ok (q, []) = ap qualified.read (sym (append-nil ts)) ∙ qualified_laws.only q ts [] h.1 refl in
     rw h.0 (ap whole_path read)
-
--- ---- a whole number
-
-pub count_begins : (limit : ℕ) → Begins is_number (count limit)
-unfolding count_value is_number
-count_begins limit = one_begins (count_value limit) is_number (λ t v e. by t.kind t.word v e)
-  where
-    by : (k : TokenKind) (w : List ℕ) (v : ℕ) → count_of (option_and_then (digits_below limit) (digits_of k w)) ≡ Ok v → is_number_kind k ≡ true
-    by Number w v e = refl
-    by Word w v e = absurd cc
-    by QuotedName w v e = absurd cc
-    by Literal w v e = absurd cc
-    by (Sign b) w v e = absurd cc
-    by MetaLine w v e = absurd cc
-
-pub number_no_sign : (b : ℕ) → Apart is_number (is_sign b)
-unfolding is_number is_sign
-number_no_sign b t e = by t.kind e
-  where
-    by : (k : TokenKind) → is_number_kind k ≡ true → is_sign_kind b k ≡ false
-    by Number e = refl
-    by Word e = absurd cc
-    by QuotedName e = absurd cc
-    by Literal e = absurd cc
-    by (Sign c) e = absurd cc
-    by MetaLine e = absurd cc
-
-abbrev a_zero : Lexeme
-a_zero = record { gap = 32 ∷ []; kind = Number; word = 48 ∷ []; start = 0 }
-
-count_laws : (limit : ℕ) → 0 < limit → Lawful (count limit)
-unfolding count_value digits_below is_digit
-count_laws limit some = one_laws (count_value limit) a_zero 0 (rw (lt-ltb 0 limit some) refl)
-
-abbrev negative : Part ℤ
-negative = seen opposite (is_sign 45 ▸ count (2 ^ 63 + 1))
-
-abbrev positive : Part ℤ
-positive = seen pos (count (2 ^ 63))
-
-whole_number_laws : Lawful whole_number
-unfolding whole_number
-whole_number_laws =
-    choose_apart (is_sign 45) is_number negative positive
-    (seen_laws opposite (is_sign 45 ▸ count (2 ^ 63 + 1)) (sign_laws 45 (count (2 ^ 63 + 1)) (count_laws (2 ^ 63 + 1) (omega arith))))
-    (seen_laws pos (count (2 ^ 63)) (count_laws (2 ^ 63) (omega arith)))
-    (seen_begins (is_sign 45) opposite (is_sign 45 ▸ count (2 ^ 63 + 1)) (lead_begins (is_sign 45) (count (2 ^ 63 + 1))))
-    (seen_begins is_number pos (count (2 ^ 63)) (count_begins (2 ^ 63)))
-    (number_no_sign 45)
 
 -- ---- TRUE or FALSE
 
@@ -227,21 +175,3 @@ path_fails ts at end text (Halted h) e is = no_path_is_read (drop at ts) (drop e
   where
     failed : Stop → Result (QName × Place) Stop
     failed s = Err s
-
--- ---- a number is read where its digits are
-
-pub count_is_read : (limit : ℕ) (ts : Place) (at n : ℕ) → at < length ts → count_first limit (drop at ts) ≡ Some n → (count limit).read (drop at ts) ≡ Ok (n, drop (at + 1) ts)
-unfolding count_value
-count_is_read limit ts at n low e =
-    let h = token_at ts at low in
-    let rest = drop (at + 1) ts in
-    let is : count_first limit (h.token ∷ rest) ≡ Some n = ap (count_first limit) (sym h.here) ∙ e in
-    ap (count limit).read h.here ∙ ap (λ (o : Option ℕ). first_by h.token rest (count_of o)) is
-
-pub no_count_is_read : (limit : ℕ) (ts : Place) → count_first limit ts ≡ None → (count limit).read ts ≡ Err (record { long = false; rest = ts })
-unfolding count_value
-no_count_is_read limit [] e = refl
-no_count_is_read limit (t ∷ ts) e = ap (λ (o : Option ℕ). first_by t ts (count_of o)) e
-
-pub none_counted : (limit : ℕ) (ts : Place) (at : ℕ) → length ts ≤ at → (count limit).read (drop at ts) ≡ Err (record { long = false; rest = drop at ts })
-none_counted limit ts at high = no_count_is_read limit (drop at ts) (ap (count_first limit) (none_behind ts at high))

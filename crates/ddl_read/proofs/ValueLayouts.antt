@@ -24,9 +24,10 @@ use Rattle.ddl_parts.specs.Collecting.{Collected, collected, collected_within, c
 use Rattle.ddl_parts.proofs.Slices.{token_sound}
 use Rattle.ddl_write.specs.Paths.{path, ending, joined}
 use Rattle.ddl_write.specs.Sequences.{called_words, value_text}
+use Rattle.ddl_numbers.specs.Numbers.{whole_number}
 use Rattle.ddl_read.specs.Clauses.{semicolon}
 use Rattle.ddl_read.specs.Grammar.{catalog_calls}
-use Rattle.ddl_read.specs.ValueGrammar.{path_in, path_of, path_value, literal_path, whole_number, truth, value_of_sequence, set_value}
+use Rattle.ddl_read.specs.ValueGrammar.{path_in, path_of, path_value, literal_path, truth, value_of_sequence, set_value}
 use Rattle.ddl_read.specs.Respelling.{IsPath, IsInt}
 use Rattle.ddl_read.proofs.RunTexts.{safe_name}
 use Rattle.ddl_read.proofs.Standing.{is_safe_byte, Stands, Stood, placed, NoSemicolon, collects_all}

@@ -1,16 +1,16 @@
 -- What is read of a sequence's value can be written: the path in the literal is one, and the number has 64 bits.
-use Rattle.std.proofs.Common.{◌≡◌, ℕ, ◌+◌, ◌^◌, ◌<◌, ℤ, pos, Bool, List, [], ◌∷◌, Option, Some, None, Result, Ok, Err, sym, subst, arith, ◌⊎◌, inl, inr}
+use Rattle.std.proofs.Common.{◌≡◌, ℕ, ℤ, Bool, List, Result, Ok, Err, sym, subst, arith}
 use Rattle.cat_model.specs.declared.object.QName.{QName}
-use Rattle.ddl_parts.specs.Lexemes.{Lexeme, is_sign}
-use Rattle.ddl_parts.specs.Parts.{seen, ◌then◌, ◌▸◌}
+use Rattle.ddl_parts.specs.Lexemes.{is_sign}
+use Rattle.ddl_parts.specs.Parts.{◌then◌, ◌▸◌}
 use Rattle.ddl_parts.specs.Leaves.{literal_value}
 use Rattle.ddl_parts.specs.Pieces.{lexemes}
 use Rattle.ddl_parts.specs.Collecting.{collected}
-use Rattle.ddl_read.specs.SequenceGrammar.{count_first, opposite}
-use Rattle.ddl_read.specs.ValueGrammar.{path_in, path_of, path_value, literal_path, count_of, count_value, count, whole_number, set_value}
+use Rattle.ddl_numbers.specs.Numbers.{whole_number}
+use Rattle.ddl_read.specs.ValueGrammar.{path_in, path_of, path_value, literal_path, set_value}
 use Rattle.ddl_read.specs.Respelling.{IsPath, IsInt, IsWritable}
 use Rattle.ddl_read.proofs.Kept.{have_come}
-use Rattle.ddl_read.proofs.SequenceMade.{IsBelow, count_below, positive_is, opposite_is}
+use Rattle.ddl_read.proofs.NumberMade.{whole_number_yields}
 use Rattle.ddl_read.proofs.ValueLaws.{path_found, truth_end, number_and_truth}
 use Rattle.ddl_read.proofs.Yielding.{Yields, then_yields, any_yields, lead_yields, qualified_yields}
 
@@ -26,27 +26,6 @@ literal_path_yields q ts r came spells = by (literal_value spells.0) spells.2
     by : (o : Result (List ℕ) Bool) → path_of o ≡ Ok q → IsPath q
     by (Ok text) e = path_yields text q e
     by (Err long) e = absurd cc
-
--- ---- the number
-
-count_small : (limit : ℕ) (t : Lexeme) (n : ℕ) → count_value limit t ≡ Ok n → n < limit
-unfolding count_value
-count_small limit t n e = by (count_first limit (t ∷ [])) (count_below limit (t ∷ [])) e
-  where
-    by : (o : Option ℕ) → IsBelow limit o → count_of o ≡ Ok n → n < limit
-    by (Some m) small e = let same : m ≡ n = cc in subst (λ (k : ℕ). k < limit) same small
-    by None small e = absurd cc
-
-count_yields : (limit : ℕ) → Yields (λ n. n < limit) (count limit)
-count_yields limit n ts r came spells = count_small limit spells.0 n spells.2
-
-whole_number_yields : Yields IsInt whole_number
-unfolding whole_number
-whole_number_yields v ts r came spells = by spells
-  where
-    by : (seen opposite (is_sign 45 ▸ count (2 ^ 63 + 1))).Spells v ts ⊎ (seen pos (count (2 ^ 63))).Spells v ts → IsInt v
-    by (inl h) = subst IsInt (sym h.1) (opposite_is h.0 (lead_yields (λ n. n < 2 ^ 63 + 1) (is_sign 45) (count (2 ^ 63 + 1)) (count_yields (2 ^ 63 + 1)) h.0 ts r came h.2))
-    by (inr h) = subst IsInt (sym h.1) (positive_is h.0 (count_yields (2 ^ 63) h.0 ts r came h.2))
 
 -- ---- the statement
 

@@ -1,8 +1,5 @@
 -- The grammar of CREATE SEQUENCE: its clauses in any order, each at most once, taken token by token.
-use Rattle.std.specs.Prelude.{ℕ, zero, suc, ◌+◌, ◌^◌, ◌&&◌, ◌||◌, nat_lt, ℤ, pos, negsuc, Bool, true, false, not, List, [], ◌∷◌, Option, Some, None, Result, Ok, Err, is_some, option_and_then, option_map, if◌then◌else◌, codes}
-use Rattle.std.specs.List.{list_all}
-use Rattle.std.specs.Str.Parse.{digits_value}
-use Rattle.sql_lex.specs.Bytes.{is_digit}
+use Rattle.std.specs.Prelude.{ℕ, ◌+◌, ◌^◌, ◌&&◌, ◌||◌, ℤ, pos, Bool, true, false, not, List, [], ◌∷◌, Option, Some, None, Result, Ok, Err, is_some, option_map, if◌then◌else◌, codes}
 use Rattle.cat_model.specs.declared.object.QName.{QName}
 use Rattle.cat_model.specs.declared.constraint.SequenceKind.{SequenceKind}
 use Rattle.cat_model.specs.declared.constraint.SequenceKind.TheVariants.{SmallInt, Integer, BigInt}
@@ -12,7 +9,7 @@ use Rattle.ddl_parts.specs.declared.fault.ReadError.{ReadError}
 use Rattle.ddl_parts.specs.declared.fault.ReadError.TheVariants.{Halted}
 use Rattle.ddl_parts.specs.Lexemes.{Lexeme, is_word, is_sign, starts}
 use Rattle.ddl_parts.specs.Parts.{Part, Machine, run, runs_of, seen, ◌then◌, ◌◂◌}
-use Rattle.ddl_parts.specs.Leaves.{number_first, qualified}
+use Rattle.ddl_parts.specs.Leaves.{qualified}
 use Rattle.ddl_write.specs.Sequences.{falls, usual_min, usual_max}
 use Rattle.ddl_read.specs.declared.sequences.Bound.{Bound}
 use Rattle.ddl_read.specs.declared.sequences.Bound.TheVariants.{Unsaid, Usual, Given}
@@ -24,21 +21,8 @@ use Rattle.ddl_read.specs.declared.sequences.ClauseSpot.{ClauseSpot}
 use Rattle.ddl_read.specs.declared.sequences.ClauseSpot.TheVariants.{Between, BehindAs, BehindStart, BehindIncrement, BehindNo, Due, BehindMinus}
 use Rattle.ddl_read.specs.declared.sequences.Clauses.{Clauses}
 use Rattle.ddl_read.specs.declared.sequences.Reached.{Reached}
+use Rattle.ddl_numbers.specs.Numbers.{count_first, opposite}
 use Rattle.ddl_read.specs.Clauses.{semicolon}
-
--- ---- numbers
-
--- the number of digits, where it is below a limit; a number with a fraction has none
-unfoldable pub digits_below : ℕ → List ℕ → Option ℕ
-digits_below limit word = if list_all is_digit word && nat_lt (digits_value 10 word) limit then Some (digits_value 10 word) else None
-
--- the number that is the first of some tokens
-abbrev pub count_first : ℕ → List Lexeme → Option ℕ
-count_first limit ts = option_and_then (digits_below limit) (number_first ts)
-
-abbrev pub opposite : ℕ → ℤ
-opposite zero = pos 0
-opposite (suc n) = negsuc n
 
 -- ---- the clauses so far
 

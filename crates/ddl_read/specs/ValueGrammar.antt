@@ -1,6 +1,6 @@
 -- The grammar of a sequence's value: what stands behind SELECT pg_catalog.
 -- The sequence's path stands in a literal: it is read from the tokens of the literal's text.
-use Rattle.std.specs.Prelude.{◌≡◌, ℕ, ◌+◌, ◌^◌, ℤ, pos, Bool, true, false, List, [], ◌∷◌, Option, Some, None, Result, Ok, Err, ⊤, is_some, if◌then◌else◌, codes}
+use Rattle.std.specs.Prelude.{◌≡◌, ℕ, ℤ, Bool, true, false, List, [], ◌∷◌, Result, Ok, Err, ⊤, is_some, if◌then◌else◌, codes}
 use Rattle.cat_model.specs.declared.object.QName.{QName}
 use Rattle.cat_model.specs.declared.stmt.Stmt.{Stmt}
 use Rattle.cat_model.specs.declared.stmt.Stmt.TheVariants as stmt
@@ -11,8 +11,8 @@ use Rattle.ddl_parts.specs.Parts.{Part, Reading, one, mark, seen, choose, ◌the
 use Rattle.ddl_parts.specs.Pieces.{lexemes}
 use Rattle.ddl_parts.specs.Collecting.{Collected, collected}
 use Rattle.ddl_parts.specs.Leaves.{literal_value, qualified}
+use Rattle.ddl_numbers.specs.Numbers.{whole_number}
 use Rattle.ddl_read.specs.Clauses.{semicolon}
-use Rattle.ddl_read.specs.SequenceGrammar.{count_first, opposite}
 
 -- ---- a path in a literal
 
@@ -43,23 +43,6 @@ path_value t = path_of (literal_value t)
 
 abbrev pub literal_path : Part QName
 literal_path = one path_value
-
--- ---- a whole number
-
-abbrev pub count_of : Option ℕ → Result ℕ Bool
-count_of (Some n) = Ok n
-count_of None = Err false
-
--- the number of digits, where it is below a limit
-unfoldable pub count_value : ℕ → Lexeme → Result ℕ Bool
-count_value limit t = count_of (count_first limit (t ∷ []))
-
-abbrev pub count : ℕ → Part ℕ
-count limit = one (count_value limit)
-
--- digits below 2^63, or a minus sign and digits up to 2^63
-unfoldable pub whole_number : Part ℤ
-whole_number = choose (is_sign 45) (seen opposite (is_sign 45 ▸ count (2 ^ 63 + 1))) (seen pos (count (2 ^ 63)))
 
 -- ---- setval(..)
 

@@ -4,9 +4,11 @@ ghost use Rattle.std.specs.List.{list_all};
 ghost use Rattle.sql_lex.specs.Bytes.{is_digit};
 ghost use Rattle.ddl_parts.specs.Pieces.{GivesPart};
 ghost use Rattle.cat_model.specs.declared.constraint.SequenceKind.TheVariants.{BigInt};
-ghost use Rattle.ddl_read.specs.SequenceGrammar.{digits_below, count_first, opposite, no_clauses, is_unsaid, with_number, reached, only_if, behind_no, numbered, clause_first, kind_first, lower, upper, usual_first, step_first, is_between, ended_by, sequence_clauses, given_or, bound_or, usual_start, sequence_of, create_sequence};
+ghost use Rattle.ddl_numbers.specs.Numbers.{count_first, opposite};
+ghost use Rattle.ddl_read.specs.SequenceGrammar.{no_clauses, is_unsaid, with_number, reached, only_if, behind_no, numbered, clause_first, kind_first, lower, upper, usual_first, step_first, is_between, ended_by, sequence_clauses, given_or, bound_or, usual_start, sequence_of, create_sequence};
 
 use cat_model::{QName, SequenceKind, Stmt};
+use ddl_numbers::{LIMIT, count_first, opposite};
 use ddl_parts::{Halt, Pieces, ReadError, qualified_name};
 use ddl_write::{usual_max, usual_min};
 use std::alloc::Global;
@@ -84,64 +86,6 @@ pub struct Clauses {
 pub struct Reached {
     clauses: Clauses,
     spot: ClauseSpot,
-}
-
-/// One more than the greatest number.
-pub(crate) const LIMIT: u64 = 1 << 63;
-
-#[tactic(auto, unfolding(sql_lex::specs::Bytes::is_digit))]
-fn is_digit(byte: u8) -> bool
-    ensures { result ≡ is_digit byte }
-{
-    byte.is_ascii_digit()
-}
-
-fn are_digits(word: &[u8]) -> bool
-    ensures { result ≡ list_all is_digit word.now }
-{
-    word.iter().all(|byte| is_digit(*byte))
-}
-
-/// The number of digits, where it is below a limit.
-#[tactic(auto, unfolding(crate::specs::SequenceGrammar::digits_below))]
-fn digits_below(word: &[u8], limit: u64) -> Option<u64>
-    requires some { 0 < length word.now }
-    ensures exact { result ≡ digits_below limit word.now }
-    ensures low { IfSome result (λ n. n < limit) }
-{
-    if !are_digits(word) {
-        return None;
-    }
-    let Ok(text) = str::from_utf8(word) else {
-        return None;
-    };
-    match text.parse::<u64>() {
-        Ok(number) if number < limit => Some(number),
-        _ => None,
-    }
-}
-
-/// The number at a place, where it is below a limit.
-pub(crate) fn count_at(pieces: &Pieces<'_>, at: usize, limit: u64) -> Option<u64>
-    ensures exact { result ≡ count_first limit (drop at pieces.now) }
-    ensures low { IfSome result (λ n. n < limit) }
-{
-    match pieces.number(at) {
-        Some(word) => digits_below(word, limit),
-        None => None,
-    }
-}
-
-/// The number with a minus sign.
-pub(crate) fn opposite(number: u64) -> i64
-    requires { number < 2 ^ 63 + 1 }
-    ensures { result ≡ opposite number }
-{
-    if number == 0 {
-        0
-    } else {
-        -1 - (number - 1) as i64
-    }
 }
 
 /// What was reached where a token goes on, or None.
@@ -315,7 +259,7 @@ fn usual_first(pieces: &Pieces<'_>, at: usize, which: Open, clauses: Clauses) ->
 fn behind_number(pieces: &Pieces<'_>, at: usize, field: Field, clauses: Clauses) -> Option<Reached>
     ensures { result ≡ numbered field pos clauses (count_first (2 ^ 63) (drop at pieces.now)) }
 {
-    let number = count_at(pieces, at, LIMIT)? as i64;
+    let number = count_first(pieces, at, LIMIT)? as i64;
     Some(Reached {
         clauses: with_number(field, number, clauses),
         spot: ClauseSpot::Between,
@@ -326,7 +270,7 @@ fn behind_number(pieces: &Pieces<'_>, at: usize, field: Field, clauses: Clauses)
 fn behind_minus(pieces: &Pieces<'_>, at: usize, field: Field, clauses: Clauses) -> Option<Reached>
     ensures { result ≡ numbered field opposite clauses (count_first (2 ^ 63 + 1) (drop at pieces.now)) }
 {
-    let number = opposite(count_at(pieces, at, LIMIT + 1)?);
+    let number = opposite(count_first(pieces, at, LIMIT + 1)?);
     Some(Reached {
         clauses: with_number(field, number, clauses),
         spot: ClauseSpot::Between,

@@ -1,10 +1,10 @@
 //! Readers of a sequence's value, behind SELECT pg_catalog.setval.
-ghost use Rattle.std.specs.Prelude.{◌≡◌, ◌<◌, drop, IfOk};
+ghost use Rattle.std.specs.Prelude.{◌≡◌, drop};
 ghost use Rattle.ddl_parts.specs.Pieces.{GivesPart};
-ghost use Rattle.ddl_read.specs.ValueGrammar.{GivesPath, path_in, literal_path, count, whole_number, truth, set_value};
+ghost use Rattle.ddl_read.specs.ValueGrammar.{GivesPath, path_in, literal_path, truth, set_value};
 
-use crate::sequences::{LIMIT, count_at, opposite};
 use cat_model::{QName, Stmt};
+use ddl_numbers::whole_number;
 use ddl_parts::{Halt, Pieces, ReadError, Run, collect, qualified_name};
 use std::alloc::Global;
 
@@ -32,34 +32,6 @@ fn literal_path(alloc: Global, pieces: &Pieces<'_>, at: usize) -> Result<(QName,
     let (text, end) = pieces.literal(alloc, at)?;
     let q = path_in(alloc, text.as_bytes(), at)?;
     Ok((q, end))
-}
-
-/// The number at a place, where it is below a limit, and the place behind it.
-fn count(pieces: &Pieces<'_>, at: usize, limit: u64) -> Result<(u64, usize), ReadError>
-    ensures exact { GivesPart pieces.now (λ n. n) result ((count limit).read (drop at pieces.now)) }
-    ensures low { IfOk result (λ x. x.0 < limit) }
-{
-    if at >= pieces.len() {
-        return Err(ReadError::Halted(Halt { long: false, at }));
-    }
-    match count_at(pieces, at, limit) {
-        Some(number) => Ok((number, at + 1)),
-        None => Err(ReadError::Halted(Halt { long: false, at })),
-    }
-}
-
-/// The whole number at a place, and the place behind it.
-#[tactic(auto, unfolding(crate::specs::ValueGrammar::whole_number))]
-fn whole_number(pieces: &Pieces<'_>, at: usize) -> Result<(i64, usize), ReadError>
-    ensures { GivesPart pieces.now (λ n. n) result (whole_number.read (drop at pieces.now)) }
-{
-    if pieces.is_sign(at, b'-') {
-        let at = pieces.sign(at, b'-')?;
-        let (number, at) = count(pieces, at, LIMIT + 1)?;
-        return Ok((opposite(number), at));
-    }
-    let (number, at) = count(pieces, at, LIMIT)?;
-    Ok((number as i64, at))
 }
 
 /// TRUE or FALSE at a place, and the place behind it.

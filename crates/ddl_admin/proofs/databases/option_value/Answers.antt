@@ -1,7 +1,8 @@
 use Rattle.std.proofs.Common.{◌≡◌, true, drop, sym, ◌∙◌, arith}
 use Rattle.ddl_parts.specs.Lexemes.{starts}
 use Rattle.ddl_admin.specs.Databases.{is_value}
-use Rattle.ddl_admin.proofs.Places.{token_at, mark_is}
+use Rattle.ddl_numbers.proofs.Places.{token_at}
+use Rattle.ddl_admin.proofs.Places.{mark_is}
 use Rattle.ddl_admin.proofs.databases.option_value.Goals as goal
 
 pub returns-then-is_value : goal.returns-then-is_value

@@ -11,10 +11,11 @@ use Rattle.ddl_parts.specs.Leaves.{name_in, name_value, text_in, literal_value}
 use Rattle.ddl_parts.specs.Parts.{scan, many_at}
 use Rattle.ddl_parts.specs.Expressions.{ends_run, nest_step, nest_done, expression, default_text}
 use Rattle.ddl_parts.specs.Collecting.{collected_within, collected}
+use Rattle.ddl_numbers.specs.Numbers.{digits_below}
 use Rattle.ddl_read.specs.Clauses.{named_check}
 use Rattle.ddl_read.specs.Grammar.{create_schema, created, new_owner, new_check, domain_change, altered_domain, name_and_owner, path_and_owner, altered, selected, equals_or_to, setting, command, statement}
 use Rattle.ddl_read.specs.RelationGrammar.{create_view, replace_view, create_index, create_unique_index}
-use Rattle.ddl_read.specs.SequenceGrammar.{digits_below, clause_first, kind_first, usual_first, step_first, sequence_clauses, sequence_of, create_sequence}
+use Rattle.ddl_read.specs.SequenceGrammar.{clause_first, kind_first, usual_first, step_first, sequence_clauses, sequence_of, create_sequence}
 use Rattle.ddl_write.specs.Sequences.{usual_min, usual_max}
 use Rattle.ddl_read.specs.Reading.{line_at, statement_of, statements_within, statements_of}
 use Rattle.ddl_read.proofs.laws.sequences_meet_the_examples.Goals as goal

@@ -11,12 +11,12 @@ use Rattle.ddl_parts.specs.Leaves.{name_in, name_value, text_in, literal_value, 
 use Rattle.ddl_parts.specs.Parts.{scan, many_at}
 use Rattle.ddl_parts.specs.Expressions.{ends_run, nest_step, nest_done, expression, default_text, default_and_null, without_not_null}
 use Rattle.ddl_parts.specs.Collecting.{collected_within, collected}
+use Rattle.ddl_numbers.specs.Numbers.{count_value, digits_below, whole_number}
 use Rattle.ddl_read.specs.Clauses.{named_check}
 use Rattle.ddl_read.specs.TableGrammar.{create_enum, null_first, default_first, attributes, typed, create_domain, column_name_value, column, element, last_element, table_elements, create_table}
 use Rattle.ddl_parts.specs.Types.{type_step, type_done, type_long, is_type_word, is_number, type_of, type_part}
 use Rattle.ddl_read.specs.RelationGrammar.{owned_by, sequence_change, altered_sequence, create_view, replace_view, bracketed, index_parts, create_index, create_unique_index}
-use Rattle.ddl_read.specs.SequenceGrammar.{digits_below}
-use Rattle.ddl_read.specs.ValueGrammar.{path_in, path_value, count_value, whole_number, truth, set_value}
+use Rattle.ddl_read.specs.ValueGrammar.{path_in, path_value, truth, set_value}
 use Rattle.ddl_read.specs.Grammar.{create_schema, created, new_owner, new_check, domain_change, altered_domain, name_and_owner, path_and_owner, altered, set_config, selected, equals_or_to, setting, command, statement}
 use Rattle.ddl_read.specs.AlterGrammar.{other_value, other_path, table_change, behind_only, altered_table, only_value, check_body, constraint_body, added, new_default, own_change}
 use Rattle.ddl_read.specs.Reading.{line_at, statement_of, statements_within, statements_of}

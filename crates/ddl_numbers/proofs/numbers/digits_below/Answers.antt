@@ -1,8 +1,8 @@
 use Rattle.std.proofs.Common.{◌≡◌, true, sym, arith}
 use Rattle.std.specs.List.{list_all}
 use Rattle.sql_lex.specs.Bytes.{is_digit}
-use Rattle.ddl_admin.proofs.DigitParsing.{are_utf8, small, large, unparsed}
-use Rattle.ddl_admin.proofs.numbers.digits_below.Goals as goal
+use Rattle.ddl_numbers.proofs.DigitParsing.{are_utf8, small, large, unparsed}
+use Rattle.ddl_numbers.proofs.numbers.digits_below.Goals as goal
 
 pub returns-in_default : goal.returns-in_default
 returns-in_default c =

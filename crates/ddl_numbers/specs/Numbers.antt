@@ -1,11 +1,11 @@
 -- Whole numbers of 64 bits: digits, or a minus sign and digits.
-use Rattle.std.specs.Prelude.{ℕ, zero, suc, ◌+◌, ◌^◌, ◌&&◌, nat_lt, ℤ, pos, negsuc, Bool, false, List, Option, Some, None, Result, Ok, Err, option_and_then, if◌then◌else◌}
+use Rattle.std.specs.Prelude.{ℕ, zero, suc, ◌+◌, ◌^◌, ◌&&◌, nat_lt, ℤ, pos, negsuc, Bool, false, List, [], ◌∷◌, Option, Some, None, Result, Ok, Err, option_and_then, if◌then◌else◌}
 use Rattle.std.specs.List.{list_all}
 use Rattle.std.specs.Str.Parse.{digits_value}
 use Rattle.sql_lex.specs.Bytes.{is_digit}
 use Rattle.ddl_parts.specs.Lexemes.{Lexeme, is_sign}
 use Rattle.ddl_parts.specs.Parts.{Part, one, seen, choose, ◌▸◌}
-use Rattle.ddl_parts.specs.Leaves.{digits_of, number_first}
+use Rattle.ddl_parts.specs.Leaves.{number_first}
 
 -- the number of digits, where it is below a limit; a number with a fraction has none
 unfoldable pub digits_below : ℕ → List ℕ → Option ℕ
@@ -21,7 +21,7 @@ counted None = Err false
 
 -- the number of a token, where it is below a limit
 unfoldable pub count_value : ℕ → Lexeme → Result ℕ Bool
-count_value limit t = counted (option_and_then (digits_below limit) (digits_of t.kind t.word))
+count_value limit t = counted (count_first limit (t ∷ []))
 
 abbrev pub count : ℕ → Part ℕ
 count limit = one (count_value limit)

@@ -12,7 +12,7 @@ use Rattle.std.proofs.lemmas.Result.{OkIff-at_ok}
 use Rattle.std.proofs.lemmas.Str.{IsUtf8-from_ascii, digit_value_digit}
 use Rattle.std.proofs.lemmas.Str.Parse.{without_leading_plus_none, digit_from_value}
 use Rattle.sql_lex.specs.Bytes.{is_digit}
-use Rattle.ddl_read.specs.SequenceGrammar.{digits_below}
+use Rattle.ddl_numbers.specs.Numbers.{digits_below}
 
 digit_of : (c : ℕ) → is_digit c ≡ true → digit_value c < 10
 unfolding is_digit

@@ -1,6 +1,6 @@
 use Rattle.std.proofs.Common.{sym, arith}
-use Rattle.ddl_admin.proofs.Places.{token_at, count_is, no_count}
-use Rattle.ddl_admin.proofs.numbers.count.Goals as goal
+use Rattle.ddl_numbers.proofs.Places.{token_at, count_is, no_count}
+use Rattle.ddl_numbers.proofs.numbers.count.Goals as goal
 
 pub returns-in-Some-clause-exact : goal.returns-in-Some-clause-exact
 returns-in-Some-clause-exact c =

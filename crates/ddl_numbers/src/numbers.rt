@@ -3,12 +3,12 @@ ghost use Rattle.std.specs.Prelude.{◌≡◌, ◌<◌, ◌^◌, ◌+◌, length
 ghost use Rattle.std.specs.List.{list_all};
 ghost use Rattle.sql_lex.specs.Bytes.{is_digit};
 ghost use Rattle.ddl_parts.specs.Pieces.{GivesPart};
-ghost use Rattle.ddl_admin.specs.Numbers.{digits_below, count_first, count, opposite, whole_number};
+ghost use Rattle.ddl_numbers.specs.Numbers.{digits_below, count_first, count, opposite, whole_number};
 
 use ddl_parts::{Halt, Pieces, ReadError};
 
-/// One more than the greatest number.
-const LIMIT: u64 = 1 << 63;
+/// One more than the greatest number of 64 bits.
+pub const LIMIT: u64 = 1 << 63;
 
 #[tactic(auto, unfolding(sql_lex::specs::Bytes::is_digit))]
 fn is_digit(byte: u8) -> bool
@@ -42,8 +42,8 @@ fn digits_below(word: &[u8], limit: u64) -> Option<u64>
     }
 }
 
-/// The number at a place, where it is below a limit.
-fn count_first(pieces: &Pieces<'_>, at: usize, limit: u64) -> Option<u64>
+/// The number at a place of the tokens, where it is whole and below a limit.
+pub fn count_first(pieces: &Pieces<'_>, at: usize, limit: u64) -> Option<u64>
     ensures exact { result ≡ count_first limit (drop at pieces.now) }
     ensures low { IfSome result (λ n. n < limit) }
 {
@@ -53,8 +53,8 @@ fn count_first(pieces: &Pieces<'_>, at: usize, limit: u64) -> Option<u64>
     }
 }
 
-/// The number with a minus sign.
-fn opposite(number: u64) -> i64
+/// The number with a minus sign; it is at most 2^63.
+pub fn opposite(number: u64) -> i64
     requires { number < 2 ^ 63 + 1 }
     ensures { result ≡ opposite number }
 {
@@ -79,9 +79,11 @@ fn count(pieces: &Pieces<'_>, at: usize, limit: u64) -> Result<(u64, usize), Rea
     }
 }
 
-/// The whole number at a place, and the place behind it.
+/// The whole number of 64 bits at a place, digits or a minus sign and digits, and the place behind it.
+///
+/// `Halted` tells the first token with which no such number goes on.
 #[tactic(auto, unfolding(crate::specs::Numbers::whole_number))]
-pub(crate) fn whole_number(pieces: &Pieces<'_>, at: usize) -> Result<(i64, usize), ReadError>
+pub fn whole_number(pieces: &Pieces<'_>, at: usize) -> Result<(i64, usize), ReadError>
     ensures { GivesPart pieces.now (λ n. n) result (whole_number.read (drop at pieces.now)) }
 {
     if pieces.is_sign(at, b'-') {
