@@ -46,7 +46,7 @@ impl<T: Drop> From<AllocFailed<T>> for MetaError {
 fn is_blank(byte: u8) -> bool
     ensures { result ≡ is_blank byte }
 {
-    matches!(byte, b' ' | b'\t' | b'\n' | b'\r' | b'\x0c')
+    byte.is_ascii_whitespace()
 }
 
 /// Whether all the text is white space.

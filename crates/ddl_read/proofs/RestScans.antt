@@ -1,9 +1,10 @@
 -- What follows the columns of a key, token by token.
-use Rattle.std.proofs.Common.{◌≡◌, ℕ, zero, suc, ◌+◌, ◌<◌, ◌≤◌, Bool, List, [], ◌∷◌, length, drop, Option, Some, None, Result, Ok, Err, refl, sym, ap, ◌∙◌, arith}
+use Rattle.std.proofs.Common.{◌≡◌, ℕ, ◌+◌, Bool, List, ◌∷◌, drop, Option, Some, None, Result, Ok, Err, refl, sym, ap, ◌∙◌}
 use Rattle.std.specs.Option.{ok_or}
 use Rattle.ddl_parts.specs.Lexemes.{Lexeme}
 use Rattle.ddl_parts.specs.Leaves.{name_value}
 use Rattle.ddl_parts.specs.Parts.{first_by}
+use Rattle.ddl_numbers.proofs.Places.{IsAt}
 use Rattle.ddl_read.specs.declared.rests.RestSpot.{RestSpot}
 use Rattle.ddl_read.specs.declared.rests.RestSpot.TheVariants.{Begin, Deferrable, Initially, Ended, Foreign, FirstOn, Update, UpdateNo, UpdateSet, Updated, SecondOn, Delete, DeleteNo, DeleteSet, Chosen, Opened, Named, Deleted}
 use Rattle.ddl_read.specs.Rests.{if_name, if_read, is_long_by, is_long_read, rest_step, rest_long, step_first, long_first}
@@ -41,22 +42,6 @@ first_long : (s : RestSpot) (t : Lexeme) (ts : List Lexeme) → long_first s (t 
 unfolding long_first rest_long
 first_long Opened t ts = long_name (name_value t) t ts
 first_long _ t ts = refl
-
--- the token at a place before the end
-pub record IsAt (ts : List Lexeme) (at : ℕ) : Type 0 where
-  pub token : Lexeme
-  pub here : drop at ts ≡ token ∷ drop (at + 1) ts
-
-pub token_at : (ts : List Lexeme) (at : ℕ) → at < length ts → IsAt ts at
-token_at [] at low = absurd (omega arith)
-token_at (t ∷ ts) zero low = record { token = t; here = refl }
-token_at (t ∷ ts) (suc at) low = let h = token_at ts at (omega arith) in record { token = h.token; here = h.here ∙ ap (λ (n : ℕ). h.token ∷ drop n (t ∷ ts)) (let e : suc (at + 1) ≡ suc at + 1 = omega arith in e) }
-
-pub none_behind : (ts : List Lexeme) (at : ℕ) → length ts ≤ at → drop at ts ≡ []
-none_behind [] zero low = refl
-none_behind [] (suc at) low = refl
-none_behind (t ∷ ts) zero low = absurd (omega arith)
-none_behind (t ∷ ts) (suc at) low = none_behind ts at (omega arith)
 
 abbrev gone : RestSpot → Result RestSpot Bool
 gone s = Ok s

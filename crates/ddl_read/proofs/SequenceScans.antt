@@ -10,7 +10,7 @@ use Rattle.ddl_read.specs.declared.sequences.Open.TheVariants.{Both, Lower, Uppe
 use Rattle.ddl_read.specs.declared.sequences.Clauses.{Clauses}
 use Rattle.ddl_read.specs.declared.sequences.Reached.{Reached}
 use Rattle.ddl_read.specs.SequenceGrammar.{reached, clause_first, kind_first, usual_first, step_first, is_between, ended_by, clausing, first_reached, clauses_of, sequence_clauses}
-use Rattle.ddl_read.proofs.RestScans.{IsAt}
+use Rattle.ddl_numbers.proofs.Places.{IsAt}
 
 first_at : (spot : ClauseSpot) (c : Clauses) (t : Lexeme) (ts : List Lexeme) → step_first (reached c spot) (t ∷ ts) ≡ step_first (reached c spot) (t ∷ [])
 unfolding step_first clause_first kind_first usual_first

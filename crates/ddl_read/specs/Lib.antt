@@ -8,6 +8,7 @@ pub mod RelationGrammar
 pub mod CopyGrammar
 pub mod ValueGrammar
 pub mod Grammar
+pub mod Faults
 pub mod Reading
 pub mod Readings
 pub mod Examples

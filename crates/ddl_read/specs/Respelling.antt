@@ -127,7 +127,7 @@ IsColumn c = IsName c.name × IsType c.type_name × IsDefault c.default
 
 -- What a statement is made of is what it should be: names are names, texts are texts, expressions are expressions,
 -- rows are lines that are ended and none of them the line \., and a database that is connected to has no line feed in
--- its name. It says so for the kinds that are read.
+-- its name.
 abbrev pub IsWritable : Stmt → Type 0
 IsWritable (stmt.CreateSchema n) = IsName n
 IsWritable (stmt.CreateEnum q labels) = IsPath q × AllByRecursion IsText labels

@@ -1,5 +1,6 @@
 //! Why a text has no statements.
 ghost use Rattle.std.specs.Prelude.{◌≡◌};
+ghost use Rattle.ddl_read.specs.Faults.{fault_place};
 ghost use Rattle.ddl_read.specs.declared.fault.ReadStmtsError.TheVariants as errors;
 
 use sql_lex::LexFault;
@@ -12,15 +13,30 @@ pub enum DdlFault {
     /// The text has no tokens from here on.
     #[error("{0}")]
     Lex(LexFault),
-    /// No statement goes on with the token that begins here.
+    /// No statement goes on with the token that begins here, no rows of a COPY begin with this byte, or the line
+    /// with a backslash that begins here isn't known.
     #[error("no statement goes on at byte {0}")]
     Unknown(usize),
-    /// The name that begins here has more than 63 bytes.
+    /// The name that begins here, or that the line with a backslash has which begins here, has more than 63 bytes.
     #[error("the name at byte {0} is too long")]
     LongName(usize),
     /// The text ends, at this place, within a statement.
     #[error("a statement doesn't end before the text does, at byte {0}")]
     Incomplete(usize),
+}
+
+impl DdlFault {
+    /// The place of the fault, counted in bytes from 0.
+    pub fn place(self) -> usize
+        ensures { result ≡ fault_place self }
+    {
+        match self {
+            DdlFault::Lex(LexFault::Unclosed(at) | LexFault::BadByte(at))
+            | DdlFault::Unknown(at)
+            | DdlFault::LongName(at)
+            | DdlFault::Incomplete(at) => at,
+        }
+    }
 }
 
 /// Why statements could not be read.

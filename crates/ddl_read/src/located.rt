@@ -1,7 +1,10 @@
 //! Statements with their places.
 use cat_model::Stmt;
 
-/// A statement of a text: its bytes are those from `start` up to `end`, its semicolon among them.
+/// A statement of a text: its bytes are those from `start` up to `end`, counted from 0.
+///
+/// Its semicolon is among them, and so are the rows of a COPY with the line `\.` that ends them. A line that begins with
+/// a backslash ends before its line feed.
 #[derive(Debug, Drop)]
 pub struct Located {
     /// What it says.

@@ -188,7 +188,8 @@ fn no_more(fault: Option<LexFault>) -> Result<(), ReadStmtsError>
     }
 }
 
-/// The statements of a text, in order; empty ones are passed over.
+/// The statements of a text, in order, with the rows of each COPY and the lines that begin with a backslash; empty
+/// statements are passed over, and so are `\restrict` and `\unrestrict`.
 ///
 /// `Fault` is the first place at which no statement goes on: `Lex` where the text has no token, `LongName` where a name
 /// has more than 63 bytes, `Incomplete` at the text's length where it ends within a statement, else `Unknown`. The
