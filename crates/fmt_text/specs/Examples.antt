@@ -1,5 +1,5 @@
 -- Entries of the worked examples, and their parts in a script.
-use Rattle.std.specs.Prelude.{ℕ, Bool, true, false, List, [], Option, Some, None, codes}
+use Rattle.std.specs.Prelude.{ℕ, true, false, List, [], Option, Some, None, codes}
 use Rattle.toc_entry.specs.declared.entry.Entry.{Entry}
 use Rattle.toc_entry.specs.declared.entry.Extra.TheVariants.{Place}
 

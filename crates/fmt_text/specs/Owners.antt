@@ -1,13 +1,13 @@
 -- The owner statement of an entry: ALTER .. OWNER TO, which gives the object of an entry to its owner.
 -- Entries of six kinds have one, where the entry tells an owner and its names can be names.
-use Rattle.std.specs.Prelude.{ℕ, Bool, List, [], ◌∷◌, ◌++◌, Option, Some, None, option_and_then, if◌then◌else◌, codes}
+use Rattle.std.specs.Prelude.{ℕ, Bool, List, [], ◌++◌, Option, Some, None, option_and_then, if◌then◌else◌, codes}
 use Rattle.std.specs.Option.{option_map}
 use Rattle.std.specs.Str.{bytes_eq}
 use Rattle.copy_text.specs.Texts.{is_name}
-use Rattle.sql_lex.specs.Written.{written_name}
 use Rattle.cat_model.specs.declared.object.QName.{QName}
 use Rattle.cat_model.specs.declared.grant.Owned.{Owned}
 use Rattle.cat_model.specs.declared.grant.Owned.TheVariants as owned
+use Rattle.ddl_write.specs.Spelling.{owner_text}
 use Rattle.toc_entry.specs.declared.entry.Entry.{Entry}
 use Rattle.fmt_text.specs.declared.owner.OwnedKind.{OwnedKind}
 use Rattle.fmt_text.specs.declared.owner.OwnedKind.TheVariants as kinds
@@ -52,23 +52,6 @@ unfoldable pub owned_object : Entry → Option Owned
 owned_object e = object_of e (kind_of e.desc)
 
 -- ---- its text
-
-abbrev pub dotted : QName → List ℕ
-dotted q = written_name q.schema ++ codes "." ++ written_name q.name
-
--- the kind and the path of an object
-unfoldable pub object_text : Owned → List ℕ
-object_text (owned.Schema name) = codes "SCHEMA " ++ written_name name
-object_text (owned.Type q) = codes "TYPE " ++ dotted q
-object_text (owned.Domain q) = codes "DOMAIN " ++ dotted q
-object_text (owned.Table q) = codes "TABLE " ++ dotted q
-object_text (owned.Sequence q) = codes "SEQUENCE " ++ dotted q
-object_text (owned.View q) = codes "VIEW " ++ dotted q
-object_text (owned.Database name) = codes "DATABASE " ++ written_name name
-
--- the statement that gives an object to a role
-unfoldable pub owner_text : Owned → List ℕ → List ℕ
-owner_text object role = codes "ALTER " ++ object_text object ++ codes " OWNER TO " ++ written_name role ++ codes ";\n"
 
 abbrev pub given : Option Owned → Option (List ℕ) → List ℕ
 given (Some object) (Some role) = owner_text object role ++ codes "\n"

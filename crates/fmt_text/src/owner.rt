@@ -2,12 +2,12 @@
 ghost use Rattle.std.specs.Prelude.{◌≡◌, ◌++◌, OnOk, IfOk, Some, option_and_then};
 ghost use Rattle.std.specs.Option.{option_copied};
 ghost use Rattle.copy_text.specs.Rows.{Extends};
-ghost use Rattle.sql_lex.specs.Written.{written_name};
-ghost use Rattle.fmt_text.specs.Owners.{kind_of, name_in, path_of, object_of, owned_object, dotted, object_text, owner_text, owner_part};
+ghost use Rattle.ddl_write.specs.Spelling.{owner_text};
+ghost use Rattle.fmt_text.specs.Owners.{kind_of, name_in, path_of, object_of, owned_object, owner_part};
 
-use cat_model::{Owned, QName};
+use cat_model::{Owned, QName, Stmt};
 use copy_text::{Name, Text};
-use sql_lex::write_name;
+use ddl_write::{WriteStmtError, write_stmt};
 use std::alloc::{AllocError, Global};
 use toc_entry::Entry;
 
@@ -103,61 +103,19 @@ fn owned_object(alloc: Global, entry: &Entry) -> Result<Option<Owned>, AllocErro
     }
 }
 
-/// Appends a path.
-fn put_path(path: &QName, out: &mut Vec<u8>) -> Result<(), AllocError>
-    ensures ok { OnOk result (out.new.items ≡ out.old.items ++ dotted path.now) }
-    ensures kept { Extends out.old.items out.new.items }
-{
-    write_name(path.schema.as_bytes(), out)?;
-    out.push(b'.')?;
-    write_name(path.name.as_bytes(), out)
-}
-
-/// Appends a word before a path.
-fn put_in_schema(word: &[u8], path: &QName, out: &mut Vec<u8>) -> Result<(), AllocError>
-    ensures ok { OnOk result (out.new.items ≡ out.old.items ++ (word.now ++ dotted path.now)) }
-    ensures kept { Extends out.old.items out.new.items }
-{
-    out.extend_from_slice(word)?;
-    put_path(path, out)
-}
-
-/// Appends a word before a name.
-fn put_alone(word: &[u8], name: &Name, out: &mut Vec<u8>) -> Result<(), AllocError>
-    ensures ok { OnOk result (out.new.items ≡ out.old.items ++ (word.now ++ written_name name.now)) }
-    ensures kept { Extends out.old.items out.new.items }
-{
-    out.extend_from_slice(word)?;
-    write_name(name.as_bytes(), out)
-}
-
-/// Appends the kind and the path of an object.
-#[tactic(auto, unfolding(crate::specs::Owners::object_text))]
-fn put_object(object: &Owned, out: &mut Vec<u8>) -> Result<(), AllocError>
-    ensures ok { OnOk result (out.new.items ≡ out.old.items ++ object_text object.now) }
-    ensures kept { Extends out.old.items out.new.items }
-{
-    match object {
-        Owned::Schema(name) => put_alone(b"SCHEMA ", name, out),
-        Owned::Type(path) => put_in_schema(b"TYPE ", path, out),
-        Owned::Domain(path) => put_in_schema(b"DOMAIN ", path, out),
-        Owned::Table(path) => put_in_schema(b"TABLE ", path, out),
-        Owned::Sequence(path) => put_in_schema(b"SEQUENCE ", path, out),
-        Owned::View(path) => put_in_schema(b"VIEW ", path, out),
-        Owned::Database(name) => put_alone(b"DATABASE ", name, out),
-    }
-}
-
 /// Appends the statement that gives an object to a role.
-#[tactic(auto, unfolding(crate::specs::Owners::owner_text))]
-fn put_owner_to(object: &Owned, role: &Name, out: &mut Vec<u8>) -> Result<(), AllocError>
-    ensures ok { OnOk result (out.new.items ≡ out.old.items ++ owner_text object.now role.now) }
+#[tactic(auto, unfolding(ddl_write::specs::Spelling::spelling))]
+fn put_owner_to(object: Owned, role: Name, out: &mut Vec<u8>) -> Result<(), AllocError>
+    ensures ok { OnOk result (out.new.items ≡ out.old.items ++ owner_text object role) }
     ensures kept { Extends out.old.items out.new.items }
 {
-    out.extend_from_slice(b"ALTER ")?;
-    put_object(object, out)?;
-    put_alone(b" OWNER TO ", role, out)?;
-    out.extend_from_slice(b";\n")
+    let statement = Stmt::OwnerTo { object, role };
+    let written = write_stmt(&statement, out);
+    drop(statement);
+    match written {
+        Ok(()) => Ok(()),
+        Err(WriteStmtError::Memory) => Err(AllocError),
+    }
 }
 
 /// Appends the owner statement of an entry and an empty line, where it has one in a script with owners.
@@ -180,6 +138,6 @@ pub fn put_owner(
     let Some(role) = name_of(alloc, entry.owner.as_ref())? else {
         return Ok(());
     };
-    put_owner_to(&object, &role, out)?;
+    put_owner_to(object, role, out)?;
     out.extend_from_slice(b"\n")
 }

@@ -1,5 +1,4 @@
 use Rattle.std.proofs.Common.{◌≡◌, ◌++◌, take}
-use Rattle.copy_text.specs.Rows.{Extends}
 use Rattle.fmt_text.specs.Script.{parts}
 use Rattle.fmt_text.proofs.script.put_parts.Given as goal
 
