@@ -2,3 +2,5 @@ pub mod OrderLemmas
 pub mod Pieces
 pub mod Shown
 pub mod ScriptPieces
+pub mod Collecting
+pub mod Taken

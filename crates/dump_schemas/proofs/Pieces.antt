@@ -1,5 +1,5 @@
 -- A text that is laid out in pieces, each a token, or white space or a comment, has the tokens of its pieces.
-use Rattle.std.proofs.Common.{◌≡◌, ℕ, zero, suc, ◌+◌, ◌-◌, Bool, true, false, not, ◌&&◌, ◌||◌, List, [], ◌∷◌, ◌++◌, length, length-append, append_assoc, Option, Some, None, Ok, refl, sym, ap, subst, ◌∙◌, inl, inr, arith}
+use Rattle.std.proofs.Common.{◌≡◌, ℕ, ◌+◌, ◌-◌, Bool, true, false, not, ◌&&◌, ◌||◌, List, [], ◌∷◌, ◌++◌, length, length-append, append_assoc, Option, Some, None, Ok, refl, sym, ap, subst, ◌∙◌, inl, inr, arith}
 use Rattle.std.specs.Prelude.{◌==◌, nat_lt}
 use Rattle.std.specs.List.{list_all}
 use Rattle.std.specs.Str.{bytes_eq, is_utf8, IsUtf8}
@@ -12,7 +12,7 @@ use Rattle.sql_lex.specs.declared.token.TokenKind.TheVariants.{Word, QuotedName,
 use Rattle.sql_lex.specs.Bytes.{is_blank, is_digit, begins_word, in_word, is_sign, in_line, next_is}
 use Rattle.sql_lex.specs.Pieces.{begins_line}
 use Rattle.sql_lex.specs.Next.{next_within, next_token_of}
-use Rattle.sql_lex.specs.Spelling.{Spells, IsGap, AreBlanks, IsLineComment, goes_on}
+use Rattle.sql_lex.specs.Spelling.{Spells, IsGap, IsLineComment, goes_on}
 use Rattle.sql_lex.specs.Meaning.{name_of, inside}
 use Rattle.sql_lex.specs.Written.{is_bare, quoted, written_name}
 use Rattle.sql_lex.specs.Reserved.{is_reserved}

@@ -1,8 +1,7 @@
 -- The script of schemas in pieces, and the tokens of these pieces.
-use Rattle.std.proofs.Common.{◌≡◌, ℕ, ◌+◌, ◌<◌, Bool, true, false, not, ◌&&◌, ◌||◌, List, [], ◌∷◌, ◌++◌, length, drop, append_assoc, Option, Some, None, refl, sym, ap, subst, ◌∙◌, inl, inr, arith}
-use Rattle.std.specs.Prelude.{◌==◌, codes, nat_lt}
+use Rattle.std.proofs.Common.{◌≡◌, ℕ, ◌+◌, Bool, true, false, not, ◌&&◌, List, [], ◌∷◌, ◌++◌, drop, append_assoc, Some, None, refl, sym, ap, subst, ◌∙◌, inl, inr, arith}
+use Rattle.std.specs.Prelude.{codes}
 use Rattle.std.specs.List.{list_all, flat_map, AllByRecursion}
-use Rattle.std.specs.Char.{is_ascii_lowercase}
 use Rattle.std.specs.Str.{is_utf8, chars, IsUtf8}
 use Rattle.std.proofs.Math.Utf8.{encode}
 use Rattle.std.proofs.lemmas.Bool.{cases_Bool, and_parts, and_from}
@@ -12,7 +11,6 @@ use Rattle.std.proofs.lemmas.List.Folds.{list_all-append}
 use Rattle.std.proofs.lemmas.List.{append-nil}
 use Rattle.std.proofs.lemmas.Grind.{flat_map-append}
 use Rattle.copy_text.specs.Texts.{IsName, is_name}
-use Rattle.sql_lex.specs.declared.token.TokenKind.{TokenKind}
 use Rattle.sql_lex.specs.declared.token.TokenKind.TheVariants.{Word, Literal, Number, Sign}
 use Rattle.sql_lex.specs.Bytes.{is_blank, is_digit, begins_word, in_word, is_sign, marks_escapes, in_line, next_is}
 use Rattle.sql_lex.specs.Ends.{run_end, quote_end, number_end, fraction_end}
@@ -25,7 +23,8 @@ use Rattle.sql_lex.specs.Written.{begins_bare, in_bare, is_bare, doubled, quoted
 use Rattle.sql_lex.specs.ReadBack.{written_kind}
 use Rattle.dump_ports.specs.declared.moment.Moment.{Moment}
 use Rattle.fmt_text.specs.Lines.{title, shown}
-use Rattle.fmt_text.specs.Owners.{kind_of, name_in, owned_object, object_text, owner_text, owner_part}
+use Rattle.ddl_write.specs.Spelling.{owned_object as object_text, owner_text}
+use Rattle.fmt_text.specs.Owners.{kind_of, name_in, owned_object, owner_part}
 use Rattle.fmt_text.specs.Parts.{about, body, part}
 use Rattle.fmt_text.specs.Script.{versions, session, script_head, script_end, parts, script}
 use Rattle.dump_schemas.specs.declared.rows.SchemaRow.{SchemaRow}
@@ -300,7 +299,7 @@ schema_tokens name owner false e = rw e refl
 
 -- ---- the parts of all schemas
 
-abbrev Names : List SchemaRow → Type 0
+abbrev pub Names : List SchemaRow → Type 0
 Names rows = AllByRecursion (λ row. IsName row.name) rows
 
 starts : (owner : List ℕ) (rows : List SchemaRow) (more : List ℕ) → (later : List ℕ) × (bytes (rows_pieces owner rows) ++ (45 ∷ more) ≡ 45 ∷ later)
@@ -344,7 +343,7 @@ ordered_names : (less : SchemaRow → SchemaRow → Bool) (rows : List SchemaRow
 ordered_names less [] all = tt
 ordered_names less (row ∷ rows) all = placed_names less row (ordered less rows) all.0 (ordered_names less rows all.1)
 
-in_order_names : (rows : List SchemaRow) → Names rows → Names (in_order rows)
+pub in_order_names : (rows : List SchemaRow) → Names rows → Names (in_order rows)
 unfolding in_order
 in_order_names rows all = ordered_names _ rows all
 

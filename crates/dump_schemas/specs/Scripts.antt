@@ -1,5 +1,5 @@
 -- The script of a database whose only objects are schemas: what a plain dump of it writes.
-use Rattle.std.specs.Prelude.{◌≡◌, ◌++◌, ℕ, Bool, true, List, map, Option, None, Result, Ok, Err, codes}
+use Rattle.std.specs.Prelude.{◌≡◌, ◌++◌, ℕ, true, List, map, Option, None, Result, Ok, Err, codes}
 use Rattle.std.specs.Global.{Vec}
 use Rattle.dump_ports.specs.declared.moment.Moment.{Moment}
 use Rattle.toc_entry.specs.declared.entry.Entry.{Entry}

@@ -1,7 +1,5 @@
-use Rattle.std.proofs.Common.{◌≡◌, ℕ, List}
-use Rattle.std.specs.Ordering.{nat_cmp, on, is_lt}
+use Rattle.std.specs.Ordering.{is_lt}
 use Rattle.std.specs.Cmp.{IsTotalOrder, IsStrictWeakOrder}
-use Rattle.std.specs.Cmp.Lexicographic.{slice_cmp}
 use Rattle.std.proofs.lemmas.Cmp.{then_total, nat_list_cmp_total, nat_cmp_total, on_total}
 use Rattle.std.proofs.lemmas.List.Sorted.{ranks_by}
 use Rattle.dump_schemas.specs.declared.rows.SchemaRow.{SchemaRow}
