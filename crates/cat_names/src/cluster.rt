@@ -20,8 +20,8 @@ use crate::sequences::check_sequence_numbers;
 use cat_rows::{Catalogue, SysTable};
 use std::alloc::Global;
 
-// The answer for a line as one for its table.
-fn at<T: Drop>(table: SysTable, answer: Result<T, LineError>) -> Result<T, CheckError>
+/// The answer for a line as one for its table.
+pub fn at<T: Drop>(table: SysTable, answer: Result<T, LineError>) -> Result<T, CheckError>
     ensures due { (due : Option Fault) → GivesLine answer due → GivesTable result (in_table table due) }
     ensures ok { (x : T) → result ≡ Ok x → answer ≡ Ok x }
 {

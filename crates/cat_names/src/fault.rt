@@ -37,24 +37,31 @@ pub struct CatFault {
 
 /// The first fault of a table.
 #[derive(Debug, Drop)]
-pub(crate) struct LineFault {
-    pub(crate) line: u64,
-    pub(crate) kind: FaultKind,
+pub struct LineFault {
+    /// The line, counted from 1.
+    pub line: u64,
+    /// What is wrong.
+    pub kind: FaultKind,
 }
 
 /// What is wrong with a row, kind by kind.
 #[derive(Debug, Drop)]
-pub(crate) struct Findings {
-    pub(crate) repeated_oid: bool,
-    pub(crate) repeated_name: bool,
-    pub(crate) dangling: bool,
-    pub(crate) bad_text: bool,
-    pub(crate) left_out: Option<What>,
+pub struct Findings {
+    /// An earlier line has the same oid.
+    pub repeated_oid: bool,
+    /// An earlier line has the same name.
+    pub repeated_name: bool,
+    /// An oid leads to no row of the right kind.
+    pub dangling: bool,
+    /// A text isn't what its place wants.
+    pub bad_text: bool,
+    /// The first of what is left out.
+    pub left_out: Option<What>,
 }
 
 impl Findings {
     /// The first of the faults.
-    pub(crate) fn first_kind(self) -> Option<FaultKind>
+    pub fn first_kind(self) -> Option<FaultKind>
         ensures { result ≡ first_kind self }
     {
         if self.repeated_oid {
@@ -73,8 +80,10 @@ impl Findings {
 
 /// Why a table isn't well-formed.
 #[derive(Debug, Drop)]
-pub(crate) enum LineError {
+pub enum LineError {
+    /// It has this fault.
     Fault(LineFault),
+    /// Memory ran out.
     Memory,
 }
 

@@ -7,7 +7,7 @@ use std::alloc::AllocError;
 use std::collections::BTreeSet;
 
 /// Adds a key, and answers whether it is there for the first time.
-pub(crate) fn add_key<K: Ord + Drop>(keys: &mut BTreeSet<K>, key: K) -> Result<bool, AllocError>
+pub fn add_key<K: Ord + Drop>(keys: &mut BTreeSet<K>, key: K) -> Result<bool, AllocError>
     ensures first { IfOk result (λ first. first ≡ not (contains K.cmp keys.old key)) }
     ensures added { OnOk result ((ks : List K) → AreKeys K.cmp keys.old ks → AreKeys K.cmp keys.new (ks ++ key ∷ [])) }
 {

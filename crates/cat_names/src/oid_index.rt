@@ -10,7 +10,7 @@ use std::marker::Model;
 
 /// Oids in their order, found without going through them. A contract sees the list of them.
 #[derive(Drop)]
-pub(crate) struct OidIndex {
+pub struct OidIndex {
     oids: Vec<u32>,
     places: BTreeMap<u32, usize>,
 }
@@ -28,7 +28,7 @@ impl Model for OidIndex {
 
 impl OidIndex {
     /// No oids.
-    pub(crate) fn new(alloc: Global) -> OidIndex
+    pub fn new(alloc: Global) -> OidIndex
         ensures { result ≡ [] }
     {
         OidIndex {
@@ -38,7 +38,7 @@ impl OidIndex {
     }
 
     /// Adds an oid behind the others, and answers whether it is there for the first time.
-    pub(crate) fn push(&mut self, oid: u32) -> Result<bool, AllocError>
+    pub fn push(&mut self, oid: u32) -> Result<bool, AllocError>
         ensures first { IfOk result (λ first. first ≡ not (has_oid self.old oid)) }
         ensures pushed { OnOk result (self.new ≡ self.old ++ oid ∷ []) }
     {
@@ -49,7 +49,7 @@ impl OidIndex {
     }
 
     /// These oids.
-    pub(crate) fn of(alloc: Global, oids: &[u32]) -> Result<OidIndex, AllocError>
+    pub fn of(alloc: Global, oids: &[u32]) -> Result<OidIndex, AllocError>
         ensures { IfOk result (λ index. index ≡ oids.now) }
     {
         let mut index = OidIndex::new(alloc);
@@ -60,14 +60,14 @@ impl OidIndex {
     }
 
     /// Whether there is such an oid.
-    pub(crate) fn has(&self, oid: u32) -> bool
+    pub fn has(&self, oid: u32) -> bool
         ensures { result ≡ has_oid self.now oid }
     {
         self.find(oid).is_some()
     }
 
     /// The place of the first such oid, counted from 0.
-    pub(crate) fn find(&self, oid: u32) -> Option<usize>
+    pub fn find(&self, oid: u32) -> Option<usize>
         ensures { result ≡ place_of oid self.now }
     {
         self.places.get(&oid).copied()

@@ -141,7 +141,8 @@ fn is_bad_relation_acl(
     }
 }
 
-fn left_out_first(first: Option<What>, later: Option<What>) -> Option<What>
+/// The first of two things that are left out.
+pub fn left_out_first(first: Option<What>, later: Option<What>) -> Option<What>
     ensures { result ≡ left_out_first first later }
 {
     match first {

@@ -15,7 +15,7 @@ use std::collections::BTreeSet;
 
 /// What rights are on.
 #[derive(Debug, Clone, Copy, PartialEq, Eq)]
-pub(crate) enum GrantKind {
+pub enum GrantKind {
     /// A table or a view.
     Table,
     /// A sequence.
@@ -109,7 +109,7 @@ fn has_bad_item(
 }
 
 /// Whether one of the items is bad. Null, the default rights, never is.
-pub(crate) fn is_bad_acl(
+pub fn is_bad_acl(
     alloc: Global,
     on: GrantKind,
     roles: &RoleIndex<'_>,
@@ -127,7 +127,7 @@ pub(crate) fn is_bad_acl(
 }
 
 /// Whether another role than the owner granted a right.
-pub(crate) fn is_by_other(owner: Option<&Name>, acl: &Option<Acl>) -> bool
+pub fn is_by_other(owner: Option<&Name>, acl: &Option<Acl>) -> bool
     ensures { result ≡ is_by_other (option_map (λ n. n.now) owner.entry) acl.now }
 {
     match (owner, acl) {

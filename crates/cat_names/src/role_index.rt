@@ -12,7 +12,7 @@ use std::marker::Model;
 
 /// The roles of a catalogue, found without going through them. A contract sees the list of their rows.
 #[derive(Drop)]
-pub(crate) struct RoleIndex<'a> {
+pub struct RoleIndex<'a> {
     rows: &'a [AuthidRow],
     oids: OidIndex,
     names: BTreeSet<Name>,
@@ -32,7 +32,7 @@ impl<'a> Model for RoleIndex<'a> {
 
 impl<'a> RoleIndex<'a> {
     /// These roles, with their oids and the set of their names.
-    pub(crate) fn new(rows: &'a [AuthidRow], oids: OidIndex, names: BTreeSet<Name>) -> RoleIndex<'a>
+    pub fn new(rows: &'a [AuthidRow], oids: OidIndex, names: BTreeSet<Name>) -> RoleIndex<'a>
         requires oids { oids ≡ role_oids rows.now }
         requires names { AreKeys bytes_cmp names (role_names rows.now) }
         ensures { result ≡ rows.now }
@@ -41,21 +41,21 @@ impl<'a> RoleIndex<'a> {
     }
 
     /// Whether there is a role of this oid.
-    pub(crate) fn has(&self, oid: u32) -> bool
+    pub fn has(&self, oid: u32) -> bool
         ensures { result ≡ is_role self.now oid }
     {
         self.oids.find(oid).is_some()
     }
 
     /// Whether there is a role of this name.
-    pub(crate) fn has_name(&self, name: &Name) -> bool
+    pub fn has_name(&self, name: &Name) -> bool
         ensures { result ≡ is_role_name self.now name.now }
     {
         self.names.contains(name)
     }
 
     /// The name of the role of this oid.
-    pub(crate) fn name_of(&self, oid: u32) -> Option<&Name>
+    pub fn name_of(&self, oid: u32) -> Option<&Name>
         ensures { option_map (λ n. n.now) result ≡ role_name self.now oid }
     {
         match self.oids.find(oid) {

@@ -24,7 +24,7 @@ use std::collections::BTreeSet;
 const BOOT: u32 = 10;
 
 /// Goes on where nothing was found at the line.
-pub(crate) fn go_on(line: u64, found: Findings) -> Result<(), LineError>
+pub fn go_on(line: u64, found: Findings) -> Result<(), LineError>
     ensures ok { OnOk result (first_kind found ≡ None) }
     ensures err { IfErr result (λ e. IsLineDue e (fault_or line (first_kind found) None)) }
 {

@@ -19,15 +19,16 @@ use copy_text::Name;
 use std::alloc::{AllocError, Global};
 use std::collections::BTreeSet;
 
-// The schemas of the system's own have no rows.
-fn is_system(name: &Name) -> bool
+/// Whether a schema is one of the system's own, which have no rows.
+pub fn is_system(name: &Name) -> bool
     ensures { result ≡ is_system name.now }
 {
     let name = name.as_bytes();
     name == b"pg_catalog".as_slice() || name == b"information_schema".as_slice()
 }
 
-pub(crate) fn other_left_out(by_other: bool) -> Option<What>
+/// That another than the owner granted a right, where one did.
+pub fn other_left_out(by_other: bool) -> Option<What>
     ensures { result ≡ other_left_out by_other }
 {
     if by_other {
