@@ -1,0 +1,9 @@
+mod FirstValues
+mod Rows
+mod Rights
+mod Differences
+mod Lookups
+mod Holdings
+mod Attributes
+mod Ahead
+mod Clones

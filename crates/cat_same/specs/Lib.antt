@@ -1,0 +1,4 @@
+pub mod Verdicts
+pub mod Seen
+pub mod Holders
+pub mod Examples
