@@ -1,0 +1,5 @@
+pub mod Counts
+pub mod ChainEnds
+pub mod Walks
+pub mod Found
+pub mod WholeTexts

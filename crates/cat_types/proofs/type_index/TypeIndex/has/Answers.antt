@@ -1,0 +1,10 @@
+use Rattle.std.proofs.Common.{ap, ◌∙◌}
+use Rattle.cat_names.specs.Lookups.{has_oid}
+use Rattle.cat_types.specs.Types.{type_oids}
+use Rattle.cat_types.proofs.type_index.TypeIndex.has.Goals as goal
+
+pub returns : goal.returns
+returns c =
+    c.has.ensures
+    ∙ ap (λ os. has_oid os c.args.oid) c.self.invariant
+    ∙ ap (λ rs. has_oid (type_oids rs) c.args.oid) c.self.view_is

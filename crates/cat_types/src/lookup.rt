@@ -1,0 +1,215 @@
+//! What types are tried against.
+ghost use Rattle.std.specs.Prelude.{◌≡◌, [], ◌∷◌, ◌++◌, not, filter_map, List, IfOk, OnOk};
+ghost use Rattle.cat_rows.specs.declared.catalogue.Catalogue.{Catalogue as Tables};
+ghost use Rattle.cat_rows.specs.declared.types.TypeRow.{TypeRow as TypeLine};
+ghost use Rattle.cat_rows.specs.declared.relations.ClassRow.{ClassRow as Class};
+ghost use Rattle.cat_model.specs.Values.{bytes_cmp};
+ghost use Rattle.cat_names.specs.Indexed.{AreKeys};
+ghost use Rattle.cat_names.specs.Lookups.{role_oids, role_names, role_name};
+ghost use Rattle.cat_names.specs.Rights.{is_bad_acl, is_by_other};
+ghost use Rattle.cat_names.specs.declared.rights.GrantKind.TheVariants as on;
+ghost use Rattle.cat_types.specs.Chains.{chain_ends};
+ghost use Rattle.cat_types.specs.Domains.{path_of};
+ghost use Rattle.cat_types.specs.Paths.{path_cmp, type_path, class_path, type_paths, class_paths, has_path};
+ghost use Rattle.cat_types.specs.Types.{is_there, is_base_there};
+
+use crate::chains::{chain_ends, ends_at};
+use crate::schema_index::SchemaIndex;
+use crate::type_index::TypeIndex;
+use cat_model::QName;
+use cat_names::{GrantKind, OidIndex, RoleIndex, add_key, is_bad_acl, is_by_other};
+use cat_rows::{Acl, AuthidRow, Catalogue, ClassRow, TypeRow};
+use copy_text::Name;
+use std::alloc::{AllocError, Global};
+use std::collections::BTreeSet;
+use std::marker::Model;
+
+/// A catalogue whose roles, schemas, types and paths are found without going through its tables, and the chains of its
+/// types. A contract sees the catalogue.
+#[derive(Drop)]
+pub(crate) struct Lookup<'a> {
+    cat: &'a Catalogue,
+    roles: RoleIndex<'a>,
+    schemas: SchemaIndex<'a>,
+    types: TypeIndex<'a>,
+    type_paths: BTreeSet<QName>,
+    class_paths: BTreeSet<QName>,
+    ends: Vec<bool>,
+}
+
+impl<'a> Model for Lookup<'a> {
+    ghost use Rattle.cat_rows.specs.declared.catalogue.Catalogue.{Catalogue};
+    ghost use Rattle.cat_types.specs.Looking.{IsBeside};
+
+    ghost Value = { Catalogue };
+
+    ghost view = { λ l. l.cat.now };
+
+    ghost invariant = { λ l. IsBeside l.cat.now l.roles l.schemas l.types l.type_paths l.class_paths l.ends.items };
+}
+
+fn role_oids(alloc: Global, rows: &[AuthidRow]) -> Result<OidIndex, AllocError>
+    ensures { IfOk result (λ oids. oids ≡ role_oids rows.now) }
+{
+    let oids: Vec<u32> = rows.iter().map(|r| r.oid).collect(alloc)?;
+    OidIndex::of(alloc, &oids)
+}
+
+fn role_names(alloc: Global, rows: &[AuthidRow]) -> Result<BTreeSet<Name>, AllocError>
+    ensures { IfOk result (λ names. AreKeys bytes_cmp names (role_names rows.now)) }
+{
+    let mut names = BTreeSet::new(alloc);
+    for row in rows {
+        add_key(&mut names, row.rolname.clone()?)?;
+    }
+    Ok(names)
+}
+
+fn roles(alloc: Global, rows: &[AuthidRow]) -> Result<RoleIndex<'_>, AllocError>
+    ensures { IfOk result (λ roles. roles ≡ rows.now) }
+{
+    let oids = role_oids(alloc, rows)?;
+    let names = role_names(alloc, rows)?;
+    Ok(RoleIndex::new(rows, oids, names))
+}
+
+// Adds a path, where there is one.
+fn add_path(paths: &mut BTreeSet<QName>, path: Option<QName>) -> Result<(), AllocError>
+    ensures { OnOk result ((ps : List QName) → AreKeys path_cmp paths.old ps → AreKeys path_cmp paths.new (ps ++ filter_map (λ p. p) (path ∷ []))) }
+{
+    if let Some(path) = path {
+        add_key(paths, path)?;
+    }
+    Ok(())
+}
+
+fn type_paths(
+    alloc: Global,
+    schemas: &SchemaIndex<'_>,
+    rows: &[TypeRow],
+) -> Result<BTreeSet<QName>, AllocError>
+    ensures { IfOk result (λ paths. AreKeys path_cmp paths (filter_map (type_path schemas.now) rows.now)) }
+{
+    let mut paths = BTreeSet::new(alloc);
+    for row in rows {
+        let path = schemas.path_in(row.typnamespace, &row.typname)?;
+        add_path(&mut paths, path)?;
+    }
+    Ok(paths)
+}
+
+fn class_paths(
+    alloc: Global,
+    schemas: &SchemaIndex<'_>,
+    rows: &[ClassRow],
+) -> Result<BTreeSet<QName>, AllocError>
+    ensures { IfOk result (λ paths. AreKeys path_cmp paths (filter_map (class_path schemas.now) rows.now)) }
+{
+    let mut paths = BTreeSet::new(alloc);
+    for row in rows {
+        let path = schemas.path_in(row.relnamespace, &row.relname)?;
+        add_path(&mut paths, path)?;
+    }
+    Ok(paths)
+}
+
+fn is_base_there(types: &TypeIndex<'_>, oid: u32) -> bool
+    ensures { result ≡ is_base_there types.now oid }
+{
+    oid == 0 || types.has(oid)
+}
+
+fn is_there(
+    schemas: &SchemaIndex<'_>,
+    roles: &RoleIndex<'_>,
+    types: &TypeIndex<'_>,
+    row: &TypeRow,
+) -> bool
+    ensures { (cat : Tables) → schemas.now ≡ cat.pg_namespace → roles.now ≡ cat.pg_authid → types.now ≡ cat.pg_type → result ≡ is_there cat row.now }
+{
+    schemas.has(row.typnamespace)
+        && roles.has(row.typowner)
+        && is_base_there(types, row.typbasetype)
+}
+
+impl<'a> Lookup<'a> {
+    /// This catalogue.
+    pub(crate) fn of(alloc: Global, cat: &'a Catalogue) -> Result<Lookup<'a>, AllocError>
+        ensures { IfOk result (λ lookup. lookup ≡ cat.now) }
+    {
+        let roles = roles(alloc, cat.pg_authid.as_slice())?;
+        let schemas = SchemaIndex::of(alloc, cat.pg_namespace.as_slice())?;
+        let types = TypeIndex::of(alloc, cat.pg_type.as_slice())?;
+        let type_paths = type_paths(alloc, &schemas, cat.pg_type.as_slice())?;
+        let class_paths = class_paths(alloc, &schemas, cat.pg_class.as_slice())?;
+        let ends = chain_ends(alloc, &types, cat.pg_type.as_slice())?;
+        Ok(Lookup {
+            cat,
+            roles,
+            schemas,
+            types,
+            type_paths,
+            class_paths,
+            ends,
+        })
+    }
+
+    /// Whether a type's schema, its owner and its base are there.
+    pub(crate) fn is_there(&self, row: &TypeRow) -> bool
+        ensures { result ≡ is_there self.now row.now }
+    {
+        is_there(&self.schemas, &self.roles, &self.types, row)
+    }
+
+    /// Whether a list of rights is bad for a type.
+    pub(crate) fn is_bad_acl(&self, alloc: Global, acl: &Option<Acl>) -> Result<bool, AllocError>
+        ensures { IfOk result (λ bad. bad ≡ is_bad_acl on.Type self.now.pg_authid acl.now) }
+    {
+        is_bad_acl(alloc, GrantKind::Type, &self.roles, acl)
+    }
+
+    /// Whether another than this owner granted a right.
+    pub(crate) fn is_by_other(&self, owner: u32, acl: &Option<Acl>) -> bool
+        ensures { result ≡ is_by_other (role_name self.now.pg_authid owner) acl.now }
+    {
+        is_by_other(self.roles.name_of(owner), acl)
+    }
+
+    /// The path of a type.
+    pub(crate) fn path(&self, row: &TypeRow) -> Result<Option<QName>, AllocError>
+        ensures { IfOk result (λ path. path ≡ type_path self.now.pg_namespace row.now) }
+    {
+        self.schemas.path_in(row.typnamespace, &row.typname)
+    }
+
+    /// The path of the type of an oid.
+    pub(crate) fn path_of(&self, oid: u32) -> Result<Option<QName>, AllocError>
+        ensures { IfOk result (λ path. path ≡ path_of self.now oid) }
+    {
+        match self.types.find(oid) {
+            Some(row) => self.schemas.path_in(row.typnamespace, &row.typname),
+            None => Ok(None),
+        }
+    }
+
+    /// Whether the chain of a type's bases ends.
+    pub(crate) fn chain_ends(&self, row: &TypeRow) -> bool
+        ensures { result ≡ chain_ends self.now.pg_type row.now }
+    {
+        ends_at(&self.ends, self.types.base_place(row))
+    }
+
+    /// Whether there is a type of this path.
+    pub(crate) fn has_type(&self, path: &QName) -> bool
+        ensures { result ≡ has_path (type_paths self.now) path.now }
+    {
+        self.type_paths.contains(path)
+    }
+
+    /// Whether there is a relation of this path.
+    pub(crate) fn has_class(&self, path: &QName) -> bool
+        ensures { result ≡ has_path (class_paths self.now) path.now }
+    {
+        self.class_paths.contains(path)
+    }
+}
