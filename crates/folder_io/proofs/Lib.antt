@@ -1,0 +1,7 @@
+pub mod Steps
+pub mod Dues
+pub mod TableOrder
+pub mod Standing
+pub mod SameRows
+pub mod Rows
+pub mod Examples

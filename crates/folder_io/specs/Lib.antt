@@ -1,0 +1,4 @@
+pub mod Answers
+pub mod Folders
+pub mod Beyond
+pub mod Examples
