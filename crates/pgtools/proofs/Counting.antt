@@ -1,10 +1,11 @@
 -- Counts of faults: how those of the steps make those of the whole, and what they leave as the answer.
-use Rattle.std.proofs.Common.{◌≡◌, ℕ, ◌+◌, ◌≤◌, ◌<◌, min, List, Option, Result, Ok, Err, refl, sym, ap, subst, ◌∙◌, ◌⊎◌, inl, inr, arith}
-use Rattle.dump_ports.specs.Faults.{HasRisen, HasNotRisen, greatest_count, CountsFault}
+use Rattle.std.proofs.Common.{◌≡◌, ℕ, ◌≤◌, List, Option, Result, Err, refl, sym, subst, ◌⊎◌, inl, inr, arith}
+use Rattle.dump_ports.specs.Faults.{HasRisen, HasNotRisen}
+use Rattle.dump_ports.specs.Tree.{Tree}
 use Rattle.pgtools.specs.declared.outcome.Outcome.{Outcome}
-use Rattle.pgtools.specs.declared.outcome.Outcome.TheVariants.{Done, Usage, ReadFault, WriteFault, Missing, BadScript, OutOfProfile, TooLarge, Memory}
-use Rattle.pgtools.specs.Answers.{IsDue, IsLate, CountsRead}
-use Rattle.pgtools.specs.Due.{Plan, expected, Counts, counts, NoneRose, NoneFell, Counted, CountsStep, CountsWrites}
+use Rattle.pgtools.specs.declared.outcome.Outcome.TheVariants.{Done, Usage, ReadFault, WriteFault, Missing, BadExport, BadScript, OutOfProfile, TooLarge, Differs, Memory}
+use Rattle.pgtools.specs.Answers.{IsLate, CountsRead}
+use Rattle.pgtools.specs.Due.{Plan, Applies, Prints, Compares, ComesTo, IsExpected, IsDifference, IsAnswerDue, IsCarriedOut, WasDue, Counts, counts, NoneRose, NoneFell, Counted, CountsWrites}
 
 alike : (r r' w w' p p' l l' : ℕ) → r' ≡ r → w' ≡ w → p' ≡ p → l' ≡ l → counts r' w' p' l' ≡ counts r w p l
 alike r r' w w' p p' l l' a b d c = rw (a, b, d, c) refl
@@ -16,9 +17,11 @@ counted_reading X (Usage word kind) r r' w w' p p' l l' c a d b = alike r r' w w
 counted_reading X ReadFault r r' w w' p p' l l' c a d b = (record { reads = c.0; writes = omega arith; prints = omega arith; lines = omega arith }, c.1)
 counted_reading X WriteFault r r' w w' p p' l l' c a d b = elim c [ ]
 counted_reading X (Missing name) r r' w w' p p' l l' c a d b = alike r r' w w' p p' l l' c a d b
+counted_reading X (BadExport file line kind) r r' w w' p p' l l' c a d b = alike r r' w w' p p' l l' c a d b
 counted_reading X (BadScript fault) r r' w w' p p' l l' c a d b = alike r r' w w' p p' l l' c a d b
 counted_reading X (OutOfProfile what) r r' w w' p p' l l' c a d b = alike r r' w w' p p' l l' c a d b
 counted_reading X (TooLarge what most) r r' w w' p p' l l' c a d b = alike r r' w w' p p' l l' c a d b
+counted_reading X (Differs key) r r' w w' p p' l l' c a d b = alike r r' w w' p p' l l' c a d b
 counted_reading X Memory r r' w w' p p' l l' c a d b = alike r r' w w' p p' l l' c a d b
 
 -- a step that writes files and to standard error
@@ -32,9 +35,11 @@ counted_writing X WriteFault r r' w w' p l l' late e c = (record { reads = omega
     either (inl h) = inl h
     either (inr h) = inr (inr h)
 counted_writing X (Missing name) r r' w w' p l l' late e c = elim late [ ]
+counted_writing X (BadExport file line kind) r r' w w' p l l' late e c = elim late [ ]
 counted_writing X (BadScript fault) r r' w w' p l l' late e c = elim late [ ]
 counted_writing X (OutOfProfile what) r r' w w' p l l' late e c = elim late [ ]
 counted_writing X (TooLarge what most) r r' w w' p l l' late e c = elim late [ ]
+counted_writing X (Differs key) r r' w w' p l l' late e c = elim late [ ]
 counted_writing X Memory r r' w w' p l l' late e c = alike r r' w w' p p l l' e c.0 refl c.1
 
 -- a step that only prints
@@ -48,9 +53,11 @@ fell (Usage word kind) a b c = rw c (record { reads = omega arith; writes = omeg
 fell ReadFault a b c = c.0
 fell WriteFault a b c = c.0
 fell (Missing name) a b c = rw c (record { reads = omega arith; writes = omega arith; prints = omega arith; lines = omega arith })
+fell (BadExport file line kind) a b c = rw c (record { reads = omega arith; writes = omega arith; prints = omega arith; lines = omega arith })
 fell (BadScript fault) a b c = rw c (record { reads = omega arith; writes = omega arith; prints = omega arith; lines = omega arith })
 fell (OutOfProfile what) a b c = rw c (record { reads = omega arith; writes = omega arith; prints = omega arith; lines = omega arith })
 fell (TooLarge what most) a b c = rw c (record { reads = omega arith; writes = omega arith; prints = omega arith; lines = omega arith })
+fell (Differs key) a b c = rw c (record { reads = omega arith; writes = omega arith; prints = omega arith; lines = omega arith })
 fell Memory a b c = rw c (record { reads = omega arith; writes = omega arith; prints = omega arith; lines = omega arith })
 
 -- its line was told, and no count rose by that
@@ -74,19 +81,49 @@ counted_untold o a r w p l l' c h =
 not_both : (a b : ℕ) → HasNotRisen a b → HasRisen a b → ⊥
 not_both a b n h = omega arith
 
+-- a refusal that is due is what is expected
+refusal : (o : Outcome) (due : Result Plan Outcome) → due ≡ Err o → IsExpected o due
+refusal o due d = subst (IsExpected o) (sym d) refl
+
+-- and so is a difference
+difference : (o : Outcome) (due : Result Plan Outcome) → IsDifference o due → IsExpected o due
+difference Done due h = elim h [ ]
+difference (Usage word kind) due h = elim h [ ]
+difference ReadFault due h = elim h [ ]
+difference WriteFault due h = elim h [ ]
+difference (Missing name) due h = elim h [ ]
+difference (BadExport file line kind) due h = elim h [ ]
+difference (BadScript fault) due h = elim h [ ]
+difference (OutOfProfile what) due h = elim h [ ]
+difference (TooLarge what most) due h = elim h [ ]
+difference (Differs key) due h = subst (IsExpected (Differs key)) (sym h.is_due) h.least
+difference Memory due h = elim h [ ]
+
 -- the answer is the one that is due, or Memory
-pub comes : (o : Outcome) (due : Result Plan Outcome) (a b : Counts) → (due ≡ Err Done → ⊥) → NoneRose a b → Counted o a b → IsDue o due → (o ≡ expected due) ⊎ (o ≡ Memory)
-comes Done due a b n none c d = elim (n d) [ ]
-comes (Usage word kind) due a b n none c d = inl (sym (ap expected d))
-comes ReadFault due a b n none c d = elim (not_both a.reads b.reads none.reads c.1) [ ]
-comes WriteFault due a b n none c d = elim (either c.1) [ ]
+pub comes : (o : Outcome) (due : Result Plan Outcome) (a b : Counts) → (due ≡ Err Done → ⊥) → NoneRose a b → Counted o a b → IsAnswerDue o due → IsExpected o due ⊎ (o ≡ Memory)
+comes o due a b n none c (inr h) = inl (difference o due h)
+comes Done due a b n none c (inl d) = elim (n d) [ ]
+comes (Usage word kind) due a b n none c (inl d) = inl (refusal (Usage word kind) due d)
+comes ReadFault due a b n none c (inl d) = elim (not_both a.reads b.reads none.reads c.1) [ ]
+comes WriteFault due a b n none c (inl d) = elim (either c.1) [ ]
   where
     either : HasRisen a.writes b.writes ⊎ HasRisen a.prints b.prints ⊎ HasRisen a.lines b.lines → ⊥
     either (inl h) = not_both a.writes b.writes none.writes h
     either (inr (inl h)) = not_both a.prints b.prints none.prints h
     either (inr (inr h)) = not_both a.lines b.lines none.lines h
-comes (Missing name) due a b n none c d = inl (sym (ap expected d))
-comes (BadScript fault) due a b n none c d = inl (sym (ap expected d))
-comes (OutOfProfile what) due a b n none c d = inl (sym (ap expected d))
-comes (TooLarge what most) due a b n none c d = inl (sym (ap expected d))
-comes Memory due a b n none c d = inr refl
+comes (Missing name) due a b n none c (inl d) = inl (refusal (Missing name) due d)
+comes (BadExport file line kind) due a b n none c (inl d) = inl (refusal (BadExport file line kind) due d)
+comes (BadScript fault) due a b n none c (inl d) = inl (refusal (BadScript fault) due d)
+comes (OutOfProfile what) due a b n none c (inl d) = inl (refusal (OutOfProfile what) due d)
+comes (TooLarge what most) due a b n none c (inl d) = inl (refusal (TooLarge what most) due d)
+comes (Differs key) due a b n none c (inl d) = inl (refusal (Differs key) due d)
+comes Memory due a b n none c (inl d) = inr refl
+
+-- what was carried out is what is expected
+pub done_expected : (due : Result Plan Outcome) (before after : Option Tree) (out_before out_after told_before told_after : Option (List ℕ)) → WasDue due before after out_before out_after told_before told_after → IsExpected Done due
+done_expected due before after out_before out_after told_before told_after w = subst (IsExpected Done) (sym w.is_due) (of w.plan w.carried)
+  where
+    of : (plan : Plan) → IsCarriedOut plan before after out_before out_after told_before told_after → ComesTo Done plan
+    of (Applies plan) carried = refl
+    of (Prints text) carried = refl
+    of (Compares a b) carried = carried.0

@@ -1,32 +1,31 @@
 -- What stands once a plan is carried out, and where its work ended on its way.
-use Rattle.std.proofs.Common.{◌≡◌, ◌≢◌, ℕ, ◌≤◌, Bool, true, false, cond, ◌||◌, List, [], ◌∷◌, ◌++◌, map, length, take, Option, Some, None, option_map, Result, Ok, Err, IfSome, refl, sym, ap, subst, ◌∙◌, ◌⊎◌, inl, inr}
+use Rattle.std.proofs.Common.{◌≡◌, ◌≢◌, ℕ, Bool, true, false, cond, ◌||◌, List, [], ◌∷◌, ◌++◌, map, take, Option, Some, None, option_map, Result, Ok, IfSome, refl, sym, ap, subst, ◌∙◌, ◌⊎◌, inl, inr}
 use Rattle.std.specs.declared.cmp.Ordering.{Ordering}
 use Rattle.std.specs.declared.cmp.Ordering.TheVariants.{Less, Equal, Greater}
-use Rattle.std.specs.Ordering.{nat_cmp, eq_by_cmp, is_eq}
-use Rattle.std.specs.FinMap.{insert, get-insert, nat_cmp-IsAntisymmetric, slice_cmp-IsAntisymmetric}
-use Rattle.std.specs.Cmp.Lexicographic.{slice_cmp, nat_list_cmp_total}
-use Rattle.std.specs.List.{list_any, IsDistinct}
+use Rattle.std.specs.Ordering.{eq_by_cmp, is_eq}
+use Rattle.std.specs.FinMap.{get-insert, nat_cmp-IsAntisymmetric, slice_cmp-IsAntisymmetric}
+use Rattle.std.specs.Cmp.Lexicographic.{nat_list_cmp_total}
+use Rattle.std.specs.List.{list_any}
 use Rattle.std.specs.List.Sorted.{IsPermutation}
 use Rattle.std.proofs.lemmas.List.Folds.{list_any-append}
 use Rattle.std.proofs.lemmas.Bool.{false≢true}
-use Rattle.dump_ports.specs.Tree.{Tree, text_at, TakesPrefix}
+use Rattle.dump_ports.specs.Tree.{Tree, text_at}
 use Rattle.cat_rows.specs.declared.table.SysTable.{SysTable}
 use Rattle.cat_rows.specs.declared.table.SysTable.TheVariants.{PgNamespace}
 use Rattle.cat_rows.specs.Writing.{IsWritten}
 use Rattle.cat_model.specs.Values.{Bytes, bytes_cmp}
 use Rattle.pgtools.specs.declared.schemas.SchemaRow.{SchemaRow}
 use Rattle.pgtools.specs.declared.outcome.Outcome.{Outcome}
-use Rattle.pgtools.specs.declared.outcome.Outcome.TheVariants.{Done, Usage, ReadFault, WriteFault, Missing, BadScript, OutOfProfile, TooLarge, Memory}
-use Rattle.pgtools.specs.Answers.{IsDue, IsLate, IsRefusal, IsTold}
-use Rattle.pgtools.specs.Lines.{Appends, AppendsPart}
+use Rattle.pgtools.specs.declared.outcome.Outcome.TheVariants.{Done, Usage, ReadFault, WriteFault, Missing, BadExport, BadScript, OutOfProfile, TooLarge, Differs, Memory}
+use Rattle.pgtools.specs.Answers.{IsLate, IsRefusal}
+use Rattle.pgtools.specs.Lines.{AppendsPart}
 use Rattle.pgtools.specs.Messages.{outcome_line}
 use Rattle.pgtools.specs.Naming.{boot, named}
 use Rattle.pgtools.specs.Run.{catalogue_after}
 use Rattle.pgtools.specs.Folder.{File, has_public, cells_of_row, all_tables, marker_file, marker_written, table_written, table_files, file_of_table, files_written, folder_saved, saved, IsCut, PartSaved, IsNamespaces, IsElsewhere, schemas_in}
 use Rattle.pgtools.specs.declared.words.Tool.{Tool}
-use Rattle.pgtools.specs.Due.{Plan, Applies, Prints, Application, Comes, Applied, PartApplied, IsCarriedOut, WasDue, PartDue, IsPart, ToldPart, report_of, report_due, text_due, IsOther, KeepsOthers}
+use Rattle.pgtools.specs.Due.{Plan, Applies, Prints, Compares, IsAnswerDue, Application, Comes, Applied, PartApplied, IsCarriedOut, WasDue, IsPart, ToldPart, report_of, report_due, text_due, IsOther, KeepsOthers}
 use Rattle.pgtools.proofs.Named.{named-IsPermutation}
-use Rattle.pgtools.proofs.Lining.{part_none}
 use Rattle.pgtools.proofs.Standing.{folder_stands, others_kept}
 
 -- ---- a plan that was carried out
@@ -86,9 +85,11 @@ late_no_refusal (Usage word kind) late h = late
 late_no_refusal ReadFault late h = late
 late_no_refusal WriteFault late h = h
 late_no_refusal (Missing name) late h = late
+late_no_refusal (BadExport file line kind) late h = late
 late_no_refusal (BadScript fault) late h = late
 late_no_refusal (OutOfProfile what) late h = late
 late_no_refusal (TooLarge what most) late h = late
+late_no_refusal (Differs key) late h = late
 late_no_refusal Memory late h = h
 
 pub part_due : (due : Result Plan Outcome) (plan : Application) (before after : Option Tree) → due ≡ Ok (Applies plan) → (after ≡ before) ⊎ PartApplied plan before after → IsPart due before after
@@ -101,7 +102,7 @@ report_part due plan before after d p = rw d p
 pub text_part : (due : Result Plan Outcome) (text : List ℕ) (before after : Option (List ℕ)) → due ≡ Ok (Prints text) → AppendsPart text before after → AppendsPart (text_due due) before after
 text_part due text before after d p = rw d p
 
-pub told_part : (tool : Tool) (due : Result Plan Outcome) (before between after : Option (List ℕ)) (outcome : Outcome) → AppendsPart (report_due due) before between → IsDue outcome due → AppendsPart (outcome_line tool outcome) between after → ToldPart tool due before after
+pub told_part : (tool : Tool) (due : Result Plan Outcome) (before between after : Option (List ℕ)) (outcome : Outcome) → AppendsPart (report_due due) before between → IsAnswerDue outcome due → AppendsPart (outcome_line tool outcome) between after → ToldPart tool due before after
 told_part tool due before between after outcome r d l = record { between = between; reported = r; outcome = outcome; is_due = d; line = l }
 
 -- ---- the other files
@@ -166,6 +167,7 @@ done_others due tree before after out_before out_after told_before told_after b 
         part_keeps plan.folder carried.0.text tree after name (subst (λ d. IsOther d name) d other)
         (all_whole plan.folder carried.0.text (Some tree) after (carried.0.saved ∙ ap (λ t. option_map (folder_saved plan.folder carried.0.text) t) b))
     of (Prints text) d carried = kept_others due tree before after b carried.0
+    of (Compares a b') d carried = kept_others due tree before after b carried.1
 
 -- where its work ended on its way
 pub part_others : (due : Result Plan Outcome) (tree : Tree) (before after : Option Tree) → before ≡ Some tree → IsPart due before after → KeepsOthers due tree after

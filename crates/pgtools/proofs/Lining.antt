@@ -1,5 +1,5 @@
 -- Texts that a stream takes one after another, whole or a first part.
-use Rattle.std.proofs.Common.{◌≡◌, ℕ, ◌≤◌, ◌++◌, List, [], length, take, drop, Option, Some, None, option_map, Result, Ok, Err, OnErr, refl, sym, ap, ◌∙◌, append-nil, rules}
+use Rattle.std.proofs.Common.{◌≡◌, ℕ, ◌≤◌, ◌++◌, List, [], length, take, drop, Option, Some, None, option_map, Result, Ok, Err, OnErr, refl, sym, ap, ◌∙◌, append-nil, rules, subst}
 use Rattle.std.proofs.lemmas.List.{append_assoc, take-append-drop}
 use Rattle.pgtools.specs.Lines.{Appends, AppendsPart}
 
@@ -53,6 +53,18 @@ part_of_second x y a b c one p = record {
   split = ap (λ t. x ++ t) p.split ∙ sym (append_assoc x p.front p.rest);
   taken = takes_both a b c x p.front one p.taken;
 }
+
+-- a first part of the first two of four texts
+pub part_of_two : (p q r s : List ℕ) (before after : Option (List ℕ)) → AppendsPart (p ++ q) before after → AppendsPart (p ++ q ++ r ++ s) before after
+part_of_two p q r s before after h = subst (λ (t : List ℕ). AppendsPart t before after) (sym (append_assoc (p ++ q) r s)) (part_of_first (p ++ q) (r ++ s) before after h)
+
+-- the first two of four texts, and a first part of the others
+pub part_of_four : (p q r s : List ℕ) (a b c : Option (List ℕ)) → Appends (p ++ q) a b → AppendsPart (r ++ s) b c → AppendsPart (p ++ q ++ r ++ s) a c
+part_of_four p q r s a b c one h = subst (λ (t : List ℕ). AppendsPart t a c) (sym (append_assoc (p ++ q) r s)) (part_of_second (p ++ q) (r ++ s) a b c one h)
+
+-- four texts
+pub takes_four : (p q r s : List ℕ) (a b c : Option (List ℕ)) → Appends (p ++ q) a b → Appends (r ++ s) b c → Appends (p ++ q ++ r ++ s) a c
+takes_four p q r s a b c one two = subst (λ (t : List ℕ). Appends t a c) (sym (append_assoc (p ++ q) r s)) (takes_both a b c (p ++ q) (r ++ s) one two)
 
 -- what holds anyway holds of an error
 pub always_err : {T E P : Type 0} (r : Result T E) → P → OnErr r P

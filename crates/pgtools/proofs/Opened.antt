@@ -1,8 +1,7 @@
 -- What is known of the schemas of a folder that was read: each has a name, no two the same, and public is among them.
-use Rattle.std.proofs.Common.{◌≡◌, ℕ, Bool, true, false, cond, not, ◌||◌, ◌&&◌, ◌==◌, List, [], ◌∷◌, ◌++◌, Option, Some, None, Result, Ok, Err, option_and_then, refl, sym, ap, subst, ◌∙◌}
+use Rattle.std.proofs.Common.{◌≡◌, ℕ, Bool, true, false, cond, not, ◌||◌, ◌&&◌, ◌==◌, List, [], ◌∷◌, ◌++◌, Option, Some, None, Result, Ok, Err, option_and_then, refl, ap, subst, ◌∙◌}
 use Rattle.std.specs.Ordering.{eq_by_cmp}
 use Rattle.std.specs.List.{AllByRecursion, IsDistinct}
-use Rattle.std.proofs.lemmas.Bool.{false≢true}
 use Rattle.copy_text.specs.Texts.{IsName}
 use Rattle.dump_ports.specs.Tree.{Tree}
 use Rattle.cat_rows.specs.declared.table.SysTable.TheVariants.{PgNamespace}
@@ -19,7 +18,7 @@ use Rattle.pgtools.specs.declared.outcome.Limit.TheVariants.{TableFile}
 use Rattle.pgtools.specs.Answers.{◌>>=◌}
 use Rattle.pgtools.specs.Naming.{has_name, has_oid}
 use Rattle.pgtools.specs.Texts.{file_of}
-use Rattle.pgtools.specs.Folder.{table_limit, file_of_table, plain_row, is_new, joined, rows_after, has_public, if_public, schemas_of, schemas_in_text, marked_of, plain_tables_of, namespaces_of, tables_before, tables_behind, or_unbuilt, opening_of}
+use Rattle.pgtools.specs.Folder.{table_limit, file_of_table, plain_row, joined, rows_after, has_public, if_public, schemas_of, schemas_in_text, marked_of, plain_tables_of, namespaces_of, tables_before, tables_behind, or_unbuilt, opening_of}
 use Rattle.pgtools.proofs.Distinct.{distinct_names-push}
 
 -- names are names, and no two the same

@@ -7,7 +7,7 @@ use Rattle.cat_rows.specs.declared.table.SysTable.{SysTable}
 use Rattle.cat_model.specs.Values.{Bytes}
 use Rattle.pgtools.specs.declared.outcome.Limit.TheVariants.{TableFile}
 use Rattle.pgtools.specs.declared.outcome.Outcome.{Outcome}
-use Rattle.pgtools.specs.declared.outcome.Outcome.TheVariants.{Done, Usage, ReadFault, WriteFault, Missing, BadScript, OutOfProfile, TooLarge, Memory}
+use Rattle.pgtools.specs.declared.outcome.Outcome.TheVariants.{Done, Usage, ReadFault, WriteFault, Missing, BadExport, BadScript, OutOfProfile, TooLarge, Differs, Memory}
 use Rattle.pgtools.specs.Answers.{◌>>=◌, IsDue, Gives}
 use Rattle.pgtools.specs.Texts.{within, file_of}
 use Rattle.pgtools.specs.declared.schemas.SchemaRow.{SchemaRow}
@@ -92,15 +92,17 @@ behind_refused folder tree m b s o em eb es e =
     stepped m b s (marked_of folder tree) (plain_tables_of folder tables_before tree) (namespaces_of folder tree) (plain_tables_of folder tables_behind tree) em eb es
     ∙ ap (λ x. steps (Ok m) (Ok b) (Ok s) x) e
 
-due_itself : (Y : Type 0) (o : Outcome) → IsDue {Y = Y} o (Err o)
+pub due_itself : (Y : Type 0) (o : Outcome) → IsDue {Y = Y} o (Err o)
 due_itself Y Done = refl
 due_itself Y (Usage word kind) = refl
 due_itself Y ReadFault = tt
 due_itself Y WriteFault = tt
 due_itself Y (Missing name) = refl
+due_itself Y (BadExport file line kind) = refl
 due_itself Y (BadScript fault) = refl
 due_itself Y (OutOfProfile what) = refl
 due_itself Y (TooLarge what n) = refl
+due_itself Y (Differs key) = refl
 due_itself Y Memory = tt
 
 -- an answer is due of itself

@@ -1,14 +1,14 @@
 -- The statements of a dump, applied to a fresh folder: none is refused, and they leave the rows laid over what was there.
-use Rattle.std.proofs.Common.{◌≡◌, ℕ, Bool, true, false, cond, not, ◌||◌, List, [], ◌∷◌, ◌++◌, map, Option, Some, None, IfSome, Result, Ok, Err, refl, sym, ap, subst, ◌∙◌, inl, inr, codes, append_assoc, append-nil}
+use Rattle.std.proofs.Common.{◌≡◌, Bool, true, false, cond, not, ◌||◌, List, [], ◌∷◌, ◌++◌, map, Option, Some, None, IfSome, Result, Ok, refl, sym, ap, subst, ◌∙◌, inl, inr, codes, append_assoc, append-nil}
 use Rattle.std.specs.Ordering.{eq_by_cmp}
 use Rattle.std.specs.Str.{bytes_eq}
 use Rattle.std.specs.Cmp.{eq_by_cmp_equiv}
 use Rattle.std.specs.Cmp.Lexicographic.{nat_list_cmp_total}
-use Rattle.std.specs.List.{flat_map, filter, list_any, AllByRecursion, IsDistinct}
+use Rattle.std.specs.List.{flat_map, filter, AllByRecursion, IsDistinct}
 use Rattle.std.specs.List.Sorted.{IsPermutation}
 use Rattle.std.specs.Option.{option_or}
 use Rattle.std.specs.FinMap.{get, get-from_entries, same_map}
-use Rattle.std.proofs.lemmas.Bool.{cases_Bool, false_from_ne_true, false≢true}
+use Rattle.std.proofs.lemmas.Bool.{cases_Bool}
 use Rattle.std.proofs.lemmas.List.Folds.{list_any-append}
 use Rattle.std.proofs.lemmas.List.Sorted.{list_any-IsPermutation}
 use Rattle.std.proofs.lemmas.Map.Keys.{IsDistinct-head, IsDistinct-tail}
@@ -16,7 +16,6 @@ use Rattle.std.proofs.lemmas.Map.Text.{is_eq-slice_cmp}
 use Rattle.std.proofs.lemmas.Slice.Eq.{bytes_eq-Decides}
 use Rattle.cat_model.specs.declared.cause.Cause.{Cause}
 use Rattle.cat_model.specs.declared.constraint.Encoding.TheVariants as encoding
-use Rattle.cat_model.specs.declared.grant.Owned.TheVariants as owned
 use Rattle.cat_model.specs.declared.key.Key.{Key}
 use Rattle.cat_model.specs.declared.key.Key.TheVariants as key
 use Rattle.cat_model.specs.declared.object.Object.{Object}
@@ -26,38 +25,36 @@ use Rattle.cat_model.specs.KeyLaws.{key_cmp_total, key_cmp-IsAntisymmetric}
 use Rattle.cat_model.specs.References.{is_system}
 use Rattle.cat_model.specs.Values as value
 use Rattle.cat_model.specs.Values.{Bytes, bytes_cmp, Value, Named}
+use Rattle.ddl_read.specs.declared.located.Located.{Located}
 use Rattle.dump_schemas.specs.Toc.{is_public}
 use Rattle.dump_schemas.specs.Statements.{session_statements, schema_statements}
 use Rattle.pgtools.specs.declared.schemas.SchemaRow.{SchemaRow}
-use Rattle.pgtools.specs.declared.script.Located.{Located}
-use Rattle.pgtools.specs.declared.script.Statement.{Statement}
 use Rattle.pgtools.specs.Folder.{has_public}
 use Rattle.pgtools.specs.Naming.{boot, boot_role, cluster, named, has_name}
 use Rattle.pgtools.specs.RoundTrip.{fresh, fresh_rows, IsOverlay}
 use Rattle.pgtools.specs.Run.{said, next, noted, catalogue_after, refusals}
 use Rattle.pgtools.proofs.Distinct.{list_any_same}
 use Rattle.pgtools.proofs.Named.{part_of, stands, with_value, schema_of, no_schema, same_stands, get-with_schemas, run_created, run_owned}
-use Rattle.pgtools.proofs.Taken.{statement_of}
 
 -- ---- statements that run
 
 -- one after another they lead from one catalogue to another, and none is refused
-abbrev pub Runs : List Statement → Named → Named → Type 0
+abbrev pub Runs : List Stmt → Named → Named → Type 0
 Runs [] before after = before ≡ after
 Runs (s ∷ more) before after = (between : Named) × (said boot s before ≡ Ok between) × Runs more between after
 
-pub runs-append : (xs ys : List Statement) (a b c : Named) → Runs xs a b → Runs ys b c → Runs (xs ++ ys) a c
+pub runs-append : (xs ys : List Stmt) (a b c : Named) → Runs xs a b → Runs ys b c → Runs (xs ++ ys) a c
 runs-append [] ys a b c h k = subst (λ m. Runs ys m c) (sym h) k
 runs-append (x ∷ xs) ys a b c h k = (h.0, h.1, runs-append xs ys h.0 b c h.2 k)
 
-pub ran : (located : List Located) (a b : Named) → Runs (map (λ l. l.statement) located) a b → (refusals boot located a ≡ []) × (catalogue_after boot located a ≡ b)
+pub ran : (located : List Located) (a b : Named) → Runs (map (λ l. l.stmt) located) a b → (refusals boot located a ≡ []) × (catalogue_after boot located a ≡ b)
 ran [] a b h = (refl, h)
 ran (l ∷ located) a b h =
     let more = ran located h.0 b h.2 in
     (ap (λ (r : Result Named Cause). noted l.start r ++ refusals boot located (next a r)) h.1 ∙ more.0, ap (λ (r : Result Named Cause). catalogue_after boot located (next a r)) h.1 ∙ more.1)
 
 -- settings change nothing
-pub settings_run : (n : Named) → Runs (map statement_of session_statements) n n
+pub settings_run : (n : Named) → Runs session_statements n n
 settings_run n = (n, refl, (n, refl, (n, refl, (n, refl, (n, refl, (n, refl, (n, refl, (n, refl, (n, refl, (n, refl, refl))))))))))
 
 -- ---- the statements of rows
@@ -96,7 +93,7 @@ free : (a b : Bool) → a ≡ false → b ≡ false → (a || b) ≡ false
 free a b e f = ap (λ x. x || b) e ∙ f
 
 pub rows_run : (rows done : List SchemaRow) → AreDue done rows → IsDistinct same_name rows → AllByRecursion (λ row. is_system row.name ≡ false) rows
-    → Runs (map statement_of (flat_map (λ row. schema_statements boot row.name) rows)) (named done) (named (done ++ others rows))
+    → Runs (flat_map (λ row. schema_statements boot row.name) rows) (named done) (named (done ++ others rows))
 rows_run [] done due distinct users = ap named (sym (append-nil done))
 rows_run (row ∷ rows) done due distinct users =
     let apart = IsDistinct-head same_name row rows distinct in
@@ -105,7 +102,7 @@ rows_run (row ∷ rows) done due distinct users =
       | inl is ↦ rw is (named done, run_owned done row.name boot (due.0 ∙ is) refl, rows_run rows done due.1 rest users.1)
       | inr isnt ↦
           let more = rows_run rows (done ++ row ∷ []) (one_done done row rows due.1 apart) rest users.1 in
-          let all = subst (λ l. Runs (map statement_of (flat_map (λ (row : SchemaRow). schema_statements boot row.name) rows)) (named (done ++ row ∷ [])) (named l)) (append_assoc done (row ∷ []) (others rows)) more in
+          let all = subst (λ l. Runs (flat_map (λ (row : SchemaRow). schema_statements boot row.name) rows) (named (done ++ row ∷ [])) (named l)) (append_assoc done (row ∷ []) (others rows)) more in
           rw isnt (
             named (done ++ row ∷ []),
             run_created done row.name row.oid (free (has_name row.name done) (is_system row.name) (due.0 ∙ isnt) users.0),

@@ -1,5 +1,5 @@
 -- A folder that was written stands for the schemas that its text of pg_namespace was made of.
-use Rattle.std.proofs.Common.{◌≡◌, ℕ, Bool, true, false, cond, not, ◌||◌, ◌&&◌, List, [], ◌∷◌, ◌++◌, map, Option, Some, None, Result, Ok, Err, option_map, option_and_then, IfSome, IfOk, refl, sym, ap, subst, ◌∙◌, codes}
+use Rattle.std.proofs.Common.{◌≡◌, Bool, true, false, cond, not, ◌||◌, ◌&&◌, List, [], ◌∷◌, ◌++◌, map, Some, None, option_and_then, refl, sym, ap, subst, ◌∙◌, codes}
 use Rattle.std.specs.Prelude.{unwrap_or}
 use Rattle.std.specs.Str.{bytes_eq}
 use Rattle.std.specs.Ordering.{nat_cmp, eq_by_cmp, is_eq, ordering_then}
@@ -7,11 +7,10 @@ use Rattle.std.specs.Cmp.{nat_cmp_total, eq_by_cmp_equiv}
 use Rattle.std.specs.Cmp.Lexicographic.{slice_cmp, nat_list_cmp_total}
 use Rattle.std.specs.List.{list_all, list_any, IsDistinct, AllByRecursion}
 use Rattle.std.specs.List.Sorted.{IsPermutation}
-use Rattle.std.specs.FinMap.{insert, get, get-insert}
+use Rattle.std.specs.FinMap.{insert, get-insert}
 use Rattle.std.proofs.lemmas.Cmp.{tied_itself}
 use Rattle.std.proofs.lemmas.Map.Keys.{IsDistinct-IsPermutation, IsDistinct-head, IsDistinct-tail}
 use Rattle.std.proofs.lemmas.List.Elements.{recursion_from_All, All-from_recursion}
-use Rattle.std.proofs.lemmas.List.Folds.{list_any-append}
 use Rattle.std.proofs.lemmas.List.Sorted.{IsPermutation-map, All-permutation, list_any-IsPermutation}
 use Rattle.dump_ports.specs.Tree.{Tree, text_at}
 use Rattle.cat_rows.specs.declared.table.SysTable.{SysTable}
@@ -19,13 +18,12 @@ use Rattle.cat_rows.specs.declared.table.SysTable.TheVariants.{PgAuthid, PgAuthM
 use Rattle.cat_rows.specs.declared.cell.Cell.{Cell}
 use Rattle.cat_rows.specs.Kinds.{table_file}
 use Rattle.cat_rows.specs.Reading.{table_of}
-use Rattle.cat_rows.specs.Writing.{text_of, IsWritten}
+use Rattle.cat_rows.specs.Writing.{IsWritten}
 use Rattle.cat_model.specs.Values.{Bytes, bytes_cmp}
 use Rattle.pgtools.specs.declared.schemas.SchemaRow.{SchemaRow}
 use Rattle.pgtools.specs.Naming.{has_name, has_oid}
 use Rattle.pgtools.specs.Texts.{path}
-use Rattle.pgtools.specs.Folder.{File, plain_row, is_new, joined, rows_after, has_public, if_public, schemas_of, schemas_in_text, cells_of_row, marker, marker_file, is_plain_table, all_tables, file_of_table, holds, is_plain, schemas_in, plain_text, table_written, table_files, marker_written, files_written, saved, folder_saved, IsNamespaces}
-use Rattle.pgtools.proofs.Distinct.{list_any_same}
+use Rattle.pgtools.specs.Folder.{File, plain_row, joined, rows_after, if_public, schemas_of, schemas_in_text, cells_of_row, marker, marker_file, is_plain_table, all_tables, file_of_table, holds, is_plain, schemas_in, plain_text, table_written, table_files, marker_written, saved, folder_saved, IsNamespaces}
 use Rattle.pgtools.proofs.Saved.{saved-append}
 
 -- ---- the rows that a table's text was written of, in its order

@@ -1,23 +1,22 @@
 -- What pg_dump prints of a folder, applied by psql to a fresh one.
-use Rattle.std.proofs.Common.{◌≡◌, ℕ, List, [], ◌∷◌, ◌++◌, map, Option, Some, IfSome, Result, Ok, Err, refl, sym, ap, subst, ◌∙◌}
+use Rattle.std.proofs.Common.{◌≡◌, ℕ, List, [], map, Option, Some, Result, Ok, Err, refl, sym, ap, subst, ◌∙◌}
 use Rattle.dump_ports.specs.Tree.{Tree}
 use Rattle.dump_ports.specs.declared.moment.Moment.{Moment}
 use Rattle.toc_entry.specs.declared.entry.Entry.{Entry}
-use Rattle.cat_model.specs.Values.{Bytes, Named}
+use Rattle.cat_model.specs.Values.{Bytes}
+use Rattle.ddl_read.specs.declared.located.Located.{Located}
 use Rattle.dump_schemas.specs.Scripts.{script_of as dumped_script}
 use Rattle.dump_schemas.specs.Toc.{toc_due}
 use Rattle.pgtools.specs.declared.schemas.SchemaRow.{SchemaRow}
-use Rattle.pgtools.specs.declared.script.Located.{Located}
-use Rattle.pgtools.specs.declared.script.ScriptFault.{ScriptFault}
 use Rattle.pgtools.specs.declared.outcome.Limit.TheVariants.{Script}
 use Rattle.pgtools.specs.declared.outcome.Outcome.{Outcome}
 use Rattle.pgtools.specs.Answers.{◌>>=◌}
-use Rattle.pgtools.specs.Due.{Plan, Application, Applies, Prints, Applied, IsCarriedOut, WasDue, report_of, script_limit, scripted, counted, script_due, dump_due, psql_due, database, dump_row}
+use Rattle.pgtools.specs.Due.{Plan, Application, Applies, Prints, IsCarriedOut, WasDue, script_limit, counted, script_due, dump_due, psql_due, database, dump_row}
 use Rattle.pgtools.specs.Folder.{opening_of, schemas_in}
 use Rattle.pgtools.specs.Lines.{Appends}
 use Rattle.pgtools.specs.Messages.{report}
 use Rattle.pgtools.specs.Naming.{boot, named}
-use Rattle.pgtools.specs.RoundTrip.{fresh, CanBeMade, Remakes, public_alone, GoesBack, MakesSame, StandsFor}
+use Rattle.pgtools.specs.RoundTrip.{CanBeMade, Remakes, public_alone, GoesBack, MakesSame, StandsFor}
 use Rattle.pgtools.specs.Run.{catalogue_after, refusals}
 use Rattle.pgtools.specs.Statements.{script_of}
 use Rattle.pgtools.specs.Texts.{file_of}

@@ -8,16 +8,18 @@ use Rattle.cat_rows.specs.Writing.{IsWritten}
 use Rattle.std.specs.Ordering.{nat_cmp, eq_by_cmp}
 use Rattle.dump_ports.specs.Tree.{Tree, text_at}
 use Rattle.dump_ports.specs.Faults.{HasRisen, HasNotRisen}
-use Rattle.cat_model.specs.Values.{Bytes}
+use Rattle.cat_model.specs.Values.{Bytes, Named}
+use Rattle.cat_model.specs.declared.key.Key.{Key}
+use Rattle.cat_names.specs.Naming.{cluster_named}
+use Rattle.cat_same.specs.Verdicts.{IsLeastDifference}
 use Rattle.pgtools.specs.declared.schemas.SchemaRow.{SchemaRow}
-use Rattle.pgtools.specs.declared.script.Located.{Located}
-use Rattle.pgtools.specs.declared.script.ScriptFault.{ScriptFault}
+use Rattle.ddl_read.specs.declared.located.Located.{Located}
 use Rattle.pgtools.specs.declared.outcome.UsageKind.{UsageKind}
 use Rattle.pgtools.specs.declared.outcome.Limit.TheVariants.{Script, Entries}
 use Rattle.pgtools.specs.declared.outcome.Outcome.{Outcome}
-use Rattle.pgtools.specs.declared.outcome.Outcome.TheVariants.{Done, Usage, ReadFault, WriteFault, BadScript, TooLarge}
+use Rattle.pgtools.specs.declared.outcome.Outcome.TheVariants.{Done, Usage, ReadFault, WriteFault, TooLarge, Differs}
 use Rattle.pgtools.specs.Answers.{◌>>=◌, IsDue}
-use Rattle.pgtools.specs.Words.{Asked, Psql, Dump, words_of}
+use Rattle.pgtools.specs.Words.{Asked, Psql, Dump, Compare, words_of}
 use Rattle.pgtools.specs.declared.words.Tool.{Tool}
 use Rattle.dump_ports.specs.declared.moment.Moment.{Moment}
 use Rattle.toc_entry.specs.declared.entry.Entry.{Entry}
@@ -26,6 +28,7 @@ use Rattle.dump_schemas.specs.declared.rows.DatabaseRow.{DatabaseRow}
 use Rattle.dump_schemas.specs.Toc.{toc_due}
 use Rattle.dump_schemas.specs.Scripts.{script_of as dumped_script}
 use Rattle.pgtools.specs.Texts.{file_of}
+use Rattle.pgtools.specs.Clusters.{cluster_of}
 use Rattle.pgtools.specs.Statements.{script_of}
 use Rattle.pgtools.specs.declared.tools.Work.{Work}
 use Rattle.pgtools.specs.Folder.{opening_of, schemas_in, cells_of_row, files_written, folder_saved, PartSaved, IsElsewhere}
@@ -46,19 +49,17 @@ pub data Plan : Type 0 where
   Applies : Application → Plan
   -- pg_dump prints a text
   Prints : Bytes → Plan
+  -- pg_catcmp compares two catalogues by names
+  Compares : Named → Named → Plan
 
 abbrev pub script_limit : ℕ
 script_limit = 268435456
-
-abbrev pub scripted : Result (List Located) ScriptFault → Result (List Located) Outcome
-scripted (Ok statements) = Ok statements
-scripted (Err fault) = Err (BadScript fault)
 
 -- psql: the script is read, then the folder
 unfoldable pub psql_due : Bytes → Bytes → Tree → Result Plan Outcome
 psql_due folder script tree = do
   text ← file_of Script script_limit script tree
-  statements ← scripted (script_of text)
+  statements ← script_of text
   rows ← opening_of folder tree
   Ok (Applies (record { folder = folder; statements = statements; rows = rows }))
 
@@ -83,9 +84,17 @@ dump_due folder moment tree = do
   rows ← opening_of folder tree
   script_due moment rows
 
+-- pg_catcmp: the two folders are read
+unfoldable pub compare_due : Bytes → Bytes → Tree → Result Plan Outcome
+compare_due first second tree = do
+  one ← cluster_of first tree
+  other ← cluster_of second tree
+  Ok (Compares (cluster_named one) (cluster_named other))
+
 abbrev pub asked_due : Asked → Moment → Tree → Result Plan Outcome
 asked_due (Psql folder script) moment tree = psql_due folder script tree
 asked_due (Dump folder) moment tree = dump_due folder moment tree
+asked_due (Compare first second) moment tree = compare_due first second tree
 
 abbrev pub worded : Result Asked UsageKind → Moment → Tree → Result Plan Outcome
 worded (Ok asked) moment tree = asked_due asked moment tree
@@ -102,10 +111,18 @@ application_of folder work = record { folder = folder; statements = work.stateme
 abbrev pub plan_of : Bytes → Work → Plan
 plan_of folder work = Applies (application_of folder work)
 
--- the answer that comes where no call on the outside fails and memory doesn't run out
-abbrev pub expected : Result Plan Outcome → Outcome
-expected (Ok plan) = Done
-expected (Err outcome) = outcome
+-- What a plan comes to where no call on the outside fails and memory doesn't run out: two catalogues are the same, or
+-- differ, and first at a key; any other plan is done.
+abbrev pub ComesTo : Outcome → Plan → Type 0
+ComesTo Done (Compares a b) = a ≡ b
+ComesTo (Differs key) (Compares a b) = IsLeastDifference a b key
+ComesTo outcome (Compares a b) = ⊥
+ComesTo outcome plan = outcome ≡ Done
+
+-- the answer that comes then
+abbrev pub IsExpected : Outcome → Result Plan Outcome → Type 0
+IsExpected outcome (Ok plan) = ComesTo outcome plan
+IsExpected outcome (Err refusal) = outcome ≡ refusal
 
 -- ---- what stands once a plan is carried out
 
@@ -138,12 +155,15 @@ abbrev pub report_of : Application → List ℕ
 report_of plan = report (refusals boot plan.statements (named plan.rows))
 
 -- What stands of the files, of standard output and of standard error once a plan is carried out: a script was applied and
--- its report was written to standard error, or a text was written to standard output, and nothing else changed.
+-- its report was written to standard error, or a text was written to standard output, or two catalogues were the same,
+-- and nothing else changed.
 abbrev pub IsCarriedOut : Plan → Option Tree → Option Tree → Option (List ℕ) → Option (List ℕ) → Option (List ℕ) → Option (List ℕ) → Type 0
 IsCarriedOut (Applies plan) before after out_before out_after told_before told_after =
     Applied plan before after × (out_after ≡ out_before) × Appends (report_of plan) told_before told_after
 IsCarriedOut (Prints text) before after out_before out_after told_before told_after =
     (after ≡ before) × Appends text out_before out_after × (told_after ≡ told_before)
+IsCarriedOut (Compares a b) before after out_before out_after told_before told_after =
+    (a ≡ b) × (after ≡ before) × (out_after ≡ out_before) × (told_after ≡ told_before)
 
 -- the plan that was due was carried out
 pub record WasDue (due : Result Plan Outcome) (before after : Option Tree) (out_before out_after told_before told_after : Option (List ℕ)) : Type 0 where
@@ -151,10 +171,25 @@ pub record WasDue (due : Result Plan Outcome) (before after : Option Tree) (out_
   pub is_due : due ≡ Ok plan
   pub carried : IsCarriedOut plan before after out_before out_after told_before told_after
 
--- what a call of the program comes to: Done where the plan that is due was carried out, or a refusal that is due
+-- the catalogues that are to be compared differ, and first at this key
+pub record DiffersAt (due : Result Plan Outcome) (key : Key) : Type 0 where
+  pub a : Named
+  pub b : Named
+  pub is_due : due ≡ Ok (Compares a b)
+  pub least : IsLeastDifference a b key
+
+abbrev pub IsDifference : Outcome → Result Plan Outcome → Type 0
+IsDifference (Differs key) due = DiffersAt due key
+IsDifference outcome due = ⊥
+
+-- an answer other than Done: the refusal that is due, or the difference to which the plan that is due comes
+abbrev pub IsAnswerDue : Outcome → Result Plan Outcome → Type 0
+IsAnswerDue outcome due = IsDue outcome due ⊎ IsDifference outcome due
+
+-- what a call of the program comes to: Done where the plan that is due was carried out, or another answer that is due
 abbrev pub Answers : Outcome → Result Plan Outcome → Option Tree → Option Tree → Option (List ℕ) → Option (List ℕ) → Option (List ℕ) → Option (List ℕ) → Type 0
 Answers Done due before after out_before out_after told_before told_after = WasDue due before after out_before out_after told_before told_after
-Answers outcome due before after out_before out_after told_before told_after = IsDue outcome due
+Answers outcome due before after out_before out_after told_before told_after = IsAnswerDue outcome due
 
 -- ---- what stands where the work ended on its way
 
@@ -171,11 +206,13 @@ IsPart due before after = (after ≡ before) ⊎ PartDue due before after
 abbrev pub report_due : Result Plan Outcome → List ℕ
 report_due (Ok (Applies plan)) = report_of plan
 report_due (Ok (Prints text)) = []
+report_due (Ok (Compares a b)) = []
 report_due (Err outcome) = []
 
 abbrev pub text_due : Result Plan Outcome → List ℕ
 text_due (Ok (Applies plan)) = []
 text_due (Ok (Prints text)) = text
+text_due (Ok (Compares a b)) = []
 text_due (Err outcome) = []
 
 -- Standard error has grown by a first part of the report, and then by a first part of the line of an answer that is
@@ -184,13 +221,14 @@ pub record ToldPart (tool : Tool) (due : Result Plan Outcome) (before after : Op
   pub between : Option (List ℕ)
   pub reported : AppendsPart (report_due due) before between
   pub outcome : Outcome
-  pub is_due : IsDue outcome due
+  pub is_due : IsAnswerDue outcome due
   pub line : AppendsPart (outcome_line tool outcome) between after
 
 -- a file that the plan which is due doesn't write
 abbrev pub IsOther : Result Plan Outcome → Bytes → Type 0
 IsOther (Ok (Applies plan)) name = IsElsewhere plan.folder name
 IsOther (Ok (Prints text)) name = Unit {0}
+IsOther (Ok (Compares a b)) name = Unit {0}
 IsOther (Err outcome) name = Unit {0}
 
 -- every file that the plan which is due doesn't write is as it was

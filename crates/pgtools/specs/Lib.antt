@@ -6,6 +6,7 @@ pub mod Answers
 pub mod Words
 pub mod Texts
 pub mod Folder
+pub mod Clusters
 pub mod Messages
 pub mod Lines
 pub mod Run

@@ -2,7 +2,6 @@
 -- A key is told by the word for its kind and its names; a name is written as SQL writes it.
 use Rattle.std.specs.Prelude.{ℕ, ◌++◌, List, [], ◌∷◌, codes, decimal}
 use Rattle.std.specs.List.{flat_map}
-use Rattle.sql_lex.specs.declared.fault.LexFault.TheVariants as lex
 use Rattle.cat_model.specs.declared.words.What.{What}
 use Rattle.cat_model.specs.declared.words.What.TheVariants as what
 use Rattle.pgtools.specs.declared.outcome.UsageKind.{UsageKind}
@@ -13,8 +12,8 @@ use Rattle.pgtools.specs.declared.outcome.Limit.{Limit}
 use Rattle.pgtools.specs.declared.outcome.Limit.TheVariants.{Script, TableFile, Entries}
 use Rattle.pgtools.specs.declared.outcome.Outcome.{Outcome}
 use Rattle.pgtools.specs.declared.outcome.Outcome.TheVariants as outcome
-use Rattle.pgtools.specs.declared.script.ScriptFault.{ScriptFault}
-use Rattle.pgtools.specs.declared.script.ScriptFault.TheVariants as script
+use Rattle.ddl_read.specs.Faults.{fault_place}
+use Rattle.folder_io.specs.Folders.{file_name}
 use Rattle.sql_lex.specs.Written.{written_name}
 use Rattle.cat_model.specs.Values.{Bytes}
 use Rattle.cat_model.specs.declared.object.QName.{QName}
@@ -114,19 +113,12 @@ what_text what.Columns = codes "Columns"
 what_text (what.EntryKind text) = codes "EntryKind"
 what_text what.Unbuilt = codes "Unbuilt"
 
--- the place of a script's fault
-abbrev pub fault_place : ScriptFault → ℕ
-fault_place (script.Lex (lex.Unclosed at)) = at
-fault_place (script.Lex (lex.BadByte at)) = at
-fault_place (script.Unknown at) = at
-fault_place (script.LongName at) = at
-fault_place (script.Incomplete at) = at
-
 -- how a tool is called
 abbrev pub tool_name : Tool → List ℕ
 tool_name tools.Program = codes "pgtools"
 tool_name tools.Psql = codes "psql"
 tool_name tools.PgDump = codes "pg_dump"
+tool_name tools.PgCatcmp = codes "pg_catcmp"
 
 abbrev pub outcome_text : Outcome → List ℕ
 outcome_text outcome.Done = []
@@ -134,9 +126,11 @@ outcome_text (outcome.Usage word kind) = codes "word " ++ decimal word ++ codes 
 outcome_text outcome.ReadFault = codes "could not read"
 outcome_text outcome.WriteFault = codes "could not write"
 outcome_text (outcome.Missing name) = codes "missing file " ++ name
+outcome_text (outcome.BadExport file line kind) = codes "bad export " ++ file_name file ++ codes " line " ++ decimal line
 outcome_text (outcome.BadScript fault) = codes "bad script at " ++ decimal (fault_place fault)
 outcome_text (outcome.OutOfProfile what) = codes "not supported: " ++ what_text what
 outcome_text (outcome.TooLarge limit most) = codes "too large: " ++ limit_text limit
+outcome_text (outcome.Differs key) = codes "differs: " ++ key_text key
 outcome_text outcome.Memory = codes "out of memory"
 
 -- the line of a call that is refused

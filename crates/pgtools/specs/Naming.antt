@@ -11,7 +11,7 @@ use Rattle.cat_model.specs.ObjectEffects.{made}
 use Rattle.cat_model.specs.Grants.{owner_only, schema_rights}
 use Rattle.cat_model.specs.Trees.{Change, changed}
 use Rattle.cat_model.specs.Values as value
-use Rattle.cat_model.specs.Values.{Bytes, bytes_cmp, Value, Role, Named}
+use Rattle.cat_model.specs.Values.{Bytes, bytes_cmp, Role, Named}
 use Rattle.pgtools.specs.declared.schemas.SchemaRow.{SchemaRow}
 
 -- the name of the role of oid 10

@@ -1,5 +1,5 @@
 -- A script that makes schemas anew: what it leaves of the catalogue of a fresh folder, whose one schema is public.
-use Rattle.std.specs.Prelude.{◌≡◌, ℕ, List, [], ◌∷◌, Bool, true, false, Option, Some, Result, Ok, codes}
+use Rattle.std.specs.Prelude.{◌≡◌, ℕ, List, [], ◌∷◌, true, false, Some, Result, Ok, codes}
 use Rattle.std.specs.Ordering.{eq_by_cmp}
 use Rattle.std.specs.List.{AllByRecursion, IsDistinct}
 use Rattle.std.specs.Option.{option_or}
@@ -11,10 +11,10 @@ use Rattle.cat_model.specs.declared.key.Key.{Key}
 use Rattle.cat_model.specs.References.{is_system}
 use Rattle.cat_model.specs.Values.{Bytes, bytes_cmp, Named}
 use Rattle.pgtools.specs.declared.schemas.SchemaRow.{SchemaRow}
-use Rattle.pgtools.specs.declared.script.Located.{Located}
+use Rattle.ddl_read.specs.declared.located.Located.{Located}
 use Rattle.pgtools.specs.declared.outcome.Limit.TheVariants.{Script}
 use Rattle.pgtools.specs.declared.outcome.Outcome.{Outcome}
-use Rattle.pgtools.specs.Due.{Plan, Application, Applies, Prints, script_limit, dump_due, psql_due}
+use Rattle.pgtools.specs.Due.{Plan, Application, Applies, Prints, script_limit, dump_due}
 use Rattle.pgtools.specs.Folder.{has_public, schemas_in, opening_of}
 use Rattle.pgtools.specs.Naming.{boot, named}
 use Rattle.pgtools.specs.Run.{catalogue_after, refusals}

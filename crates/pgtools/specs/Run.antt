@@ -3,30 +3,18 @@ use Rattle.std.specs.Prelude.{ℕ, ◌++◌, List, [], ◌∷◌, Result, Ok, Er
 use Rattle.cat_model.specs.declared.cause.Cause.{Cause}
 use Rattle.cat_model.specs.declared.cause.Cause.TheVariants as causes
 use Rattle.cat_model.specs.declared.key.Key.TheVariants as key
-use Rattle.cat_model.specs.declared.grant.Owned.TheVariants as owned
 use Rattle.cat_model.specs.declared.stmt.Stmt.{Stmt}
-use Rattle.cat_model.specs.declared.stmt.Stmt.TheVariants as stmt
 use Rattle.cat_model.specs.Effects.{effect}
 use Rattle.cat_model.specs.Trees.{run}
 use Rattle.cat_model.specs.Values.{Bytes, Named}
-use Rattle.pgtools.specs.declared.script.Located.{Located}
-use Rattle.pgtools.specs.declared.script.Statement.{Statement}
-use Rattle.pgtools.specs.declared.script.Statement.TheVariants as statements
+use Rattle.ddl_read.specs.declared.located.Located.{Located}
 use Rattle.pgtools.specs.declared.schemas.SchemaCause.{SchemaCause}
 use Rattle.pgtools.specs.declared.schemas.SchemaCause.TheVariants as why
 use Rattle.pgtools.specs.Messages.{Refusal}
 
--- The statement of the catalogue's model. A setting of the session says nothing of a catalogue, so its name and its
--- value aren't kept, and stand here as nothing.
-abbrev pub stmt_of : Statement → Stmt
-stmt_of statements.Set = stmt.Set [] []
-stmt_of statements.SetConfig = stmt.SetConfig [] []
-stmt_of (statements.CreateSchema name) = stmt.CreateSchema name
-stmt_of (statements.OwnerTo schema role) = stmt.OwnerTo (owned.Schema schema) role
-
 -- what a statement says of a catalogue
-abbrev pub said : Bytes → Statement → Named → Result Named Cause
-said boot statement named = run (effect boot (stmt_of statement)) named
+abbrev pub said : Bytes → Stmt → Named → Result Named Cause
+said boot statement named = run (effect boot statement) named
 
 -- the cause of a refusal, as the catalogue's model has it
 abbrev pub cause_of : SchemaCause → Cause
@@ -45,9 +33,9 @@ noted at (Err cause) = (at, cause) ∷ []
 -- the catalogue after the statements
 abbrev pub catalogue_after : Bytes → List Located → Named → Named
 catalogue_after boot [] named = named
-catalogue_after boot (located ∷ more) named = catalogue_after boot more (next named (said boot located.statement named))
+catalogue_after boot (located ∷ more) named = catalogue_after boot more (next named (said boot located.stmt named))
 
 -- the statements that were refused, in order
 abbrev pub refusals : Bytes → List Located → Named → List Refusal
 refusals boot [] named = []
-refusals boot (located ∷ more) named = noted located.start (said boot located.statement named) ++ refusals boot more (next named (said boot located.statement named))
+refusals boot (located ∷ more) named = noted located.start (said boot located.stmt named) ++ refusals boot more (next named (said boot located.stmt named))

@@ -16,11 +16,14 @@ pub data Asked : Type 0 where
   Psql : Bytes → Bytes → Asked
   -- the folder that pg_dump reads
   Dump : Bytes → Asked
+  -- the two folders that pg_catcmp compares
+  Compare : Bytes → Bytes → Asked
 
--- psql -d FOLDER -f SCRIPT, or pg_dump FOLDER
+-- psql -d FOLDER -f SCRIPT, pg_dump FOLDER, or pg_catcmp FOLDER FOLDER
 abbrev pub words_of : List Bytes → Result Asked UsageKind
 words_of [] = Err NoCommand
 words_of (tool ∷ folder ∷ []) = if bytes_eq tool (codes "pg_dump") then Ok (Dump folder) else Err UnknownCommand
+words_of (tool ∷ first ∷ second ∷ []) = if bytes_eq tool (codes "pg_catcmp") then Ok (Compare first second) else Err UnknownCommand
 words_of (tool ∷ d ∷ folder ∷ f ∷ script ∷ []) =
     if bytes_eq tool (codes "psql") && bytes_eq d (codes "-d") && bytes_eq f (codes "-f") then Ok (Psql folder script) else Err UnknownCommand
 words_of _ = Err UnknownCommand
@@ -29,9 +32,11 @@ words_of _ = Err UnknownCommand
 abbrev pub asked_of : Command → Asked
 asked_of (command.Psql folder script) = Psql folder.now script.now
 asked_of (command.Dump folder) = Dump folder.now
+asked_of (command.Compare first second) = Compare first.now second.now
 
 -- the tool that tells a refusal: the program itself where the words have no reading
 abbrev pub tool_of : Result Asked UsageKind → Tool
 tool_of (Ok (Psql folder script)) = tools.Psql
 tool_of (Ok (Dump folder)) = tools.PgDump
+tool_of (Ok (Compare first second)) = tools.PgCatcmp
 tool_of (Err kind) = tools.Program

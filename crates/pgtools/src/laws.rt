@@ -15,8 +15,7 @@ ghost use Rattle.pgtools.specs.RoundTrip.{CanBeMade, Remakes, GoesBack, MakesSam
 
 use cat_rows::laws::read_rows_can_be_written;
 use copy_text::laws::tests_are_exact;
-use dump_schemas::{the_script_holds_the_statements, worked_example};
-use sql_lex::names_are_read_back;
+use dump_schemas::{the_script_reads_as_its_statements, worked_example};
 
 /// The script of schemas, read by psql and applied to a fresh folder, leaves these schemas laid over what was there,
 /// and no statement is refused.
@@ -24,8 +23,7 @@ pub fn the_dumped_script_makes_the_schemas()
     ensures { (database : DatabaseRow) (moment : Moment) (rows : List SchemaRow) → CanBeMade rows
         → Remakes (dumped_script database boot moment (map dump_row rows)) rows }
 {
-    the_script_holds_the_statements();
-    names_are_read_back();
+    the_script_reads_as_its_statements();
     tests_are_exact();
 }
 

@@ -2,8 +2,10 @@
 #![tactic(auto)]
 
 mod arguments;
+mod cluster;
 mod dumping;
 mod folder;
+mod keys;
 mod laws;
 mod namespaces;
 mod opening;

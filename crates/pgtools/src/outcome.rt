@@ -1,11 +1,16 @@
 //! What a call of the program comes to.
 ghost use Rattle.std.specs.Prelude.{◌≡◌, ℕ};
 ghost use Rattle.pgtools.specs.Status.{status_of, script_outcome};
+ghost use Rattle.pgtools.specs.Clusters.{export_fault, folder_outcome, fault_outcome, check_outcome};
 ghost use Rattle.pgtools.specs.declared.outcome.Outcome.TheVariants as outcomes;
 
-use crate::script::{ReadScriptError, ScriptFault};
+use crate::keys::Difference;
 use cat_model::What;
+use cat_names::{CatFault, CheckError, FaultKind};
+use cat_rows::RowFault;
 use copy_text::Text;
+use ddl_read::{DdlFault, ReadStmtsError};
+use folder_io::{ExportFile, ExportKind, FolderFault};
 use std::alloc::AllocError;
 
 /// Why the words of a command line have no reading. Words count from 0.
@@ -30,6 +35,17 @@ pub enum Limit {
     Entries,
 }
 
+/// What is wrong with a place of an export folder.
+#[derive(Debug, PartialEq, Eq, Drop)]
+pub enum ExportFault {
+    /// The marker isn't that of version 1.
+    Version,
+    /// The line is no row of its table.
+    Row(RowFault),
+    /// The row doesn't fit to the others.
+    Cat(FaultKind),
+}
+
 /// What a call of the program comes to.
 #[derive(Debug, Drop)]
 pub enum Outcome {
@@ -48,12 +64,23 @@ pub enum Outcome {
     WriteFault,
     /// A file that is needed is absent; its whole path.
     Missing(Text),
-    /// The script has no reading.
-    BadScript(ScriptFault),
+    /// The first place of an export folder that fails.
+    BadExport {
+        /// The file.
+        file: ExportFile,
+        /// The line, counted from 1; a row that must be there and isn't counts at the line after the last.
+        line: u64,
+        /// What is wrong.
+        kind: ExportFault,
+    },
+    /// The script has no reading; the first place where it has none.
+    BadScript(DdlFault),
     /// Something is met that the program doesn't support.
     OutOfProfile(What),
     /// A limit is passed. Where it is one of bytes, the number is the limit and one more; of entries it is their number.
     TooLarge(Limit, u64),
+    /// Two folders stand for different catalogues by names; the least key at which they differ.
+    Differs(Difference),
     /// Memory ran out.
     Memory,
 }
@@ -79,13 +106,67 @@ impl From<AllocError> for Outcome {
     }
 }
 
-impl From<ReadScriptError> for Outcome {
+impl From<ReadStmtsError> for Outcome {
     ghost from_gives = { λ error outcome. outcome ≡ script_outcome error };
 
-    fn from(error: ReadScriptError) -> Outcome {
+    fn from(error: ReadStmtsError) -> Outcome {
         match error {
-            ReadScriptError::Fault(fault) => Outcome::BadScript(fault),
-            ReadScriptError::Memory => Outcome::Memory,
+            ReadStmtsError::Fault(fault) => Outcome::BadScript(fault),
+            ReadStmtsError::Memory => Outcome::Memory,
         }
+    }
+}
+
+impl From<FolderFault> for Outcome {
+    ghost from_gives = { λ fault outcome. outcome ≡ folder_outcome fault };
+
+    fn from(fault: FolderFault) -> Outcome {
+        match fault {
+            FolderFault::Failed => Outcome::ReadFault,
+            FolderFault::Missing(name) => Outcome::Missing(name),
+            FolderFault::BadExport { file, line, kind } => Outcome::BadExport {
+                file,
+                line,
+                kind: export_fault(kind),
+            },
+            FolderFault::TooLarge(most) => Outcome::TooLarge(Limit::TableFile, most),
+            FolderFault::Memory => Outcome::Memory,
+        }
+    }
+}
+
+/// What is wrong with a place, as reading the folder tells it.
+fn export_fault(kind: ExportKind) -> ExportFault
+    ensures { result ≡ export_fault kind }
+{
+    match kind {
+        ExportKind::Version => ExportFault::Version,
+        ExportKind::Row(fault) => ExportFault::Row(fault),
+    }
+}
+
+impl From<CheckError> for Outcome {
+    ghost from_gives = { λ error outcome. outcome ≡ check_outcome error };
+
+    fn from(error: CheckError) -> Outcome {
+        match error {
+            CheckError::Fault(fault) => fault_outcome(fault),
+            CheckError::Memory => Outcome::Memory,
+        }
+    }
+}
+
+/// The outcome where the rows don't fit together.
+fn fault_outcome(fault: CatFault) -> Outcome
+    ensures { result ≡ fault_outcome fault fault.kind }
+{
+    let CatFault { table, line, kind } = fault;
+    match kind {
+        FaultKind::OutOfProfile(what) => Outcome::OutOfProfile(what),
+        kind => Outcome::BadExport {
+            file: ExportFile::Table(table),
+            line,
+            kind: ExportFault::Cat(kind),
+        },
     }
 }

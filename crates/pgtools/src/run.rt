@@ -1,19 +1,20 @@
 //! A script applied to the schemas of a folder.
-ghost use Rattle.std.specs.Prelude.{◌≡◌, List, ◌++◌, OnOk, IfOk};
+ghost use Rattle.std.specs.Prelude.{◌≡◌, true, List, ◌++◌, OnOk, IfOk};
 ghost use Rattle.sql_lex.specs.Written.{written_name};
 ghost use Rattle.pgtools.specs.declared.schemas.SchemaRow.{SchemaRow};
 ghost use Rattle.pgtools.specs.Naming.{boot, named};
 ghost use Rattle.pgtools.specs.Messages.{cause_text, refusal_line, report};
 ghost use Rattle.pgtools.specs.Run.{cause_of, said, next, noted, catalogue_after, refusals};
+ghost use Rattle.pgtools.specs.Statements.{is_taken, are_taken};
 
 use crate::schemas::{ApplyFault, SchemaCause, Schemas};
-use crate::script::Located;
 use copy_text::Name;
+use ddl_read::Located;
 use itoa::Buffer;
 use sql_lex::write_name;
 use std::alloc::{AllocError, Global};
 
-/// Applies the statements in order, and answers the report of those that were refused, which change nothing.
+/// Applies the statements in order, each of a kind that is carried out, and answers the report of those that were refused, which change nothing.
 ///
 /// The rows that were there stay. Where memory runs out the statements before it have been applied.
 pub fn run_script(
@@ -21,6 +22,7 @@ pub fn run_script(
     schemas: &mut Schemas,
     statements: &[Located],
 ) -> Result<Vec<u8>, AllocError>
+    requires { are_taken statements.now ≡ true }
     ensures reported { IfOk result (λ text. text.items ≡ report (refusals boot statements.now (named schemas.old))) }
     ensures applied { OnOk result (named schemas.new ≡ catalogue_after boot statements.now (named schemas.old)) }
     ensures stays { OnOk result ((more : List SchemaRow) × (schemas.new ≡ schemas.old ++ more)) }
@@ -38,11 +40,12 @@ fn run_statement(
     located: &Located,
     out: &mut Vec<u8>,
 ) -> Result<(), AllocError>
-    ensures reported { OnOk result (out.new.items ≡ out.old.items ++ report (noted located.now.start (said boot located.now.statement (named schemas.old)))) }
-    ensures applied { OnOk result (named schemas.new ≡ next (named schemas.old) (said boot located.now.statement (named schemas.old))) }
+    requires { is_taken located.now.stmt ≡ true }
+    ensures reported { OnOk result (out.new.items ≡ out.old.items ++ report (noted located.now.start (said boot located.now.stmt (named schemas.old)))) }
+    ensures applied { OnOk result (named schemas.new ≡ next (named schemas.old) (said boot located.now.stmt (named schemas.old))) }
     ensures stays { OnOk result ((more : List SchemaRow) × (schemas.new ≡ schemas.old ++ more)) }
 {
-    match schemas.apply(&located.statement) {
+    match schemas.apply(&located.stmt) {
         Ok(()) => Ok(()),
         Err(ApplyFault::Refused(cause)) => write_refusal(located.start, &cause, out),
         Err(ApplyFault::Memory) => Err(AllocError),

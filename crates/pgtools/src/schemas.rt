@@ -12,9 +12,10 @@ ghost use Rattle.pgtools.specs.Naming.{boot, named, has_name, has_oid};
 ghost use Rattle.pgtools.specs.Folder.{has_public};
 ghost use Rattle.cat_model.specs.declared.grant.Owned.TheVariants as owned;
 ghost use Rattle.pgtools.specs.Run.{said, cause_of};
+ghost use Rattle.pgtools.specs.Statements.{is_taken};
 ghost use Rattle.pgtools.specs.declared.schemas.ApplyFault.TheVariants as faults;
 
-use crate::script::Statement;
+use cat_model::{Owned, Stmt};
 use copy_text::Name;
 use std::alloc::{AllocError, AllocFailed, Global};
 use std::collections::BTreeSet;
@@ -129,9 +130,10 @@ impl Schemas {
         Ok(true)
     }
 
-    /// Applies a statement. What is new comes behind the rows that were there, under an oid that none of them has. A
+    /// Applies a statement of a kind that is carried out. What is new comes behind the rows that were there, under an oid that none of them has. A
     /// refusal, and want of memory, change nothing.
-    pub fn apply(&mut self, statement: &Statement) -> Result<(), ApplyFault>
+    pub fn apply(&mut self, statement: &Stmt) -> Result<(), ApplyFault>
+        requires { is_taken statement.now ≡ true }
         ensures ok { OnOk result (said boot statement.now (named self.old) ≡ Ok (named self.new)) }
         ensures grown { OnOk result ((self.new ≡ self.old) ⊎ ((row : SchemaRow) × (has_oid row.oid self.old ≡ false) × (self.new ≡ self.old ++ row ∷ []))) }
         ensures user { OnOk result ((self.new ≡ self.old) ⊎ ((row : SchemaRow) × (16384 ≤ row.oid) × (self.new ≡ self.old ++ row ∷ []))) }
@@ -140,9 +142,13 @@ impl Schemas {
         ensures err { OnErr result (self.new ≡ self.old) }
     {
         match statement {
-            Statement::Set | Statement::SetConfig => Ok(()),
-            Statement::CreateSchema(name) => self.create(name),
-            Statement::OwnerTo { schema, role } => self.own(schema, role),
+            Stmt::Set { .. } | Stmt::SetConfig { .. } => Ok(()),
+            Stmt::CreateSchema { name } => self.create(name),
+            Stmt::OwnerTo {
+                object: Owned::Schema(schema),
+                role,
+            } => self.own(schema, role),
+            _ => unreachable!(),
         }
     }
 

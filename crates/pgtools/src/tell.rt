@@ -33,9 +33,11 @@ fn write_outcome<E: Sink>(err: &mut E, outcome: &Outcome) -> Result<(), Failed>
         Outcome::ReadFault => write_bytes(err, b"could not read"),
         Outcome::WriteFault => write_bytes(err, b"could not write"),
         Outcome::Missing(name) => write_two(err, b"missing file ", name.as_bytes()),
+        Outcome::BadExport { file, line, .. } => write_place(err, file.name().as_bytes(), *line),
         Outcome::BadScript(fault) => write_numbered(err, b"bad script at ", fault.place(), b""),
         Outcome::OutOfProfile(what) => write_two(err, b"not supported: ", what_text(what)),
         Outcome::TooLarge(limit, _) => write_two(err, b"too large: ", limit_text(*limit)),
+        Outcome::Differs(difference) => write_two(err, b"differs: ", difference.text()),
         Outcome::Memory => write_bytes(err, b"out of memory"),
     }
 }
@@ -73,6 +75,26 @@ fn write_numbered<E: Sink>(
     write_bytes(err, before)?;
     write_number(err, number)?;
     write_bytes(err, behind)
+}
+
+/// Writes the place of a file that fails.
+fn write_place<E: Sink>(err: &mut E, file: &[u8], line: u64) -> Result<(), Failed>
+    ensures ok { OnOk result (Appends (codes "bad export " ++ file.now ++ codes " line " ++ decimal line) (E.written err.old) (E.written err.new)) }
+    ensures err { OnErr result (AppendsPart (codes "bad export " ++ file.now ++ codes " line " ++ decimal line) (E.written err.old) (E.written err.new)) }
+    ensures count { CountsFault result (E.faults err.old) (E.faults err.new) }
+{
+    write_two(err, b"bad export ", file)?;
+    write_line(err, line)
+}
+
+/// Writes the number of a line behind its word.
+fn write_line<E: Sink>(err: &mut E, line: u64) -> Result<(), Failed>
+    ensures ok { OnOk result (Appends (codes " line " ++ decimal line) (E.written err.old) (E.written err.new)) }
+    ensures err { OnErr result (AppendsPart (codes " line " ++ decimal line) (E.written err.old) (E.written err.new)) }
+    ensures count { CountsFault result (E.faults err.old) (E.faults err.new) }
+{
+    let mut buffer = Buffer::new();
+    write_two(err, b" line ", buffer.format(line).as_bytes())
 }
 
 /// Writes a number.

@@ -27,11 +27,11 @@ const EMPTY: [(&str, &[u8]); 16] = [
     ("D/format", b"1\n"),
 ];
 
-/// A run over files in memory: what it answered, what the files hold, and what was written to standard output
-/// and standard error.
+/// A run over files in memory: its exit status, what the files hold, and what was written to standard output and
+/// standard error.
 #[derive(Drop)]
 struct Run {
-    outcome: Outcome,
+    status: u8,
     files: MemFiles,
     out: MemSink,
     told: MemSink,
@@ -60,11 +60,12 @@ fn call(rt: &HostRuntime, spelled: &[&str], mut files: MemFiles) -> Result<Run, 
     let mut out = MemSink::new(alloc, Vec::new(alloc));
     let mut told = MemSink::new(alloc, Vec::new(alloc));
     let moment = moment_now(rt);
-    let outcome = run_tools(
+    let status = run_tools(
         alloc, &words, &mut files, &mut input, &mut out, &mut told, moment, &OpenGate,
-    );
+    )
+    .status();
     Ok(Run {
-        outcome,
+        status,
         files,
         out,
         told,
@@ -163,7 +164,7 @@ fn scripts_are_applied(rt: HostRuntime) -> Result<(), Fail> {
     ];
     for (script, status, rows, told) in cases {
         let run = apply(&rt, script, Vec::new(rt.alloc()))?;
-        assert_eq!(rt; run.outcome.status(), status);
+        assert_eq!(rt; run.status, status);
         assert!(rt; text(&run.files, "D/pg_namespace.copy") == rows);
         assert!(rt; run.told.text() == told);
         assert!(rt; run.out.text() == b"".as_slice());
@@ -172,16 +173,158 @@ fn scripts_are_applied(rt: HostRuntime) -> Result<(), Fail> {
 }
 
 #[test]
+fn scripts_are_refused(rt: HostRuntime) -> Result<(), Fail> {
+    let cases: [(&[u8], &[u8]); 11] = [
+        (b"DROP SCHEMA a;", b"bad script at 0"),
+        (
+            b"CREATE SCHEMA a; CREATE SCHEMA b AUTHORIZATION r; SET c = 1;",
+            b"bad script at 33",
+        ),
+        (b"CREATE SCHEMA a; CREATE SCHEMA b)", b"bad script at 32"),
+        (b"CREATE SCHEMA a; CREATE SCHEMA b", b"bad script at 32"),
+        (b"CREATE SCHEMA a; SET b = 'c", b"bad script at 25"),
+        (b"COPY public.t (a) FROM stdin", b"bad script at 28"),
+        (b"COPY public.t (a) FROM stdin; 1\n", b"bad script at 30"),
+        (
+            b"COPY public.t (a) FROM stdin;\n1\n",
+            b"not supported: Unbuilt",
+        ),
+        (
+            b"CREATE SCHEMA a; CREATE ROLE r;",
+            b"not supported: Unbuilt",
+        ),
+        (
+            b"ALTER DATABASE postgres OWNER TO postgres;",
+            b"not supported: Unbuilt",
+        ),
+        (b"CREATE ROLE r; DROP", b"bad script at 15"),
+    ];
+    for (script, told) in cases {
+        let run = apply(&rt, script, Vec::new(rt.alloc()))?;
+        assert_eq!(rt; run.status, 1);
+        assert!(rt; is_line(run.told.text(), b"psql: error: ", told));
+        assert!(rt;
+            text(&run.files, "D/pg_namespace.copy") == b"2200\tpublic\t10\t\\N\n".as_slice()
+        );
+    }
+    Ok(())
+}
+
+#[test]
 fn folders_are_dumped(rt: HostRuntime) -> Result<(), Fail> {
     let made = apply(&rt, b"CREATE SCHEMA a;", Vec::new(rt.alloc()))?;
     let run = call(&rt, &["pg_dump", "D"], made.files)?;
-    assert_eq!(rt; run.outcome.status(), 0);
+    assert_eq!(rt; run.status, 0);
     assert!(rt; run.out.text() == DUMP);
     assert!(rt; run.told.text() == b"".as_slice());
     let refused = call(&rt, &["pg_dump", "X"], run.files)?;
-    assert_eq!(rt; refused.outcome.status(), 1);
+    assert_eq!(rt; refused.status, 1);
     assert!(rt; refused.told.text() == b"pg_dump: error: missing file X/format\n".as_slice());
     Ok(())
+}
+
+/// The empty export twice, as D and as E, where the text of a file of E is another one or isn't there.
+fn pair(rt: &HostRuntime, file: &str, other: Option<&[u8]>) -> Result<MemFiles, Fail> {
+    let alloc = rt.alloc();
+    let mut files = MemFiles::new(alloc, Vec::new(alloc));
+    for (name, text) in EMPTY {
+        files.put(name, text)?;
+        let Some(inner) = name.strip_prefix("D/") else {
+            continue;
+        };
+        let mut second = String::from_str(alloc, "E/")?;
+        second.push_str(inner)?;
+        if inner != file {
+            files.put(&second, text)?;
+        } else if let Some(text) = other {
+            files.put(&second, text)?;
+        }
+    }
+    Ok(files)
+}
+
+#[test]
+fn folders_are_compared(rt: HostRuntime) -> Result<(), Fail> {
+    let cases: [(&str, Option<&[u8]>, &[u8]); 14] = [
+        ("pg_namespace.copy", Some(b"9\tpublic\t10\t\\N\n"), b""),
+        (
+            "pg_namespace.copy",
+            Some(b"2200\tpublic\t10\t{postgres=UC/postgres}\n"),
+            b"",
+        ),
+        (
+            "pg_namespace.copy",
+            Some(b"2200\tpublic\t10\t\\N\n16384\ta\t10\t\\N\n"),
+            b"differs: schema a",
+        ),
+        (
+            "pg_namespace.copy",
+            Some(b"2200\tpublic\t10\t{}\n"),
+            b"differs: grants public",
+        ),
+        (
+            "pg_authid.copy",
+            Some(b"10\tpostgres\tt\tt\tt\tt\tt\tt\tt\t3\t\\N\t\\N\n"),
+            b"differs: role postgres",
+        ),
+        (
+            "pg_authid.copy",
+            Some(
+                b"10\tpostgres\tt\tt\tt\tt\tt\tt\tt\t-1\t\\N\t\\N\n11\tA b\tt\tt\tt\tt\tt\tt\tt\t-1\t\\N\t\\N\n",
+            ),
+            b"differs: role \"A b\"",
+        ),
+        (
+            "pg_database.copy",
+            Some(b"5\tshop\t10\tUTF8\tt\n"),
+            b"differs: owner postgres",
+        ),
+        (
+            "pg_namespace.copy",
+            Some(b"2200\tpublic\t10\t\\N\n2200\ta\t10\t\\N\n"),
+            b"bad export pg_namespace.copy line 2",
+        ),
+        (
+            "pg_namespace.copy",
+            Some(b"2200\tpublic\t11\t\\N\n"),
+            b"bad export pg_namespace.copy line 1",
+        ),
+        (
+            "pg_depend.copy",
+            Some(b"1259\n"),
+            b"bad export pg_depend.copy line 1",
+        ),
+        ("format", Some(b"2\n"), b"bad export format line 1"),
+        ("pg_enum.copy", None, b"missing file E/pg_enum.copy"),
+        (
+            "pg_enum.copy",
+            Some(b"16385\t16384\t1\tx\n"),
+            b"not supported: Unbuilt",
+        ),
+        (
+            "pg_database.copy",
+            Some(b"5\tpostgres\t10\tLATIN1\tt\n"),
+            b"not supported: Encoding",
+        ),
+    ];
+    for (file, text, told) in cases {
+        let run = call(&rt, &["pg_catcmp", "D", "E"], pair(&rt, file, text)?)?;
+        assert_eq!(rt; run.status, if told.is_empty() { 0 } else { 1 });
+        assert!(rt;
+            is_line(run.told.text(), b"pg_catcmp: error: ", told) && run.out.text().is_empty()
+        );
+    }
+    Ok(())
+}
+
+/// Whether a text is this line of a tool, or empty where nothing is to be told.
+fn is_line(text: &[u8], front: &[u8], told: &[u8]) -> bool {
+    if told.is_empty() {
+        return text.is_empty();
+    }
+    text.strip_prefix(front)
+        .and_then(|line| line.strip_suffix(b"\n"))
+        == Some(told)
 }
 
 /// What a file is to hold where the writing ended on the file of this number, counted from 0.
@@ -212,20 +355,19 @@ fn each_call_fails_in_turn(rt: HostRuntime) -> Result<(), Fail> {
         let mut fail = Vec::new(rt.alloc());
         fail.push(call)?;
         let run = apply(&rt, b"CREATE SCHEMA a;", fail)?;
-        let (at, line): (usize, &[u8]) = match run.outcome {
-            Outcome::Done => break,
-            Outcome::ReadFault => {
-                reads = reads.saturating_add(1);
-                (0, b"psql: error: could not read\n")
-            }
-            _ => {
-                let at = WRITES.get(writes).copied().unwrap_or(16);
-                writes = writes.saturating_add(1);
-                (at, b"psql: error: could not write\n")
-            }
+        if run.status == 0 {
+            break;
+        }
+        let at = if run.told.text() == b"psql: error: could not read\n".as_slice() {
+            reads = reads.saturating_add(1);
+            0
+        } else {
+            assert!(rt; run.told.text() == b"psql: error: could not write\n".as_slice());
+            let at = WRITES.get(writes).copied().unwrap_or(16);
+            writes = writes.saturating_add(1);
+            at
         };
-        assert_eq!(rt; run.outcome.status(), 1);
-        assert!(rt; run.told.text() == line);
+        assert_eq!(rt; run.status, 1);
         for (number, (name, old)) in EMPTY.into_iter().enumerate() {
             assert!(rt; may_hold(at, number, text(&run.files, name), old));
         }

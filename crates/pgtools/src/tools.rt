@@ -6,21 +6,26 @@ ghost use Rattle.pgtools.specs.Answers.{Gives, CountsRead, IsDue, IsLate, IsRefu
 ghost use Rattle.pgtools.specs.Folder.{has_public};
 ghost use Rattle.pgtools.specs.Lines.{Appends, AppendsPart};
 ghost use Rattle.pgtools.specs.Messages.{outcome_line};
+ghost use Rattle.pgtools.specs.Statements.{are_taken};
 ghost use Rattle.pgtools.specs.Words.{words_of, tool_of};
-ghost use Rattle.pgtools.specs.Due.{Prints, application_of, plan_of, psql_due, dump_due, due, expected, report_of, report_due, text_due, IsCarriedOut, WasDue, Answers, PartApplied, IsPart, ToldPart, KeepsOthers, counts, NoneRose, Counted, CountsStep, CountsWrites};
+ghost use Rattle.pgtools.specs.Due.{Prints, application_of, plan_of, psql_due, dump_due, compare_due, due, IsExpected, IsAnswerDue, report_of, report_due, text_due, IsCarriedOut, WasDue, Answers, PartApplied, IsPart, ToldPart, KeepsOthers, counts, NoneRose, Counted, CountsStep, CountsWrites};
 
+use crate::cluster::read_cluster;
 use crate::dumping::dump_text;
 use crate::folder::write_folder;
+use crate::keys::Difference;
 use crate::namespaces::namespaces_text;
 use crate::opening::read_folder;
 use crate::outcome::{Limit, Outcome};
 use crate::run::run_script;
 use crate::schemas::Schemas;
-use crate::script::{Located, read_script};
+use crate::script::read_script;
 use crate::tell::{tell, write_bytes};
 use crate::texts::read_file;
 use crate::words::{Command, read_words, tool_of};
+use cat_same::{Verdict, compare_clusters};
 use copy_text::Text;
+use ddl_read::Located;
 use dump_ports::{Failed, Files, Gate, Moment, Sink, Source};
 use std::alloc::Global;
 
@@ -43,6 +48,7 @@ fn read_plan<F: Files>(
     script: &Text,
 ) -> Result<Work, Outcome>
     ensures due { (tree : Tree) → F.tree files.old ≡ Some tree → Gives (plan_of folder.now) result (psql_due folder.now script.now tree) }
+    ensures taken { IfOk result (λ work. are_taken work.statements.items ≡ true) }
     ensures public { IfOk result (λ work. has_public work.schemas ≡ true) }
     ensures kept { F.tree files.new ≡ F.tree files.old }
     ensures read_count { CountsRead result (F.read_faults files.old) (F.read_faults files.new) }
@@ -65,7 +71,8 @@ fn carry_out<F: Files, E: Sink>(
     folder: &Text,
     work: Work,
 ) -> Result<(), Outcome>
-    requires { has_public work.schemas ≡ true }
+    requires taken { are_taken work.statements.items ≡ true }
+    requires public { has_public work.schemas ≡ true }
     ensures ok { OnOk result ((printed : Option (List ℕ)) → IsCarriedOut (plan_of folder.now work) (F.tree files.old) (F.tree files.new) printed printed (E.written err.old) (E.written err.new)) }
     ensures late { IfErr result IsLate }
     ensures part { OnErr result ((F.tree files.new ≡ F.tree files.old) ⊎ PartApplied (application_of folder.now work) (F.tree files.old) (F.tree files.new)) }
@@ -155,6 +162,28 @@ fn read_dump<F: Files>(
     Ok(text)
 }
 
+/// Compares what two folders stand for by names.
+#[tactic(auto, unfolding(crate::specs::Due::compare_due))]
+fn pg_catcmp<F: Files>(
+    alloc: Global,
+    files: &mut F,
+    first: &Text,
+    second: &Text,
+) -> Result<(), Outcome>
+    ensures done { OnOk result ((tree : Tree) (printed told : Option (List ℕ)) → F.tree files.old ≡ Some tree → WasDue (compare_due first.now second.now tree) (F.tree files.old) (F.tree files.new) printed printed told told) }
+    ensures refused { IfErr result (λ outcome. (tree : Tree) → F.tree files.old ≡ Some tree → IsAnswerDue outcome (compare_due first.now second.now tree)) }
+    ensures kept { F.tree files.new ≡ F.tree files.old }
+    ensures read_count { CountsRead result (F.read_faults files.old) (F.read_faults files.new) }
+    ensures write_count { F.write_faults files.new ≡ F.write_faults files.old }
+{
+    let one = read_cluster(alloc, files, first)?;
+    let other = read_cluster(alloc, files, second)?;
+    match compare_clusters(alloc, &one, &other)? {
+        Verdict::Same => Ok(()),
+        Verdict::Differs(key) => Err(Outcome::Differs(Difference::new(alloc, key)?)),
+    }
+}
+
 /// Does what the words ask for.
 fn perform<F: Files, O: Sink, E: Sink>(
     alloc: Global,
@@ -165,7 +194,7 @@ fn perform<F: Files, O: Sink, E: Sink>(
     moment: Moment,
 ) -> Result<(), Outcome>
     ensures done { OnOk result ((tree : Tree) → F.tree files.old ≡ Some tree → WasDue (due words.now moment tree) (F.tree files.old) (F.tree files.new) (O.written out.old) (O.written out.new) (E.written err.old) (E.written err.new)) }
-    ensures refused { IfErr result (λ outcome. (tree : Tree) → F.tree files.old ≡ Some tree → IsDue outcome (due words.now moment tree)) }
+    ensures refused { IfErr result (λ outcome. (tree : Tree) → F.tree files.old ≡ Some tree → IsAnswerDue outcome (due words.now moment tree)) }
     ensures kept { IfErr result (λ outcome. IsRefusal outcome → F.tree files.new ≡ F.tree files.old) }
     ensures quiet { IfErr result (λ outcome. IsRefusal outcome → O.written out.new ≡ O.written out.old) }
     ensures part { OnErr result ((tree : Tree) → F.tree files.old ≡ Some tree → IsPart (due words.now moment tree) (F.tree files.old) (F.tree files.new)) }
@@ -177,6 +206,7 @@ fn perform<F: Files, O: Sink, E: Sink>(
     match read_words(words) {
         Ok(Command::Psql { folder, script }) => psql(alloc, files, err, folder, script),
         Ok(Command::Dump { folder }) => pg_dump(alloc, files, out, folder, moment),
+        Ok(Command::Compare { first, second }) => pg_catcmp(alloc, files, first, second),
         Err(kind) => Err(Outcome::Usage { word: 0, kind }),
     }
 }
@@ -185,9 +215,10 @@ fn perform<F: Files, O: Sink, E: Sink>(
 ///
 /// Where no count of faults rose, the answer is the one that is due, or `Memory`. With `Done` psql's folder stands for
 /// the catalogue after the script's statements, and standard error has grown by a line for each that was refused;
-/// pg_dump's script of the folder was written to standard output. After a refusal, and after `ReadFault`, files and
-/// standard output are as they were, and standard error has grown by the answer's line. After `WriteFault` and `Memory` a
-/// first part of the folder, or of the script, may be written. Standard input isn't used.
+/// pg_dump's script of the folder was written to standard output; pg_catcmp's folders stand for the same by names. Where
+/// they don't, `Differs` tells the least key. After a refusal, `Differs` and `ReadFault`, files and standard output are as
+/// they were, and standard error has grown by the answer's line. After `WriteFault` and `Memory` a first part of the
+/// folder, or of the script, may be written. Standard input isn't used.
 pub fn run_tools<F: Files, I: Source, O: Sink, E: Sink, G: Gate>(
     alloc: Global,
     words: &[Text],
@@ -200,7 +231,7 @@ pub fn run_tools<F: Files, I: Source, O: Sink, E: Sink, G: Gate>(
 ) -> Outcome
     ensures complete { (tree : Tree) → F.tree files.old ≡ Some tree
         → NoneRose (counts (F.read_faults files.old) (F.write_faults files.old) (O.faults out.old) (E.faults err.old)) (counts (F.read_faults files.new) (F.write_faults files.new) (O.faults out.new) (E.faults err.new))
-        → (result ≡ expected (due words.now moment tree)) ⊎ (result ≡ Outcome.Memory) }
+        → IsExpected result (due words.now moment tree) ⊎ (result ≡ Outcome.Memory) }
     ensures answer { (tree : Tree) → F.tree files.old ≡ Some tree → Answers result (due words.now moment tree) (F.tree files.old) (F.tree files.new) (O.written out.old) (O.written out.new) (E.written err.old) (E.written err.new) }
     ensures counted { Counted result (counts (F.read_faults files.old) (F.write_faults files.old) (O.faults out.old) (E.faults err.old)) (counts (F.read_faults files.new) (F.write_faults files.new) (O.faults out.new) (E.faults err.new)) }
     ensures kept { IsRefusal result → F.tree files.new ≡ F.tree files.old }

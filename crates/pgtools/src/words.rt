@@ -21,6 +21,13 @@ pub enum Command<'a> {
         /// The folder.
         folder: &'a Text,
     },
+    /// pg_catcmp compares two folders.
+    Compare {
+        /// The first folder.
+        first: &'a Text,
+        /// The second folder.
+        second: &'a Text,
+    },
 }
 
 /// Who tells a refusal.
@@ -32,6 +39,8 @@ pub enum Tool {
     Psql,
     /// pg_dump.
     PgDump,
+    /// pg_catcmp.
+    PgCatcmp,
 }
 
 impl Tool {
@@ -43,6 +52,7 @@ impl Tool {
             Tool::Program => "pgtools",
             Tool::Psql => "psql",
             Tool::PgDump => "pg_dump",
+            Tool::PgCatcmp => "pg_catcmp",
         }
     }
 }
@@ -54,11 +64,12 @@ pub fn tool_of(words: &[Text]) -> Tool
     match read_words(words) {
         Ok(Command::Psql { .. }) => Tool::Psql,
         Ok(Command::Dump { .. }) => Tool::PgDump,
+        Ok(Command::Compare { .. }) => Tool::PgCatcmp,
         Err(_) => Tool::Program,
     }
 }
 
-/// Reads the words `psql -d FOLDER -f SCRIPT` or `pg_dump FOLDER`.
+/// Reads the words `psql -d FOLDER -f SCRIPT`, `pg_dump FOLDER` or `pg_catcmp FOLDER FOLDER`.
 ///
 /// `NoCommand` comes where there are no words, `UnknownCommand` for any other list. Both name the first word.
 pub fn read_words(words: &[Text]) -> Result<Command<'_>, UsageKind>
@@ -71,6 +82,9 @@ pub fn read_words(words: &[Text]) -> Result<Command<'_>, UsageKind>
             Ok(Command::Psql { folder, script })
         }
         [tool, folder] if tool.as_str() == "pg_dump" => Ok(Command::Dump { folder }),
+        [tool, first, second] if tool.as_str() == "pg_catcmp" => {
+            Ok(Command::Compare { first, second })
+        }
         _ => Err(UsageKind::UnknownCommand),
     }
 }

@@ -1,4 +1,4 @@
-use Rattle.std.proofs.Common.{◌≡◌, ◌≤◌, ◌⊎◌, inl, inr, List, [], ℕ, length, take, Option, Some, None, option_map, refl, ap, ◌∙◌, arith}
+use Rattle.std.proofs.Common.{◌≡◌, inl, inr, List, ℕ, take, Option, Some, None, option_map, refl, ap, ◌∙◌, arith}
 use Rattle.std.specs.FinMap.{insert}
 use Rattle.dump_ports.specs.Tree.{Tree, made, appended, TakesPrefix}
 use Rattle.pgtools.proofs.folder.write_file.Goals as goal

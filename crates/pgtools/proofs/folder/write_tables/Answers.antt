@@ -1,4 +1,4 @@
-use Rattle.std.proofs.Common.{rules, ◌∙◌, get_or}
+use Rattle.std.proofs.Common.{rules, get_or}
 use Rattle.std.proofs.lemmas.List.{get_or_default}
 use Rattle.cat_rows.specs.declared.table.SysTable.TheVariants.{PgAuthid}
 use Rattle.pgtools.specs.Folder.{all_tables}

@@ -7,5 +7,5 @@ use Rattle.pgtools.proofs.laws.the_dumped_script_makes_the_schemas.Goals as goal
 
 pub returns : goal.returns
 returns c = λ database moment rows can.
-    remakes c.names_are_read_back.ensures (dumped_script database boot moment (map dump_row rows)) rows can
-    (c.the_script_holds_the_statements.ensures database boot moment (map dump_row rows) (boot_is_name (λ name is. (c.tests_are_exact.ensures.name name).0 is)) (dump_names rows can.names))
+    remakes (dumped_script database boot moment (map dump_row rows)) rows can
+    (c.the_script_reads_as_its_statements.ensures database boot moment (map dump_row rows) (boot_is_name (λ name is. (c.tests_are_exact.ensures.name name).0 is)) (dump_names rows can.names))

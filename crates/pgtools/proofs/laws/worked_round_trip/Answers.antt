@@ -1,4 +1,4 @@
-use Rattle.std.proofs.Common.{◌≡◌, ℕ, List, [], ◌∷◌, IsTrue, map, refl, subst, codes, pos, arith}
+use Rattle.std.proofs.Common.{◌≡◌, ℕ, List, IsTrue, map, refl, subst, codes, pos, arith}
 use Rattle.std.specs.Fmt.{digits}
 use Rattle.std.specs.List.{IsDistinct}
 use Rattle.std.specs.Str.{is_utf8, chars}

@@ -16,7 +16,7 @@ returns-in_err-write_folder-clause-told_part g c = always_err c.from_residual-in
 pub returns-clause-ok : goal.returns-clause-ok
 returns-clause-ok g c =
     IfOk-weaker c.write_report.result _ _ (λ _ r printed. (
-      applied (application_of c.args.folder.now c.args.work) _ _ _ _ c.in_ok-report.ensures.stays (rw c.deref.ensures.value at c.in_ok-report.ensures.applied) c.in_ok-namespaces.ensures c.requires (rw c.deref-2.ensures.value at c.in_ok-write_folder.ensures.ok),
+      applied (application_of c.args.folder.now c.args.work) _ _ _ _ c.in_ok-report.ensures.stays (rw c.deref.ensures.value at c.in_ok-report.ensures.applied) c.in_ok-namespaces.ensures c.requires.public (rw c.deref-2.ensures.value at c.in_ok-write_folder.ensures.ok),
       refl,
       rw (rw c.deref.ensures.value at c.in_ok-report.ensures.reported) at (rw c.deref-3.ensures.value at r),
     )) c.write_report.ensures.ok

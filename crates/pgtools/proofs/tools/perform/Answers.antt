@@ -9,3 +9,10 @@ returns-in-Ok-Psql-clause-out_part g c = always_err c.psql.result (λ tree told.
 -- pg_dump reports nothing
 pub returns-in-Ok-Dump-clause-told_part : goal.returns-in-Ok-Dump-clause-told_part
 returns-in-Ok-Dump-clause-told_part g c = always_err c.pg_dump.result (λ tree told. part_none _ _ _ refl)
+
+-- pg_catcmp prints and reports nothing
+pub returns-in-Ok-Compare-clause-out_part : goal.returns-in-Ok-Compare-clause-out_part
+returns-in-Ok-Compare-clause-out_part g c = always_err c.pg_catcmp.result (λ tree told. part_none _ _ _ refl)
+
+pub returns-in-Ok-Compare-clause-told_part : goal.returns-in-Ok-Compare-clause-told_part
+returns-in-Ok-Compare-clause-told_part g c = always_err c.pg_catcmp.result (λ tree told. part_none _ _ _ refl)
