@@ -40,9 +40,13 @@ abbrev pub agrees_if_named : Catalogue → ℕ → Option TypeName → Bool
 agrees_if_named cat oid None = false
 agrees_if_named cat oid (Some name) = agrees cat oid name
 
--- whether the text of a domain's base names the type that its oid leads to
+-- whether a text names the type that an oid leads to
+abbrev pub is_type_named : Catalogue → ℕ → Bytes → Bool
+is_type_named cat oid text = agrees_if_named cat oid (type_named text)
+
+-- whether the text of a domain's base does
 abbrev pub is_base_named : Catalogue → TypeRow → Bool
-is_base_named cat row = agrees_if_named cat row.typbasetype (type_named row.basetext)
+is_base_named cat row = is_type_named cat row.typbasetype row.basetext
 
 -- ---- the default
 
@@ -51,21 +55,25 @@ abbrev pub is_own : Option QName → QName → Bool
 is_own None q = false
 is_own (Some own) q = same_path own q
 
--- Whether a reference names what is there: a relation of any kind, or a type other than the domain itself.
--- An expression refers to nothing else.
+-- Whether a reference names what is there: a relation of any kind, or a type other than the one of a path, which is the
+-- domain that has the expression. An expression refers to nothing else.
 abbrev pub is_met : Catalogue → Option QName → Key → Bool
 is_met cat own (key.Rel q) = has_path (class_paths cat) q
 is_met cat own (key.UserType q) = has_path (type_paths cat) q && not (is_own own q)
 is_met cat own _ = true
 
--- whether all references of an expression in a domain are met
+-- whether all references of an expression are met
 abbrev pub are_met : Catalogue → Option QName → Bytes → Bool
 are_met cat own text = list_all (is_met cat own) (expression_references text)
 
--- whether a default, if there is one, is an expression whose references are met
+-- whether a text is the expression of a default whose references are met
+abbrev pub is_met_default : Catalogue → Option QName → Bytes → Bool
+is_met_default cat own text = is_default text && are_met cat own text
+
+-- the same of a default, if there is one
 abbrev pub is_good_default : Catalogue → Option QName → Option Bytes → Bool
 is_good_default cat own None = true
-is_good_default cat own (Some text) = is_default text && are_met cat own text
+is_good_default cat own (Some text) = is_met_default cat own text
 
 -- ---- both
 

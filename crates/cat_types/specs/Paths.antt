@@ -1,15 +1,18 @@
--- Paths of types and relations: an object's name, and the name of its schema.
+-- Paths of types and relations: an object's name, and the name of its schema. Names of columns.
 use Rattle.std.specs.Prelude.{ℕ, Bool, ◌&&◌, List, Option, option_map, filter_map}
 use Rattle.std.specs.List.{find}
+use Rattle.std.specs.Option.{option_and_then}
 use Rattle.std.specs.declared.cmp.Ordering.{Ordering}
 use Rattle.std.specs.Ordering.{ordering_then}
 use Rattle.cat_rows.specs.declared.catalogue.Catalogue.{Catalogue}
 use Rattle.cat_rows.specs.declared.schemas.NamespaceRow.{NamespaceRow}
 use Rattle.cat_rows.specs.declared.types.TypeRow.{TypeRow}
 use Rattle.cat_rows.specs.declared.relations.ClassRow.{ClassRow}
+use Rattle.cat_rows.specs.declared.relations.AttributeRow.{AttributeRow}
 use Rattle.cat_model.specs.declared.object.QName.{QName}
 use Rattle.cat_model.specs.Lexemes.{same_text}
 use Rattle.cat_model.specs.Values.{Bytes, bytes_cmp}
+use Rattle.cat_names.specs.Kinds.{class_of}
 use Rattle.cat_names.specs.Lookups.{same_oid, has_key}
 
 -- the first schema of an oid
@@ -25,6 +28,10 @@ type_path schemas row = path_in schemas row.typnamespace row.typname
 
 abbrev pub class_path : List NamespaceRow → ClassRow → Option QName
 class_path schemas row = path_in schemas row.relnamespace row.relname
+
+-- the path of the first relation of an oid
+abbrev pub class_path_of : Catalogue → ℕ → Option QName
+class_path_of cat oid = option_and_then (class_path cat.pg_namespace) (class_of cat.pg_class oid)
 
 abbrev pub path_cmp : QName → QName → Ordering
 path_cmp a b = ordering_then (bytes_cmp a.schema b.schema) (bytes_cmp a.name b.name)
@@ -42,3 +49,7 @@ class_paths cat = filter_map (class_path cat.pg_namespace) cat.pg_class
 -- whether one of these paths is the given one
 abbrev pub has_path : List QName → QName → Bool
 has_path = has_key path_cmp
+
+-- a column by its relation and name
+abbrev pub named_column : AttributeRow → ℕ × Bytes
+named_column row = (row.attrelid, row.attname)

@@ -1,6 +1,6 @@
 //! The bases and defaults of domains.
 ghost use Rattle.std.specs.Prelude.{◌≡◌, IfOk};
-ghost use Rattle.cat_types.specs.Domains.{is_without_row, is_at, agrees, is_base_named, is_own, is_met, are_met, is_good_default, is_bad_domain};
+ghost use Rattle.cat_types.specs.Domains.{is_without_row, is_at, agrees, is_type_named, is_own, is_met, are_met, is_met_default, is_good_default, is_bad_domain};
 ghost use Rattle.cat_types.specs.Paths.{same_path};
 
 use crate::lookup::Lookup;
@@ -49,12 +49,18 @@ fn agrees(lookup: &Lookup<'_>, oid: u32, name: &TypeName) -> Result<bool, AllocE
     Ok(is_at(&path, name))
 }
 
-// Whether the text of a domain's base names the type that its oid leads to.
-fn is_base_named(alloc: Global, lookup: &Lookup<'_>, row: &TypeRow) -> Result<bool, AllocError>
-    ensures { IfOk result (λ is. is ≡ is_base_named lookup.now row.now) }
+/// Whether a text names the type that an oid leads to. An oid of 0 goes with a type that has no row in pg_type: words, as
+/// `character varying(20)`, or a name in a schema of the system. Blanks and comments around are free.
+pub fn is_type_named(
+    alloc: Global,
+    lookup: &Lookup<'_>,
+    oid: u32,
+    text: &Text,
+) -> Result<bool, AllocError>
+    ensures { IfOk result (λ is. is ≡ is_type_named lookup.now oid text.now) }
 {
-    match type_named(alloc, row.basetext.as_bytes())? {
-        Some(name) => agrees(lookup, row.typbasetype, &name),
+    match type_named(alloc, text.as_bytes())? {
+        Some(name) => agrees(lookup, oid, &name),
         None => Ok(false),
     }
 }
@@ -69,8 +75,9 @@ fn is_own(own: &Option<QName>, q: &QName) -> bool
     }
 }
 
-// Whether a reference of a domain's default is met. An expression refers to relations and types alone.
-fn is_met(lookup: &Lookup<'_>, own: &Option<QName>, key: &Key) -> bool
+/// Whether a reference is met: a relation of any kind is there, or a type, which isn't the one of the path `own`. Expressions
+/// and views refer to nothing else.
+pub fn is_met(lookup: &Lookup<'_>, own: &Option<QName>, key: &Key) -> bool
     ensures { result ≡ is_met lookup.now own.now key.now }
 {
     match key {
@@ -80,8 +87,9 @@ fn is_met(lookup: &Lookup<'_>, own: &Option<QName>, key: &Key) -> bool
     }
 }
 
-// Whether all references of an expression are met.
-fn are_met(
+/// Whether all references of an expression are met: each relation is there, and each type, which isn't the one of the path
+/// `own`, that of a domain which has the expression.
+pub fn are_met(
     alloc: Global,
     lookup: &Lookup<'_>,
     own: &Option<QName>,
@@ -93,7 +101,21 @@ fn are_met(
     Ok(keys.iter().all(|key| is_met(lookup, own, key)))
 }
 
-// Whether a default, if there is one, is an expression whose references are met.
+/// Whether a text is the expression of a default whose references are met, as of `are_met`.
+pub fn is_met_default(
+    alloc: Global,
+    lookup: &Lookup<'_>,
+    own: &Option<QName>,
+    text: &Text,
+) -> Result<bool, AllocError>
+    ensures { IfOk result (λ is. is ≡ is_met_default lookup.now own.now text.now) }
+{
+    let reads = is_default(alloc, text.as_bytes())?;
+    let met = are_met(alloc, lookup, own, text.as_bytes())?;
+    Ok(reads && met)
+}
+
+// Whether a default, if there is one, is such an expression.
 fn is_good_default(
     alloc: Global,
     lookup: &Lookup<'_>,
@@ -102,12 +124,10 @@ fn is_good_default(
 ) -> Result<bool, AllocError>
     ensures { IfOk result (λ is. is ≡ is_good_default lookup.now own.now default.now) }
 {
-    let Some(text) = default else {
-        return Ok(true);
-    };
-    let reads = is_default(alloc, text.as_bytes())?;
-    let met = are_met(alloc, lookup, own, text.as_bytes())?;
-    Ok(reads && met)
+    match default {
+        Some(text) => is_met_default(alloc, lookup, own, text),
+        None => Ok(true),
+    }
 }
 
 /// Whether a domain's base isn't named, the chain of its bases doesn't end, or its default is bad.
@@ -119,7 +139,7 @@ pub(crate) fn is_bad_domain(
     ensures { IfOk result (λ bad. bad ≡ is_bad_domain lookup.now row.now) }
 {
     let own = lookup.path(row)?;
-    let named = is_base_named(alloc, lookup, row)?;
+    let named = is_type_named(alloc, lookup, row.typbasetype, &row.basetext)?;
     let good = is_good_default(alloc, lookup, &own, &row.typdefault)?;
     Ok(!named || !lookup.chain_ends(row) || !good)
 }

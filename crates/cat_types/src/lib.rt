@@ -1,8 +1,10 @@
-//! Well-formed types: whether the rows of pg_type have a fault.
+//! Well-formed types: whether the rows of pg_type have a fault, and what other rows are tried against.
 #![tactic(auto)]
 
 mod chains;
+mod class_index;
 mod domains;
+mod kinds;
 pub mod laws;
 mod lookup;
 mod schema_index;
@@ -10,6 +12,8 @@ mod texts;
 mod type_index;
 mod types;
 
+pub use domains::{are_met, is_met, is_met_default, is_type_named};
+pub use lookup::Lookup;
 pub use types::check_types;
 
 #[cfg(test)]

@@ -1,19 +1,20 @@
-//! What types are tried against.
-ghost use Rattle.std.specs.Prelude.{◌≡◌, [], ◌∷◌, ◌++◌, not, filter_map, List, IfOk, OnOk};
+//! What rows are tried against: a catalogue whose rows are found by oids and paths.
+ghost use Rattle.std.specs.Prelude.{◌≡◌, [], ◌∷◌, ◌++◌, not, filter_map, option_map, List, IfOk, OnOk};
 ghost use Rattle.cat_rows.specs.declared.catalogue.Catalogue.{Catalogue as Tables};
-ghost use Rattle.cat_rows.specs.declared.types.TypeRow.{TypeRow as TypeLine};
 ghost use Rattle.cat_rows.specs.declared.relations.ClassRow.{ClassRow as Class};
 ghost use Rattle.cat_model.specs.Values.{bytes_cmp};
 ghost use Rattle.cat_names.specs.Indexed.{AreKeys};
+ghost use Rattle.cat_names.specs.Kinds.{class_of};
 ghost use Rattle.cat_names.specs.Lookups.{role_oids, role_names, role_name};
 ghost use Rattle.cat_names.specs.Rights.{is_bad_acl, is_by_other};
 ghost use Rattle.cat_names.specs.declared.rights.GrantKind.TheVariants as on;
-ghost use Rattle.cat_types.specs.Chains.{chain_ends};
+ghost use Rattle.cat_types.specs.Chains.{chain_ends, type_of};
 ghost use Rattle.cat_types.specs.Domains.{path_of};
-ghost use Rattle.cat_types.specs.Paths.{path_cmp, type_path, class_path, type_paths, class_paths, has_path};
+ghost use Rattle.cat_types.specs.Paths.{path_cmp, type_path, class_path, class_path_of, type_paths, class_paths, has_path};
 ghost use Rattle.cat_types.specs.Types.{is_there, is_base_there};
 
 use crate::chains::{chain_ends, ends_at};
+use crate::class_index::ClassIndex;
 use crate::schema_index::SchemaIndex;
 use crate::type_index::TypeIndex;
 use cat_model::QName;
@@ -24,14 +25,15 @@ use std::alloc::{AllocError, Global};
 use std::collections::BTreeSet;
 use std::marker::Model;
 
-/// A catalogue whose roles, schemas, types and paths are found without going through its tables, and the chains of its
-/// types. A contract sees the catalogue.
+/// A catalogue whose roles, schemas, types, relations and paths are found without going through its tables. A contract
+/// sees the catalogue.
 #[derive(Drop)]
-pub(crate) struct Lookup<'a> {
+pub struct Lookup<'a> {
     cat: &'a Catalogue,
     roles: RoleIndex<'a>,
     schemas: SchemaIndex<'a>,
     types: TypeIndex<'a>,
+    classes: ClassIndex<'a>,
     type_paths: BTreeSet<QName>,
     class_paths: BTreeSet<QName>,
     ends: Vec<bool>,
@@ -45,7 +47,7 @@ impl<'a> Model for Lookup<'a> {
 
     ghost view = { λ l. l.cat.now };
 
-    ghost invariant = { λ l. IsBeside l.cat.now l.roles l.schemas l.types l.type_paths l.class_paths l.ends.items };
+    ghost invariant = { λ l. IsBeside l.cat.now l.roles l.schemas l.types l.classes l.type_paths l.class_paths l.ends.items };
 }
 
 fn role_oids(alloc: Global, rows: &[AuthidRow]) -> Result<OidIndex, AllocError>
@@ -133,13 +135,14 @@ fn is_there(
 }
 
 impl<'a> Lookup<'a> {
-    /// This catalogue.
-    pub(crate) fn of(alloc: Global, cat: &'a Catalogue) -> Result<Lookup<'a>, AllocError>
+    /// This catalogue, with what its rows are found by.
+    pub fn of(alloc: Global, cat: &'a Catalogue) -> Result<Lookup<'a>, AllocError>
         ensures { IfOk result (λ lookup. lookup ≡ cat.now) }
     {
         let roles = roles(alloc, cat.pg_authid.as_slice())?;
         let schemas = SchemaIndex::of(alloc, cat.pg_namespace.as_slice())?;
         let types = TypeIndex::of(alloc, cat.pg_type.as_slice())?;
+        let classes = ClassIndex::of(alloc, cat.pg_class.as_slice())?;
         let type_paths = type_paths(alloc, &schemas, cat.pg_type.as_slice())?;
         let class_paths = class_paths(alloc, &schemas, cat.pg_class.as_slice())?;
         let ends = chain_ends(alloc, &types, cat.pg_type.as_slice())?;
@@ -148,6 +151,7 @@ impl<'a> Lookup<'a> {
             roles,
             schemas,
             types,
+            classes,
             type_paths,
             class_paths,
             ends,
@@ -182,8 +186,39 @@ impl<'a> Lookup<'a> {
         self.schemas.path_in(row.typnamespace, &row.typname)
     }
 
-    /// The path of the type of an oid.
-    pub(crate) fn path_of(&self, oid: u32) -> Result<Option<QName>, AllocError>
+    /// Whether an oid is that of a type, or 0, which stands for none.
+    pub fn is_base_there(&self, oid: u32) -> bool
+        ensures { result ≡ is_base_there self.now.pg_type oid }
+    {
+        is_base_there(&self.types, oid)
+    }
+
+    /// The first type of this oid; `None` where there is none.
+    pub fn type_of(&self, oid: u32) -> Option<&TypeRow>
+        ensures { option_map (λ t. t.now) result ≡ type_of self.now.pg_type oid }
+    {
+        self.types.find(oid)
+    }
+
+    /// The first relation of this oid; `None` where there is none.
+    pub fn class_of(&self, oid: u32) -> Option<&ClassRow>
+        ensures { option_map (λ c. c.now) result ≡ class_of self.now.pg_class oid }
+    {
+        self.classes.find(oid)
+    }
+
+    /// The path of the first relation of this oid; `None` where there is none, or no schema of its own.
+    pub fn class_path_of(&self, oid: u32) -> Result<Option<QName>, AllocError>
+        ensures { IfOk result (λ path. path ≡ class_path_of self.now oid) }
+    {
+        match self.classes.find(oid) {
+            Some(row) => self.schemas.path_in(row.relnamespace, &row.relname),
+            None => Ok(None),
+        }
+    }
+
+    /// The path of the first type of this oid; `None` where there is none, or no schema of its own.
+    pub fn path_of(&self, oid: u32) -> Result<Option<QName>, AllocError>
         ensures { IfOk result (λ path. path ≡ path_of self.now oid) }
     {
         match self.types.find(oid) {
@@ -200,14 +235,14 @@ impl<'a> Lookup<'a> {
     }
 
     /// Whether there is a type of this path.
-    pub(crate) fn has_type(&self, path: &QName) -> bool
+    pub fn has_type(&self, path: &QName) -> bool
         ensures { result ≡ has_path (type_paths self.now) path.now }
     {
         self.type_paths.contains(path)
     }
 
     /// Whether there is a relation of this path.
-    pub(crate) fn has_class(&self, path: &QName) -> bool
+    pub fn has_class(&self, path: &QName) -> bool
         ensures { result ≡ has_path (class_paths self.now) path.now }
     {
         self.class_paths.contains(path)
