@@ -1,0 +1,16 @@
+pub mod Options
+pub mod Spellings
+pub mod Values
+pub mod Reading
+pub mod Steps
+pub mod Words
+pub mod Mentions
+pub mod Seen
+pub mod Checks
+pub mod Sections
+pub mod Commands
+pub mod Usage
+pub mod Sayings
+pub mod FirstFault
+pub mod Examples
+pub mod Complete
