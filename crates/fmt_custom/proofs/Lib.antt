@@ -1,0 +1,4 @@
+pub mod BlockLaws
+pub mod Found
+pub mod Firsts
+pub mod Customs

@@ -1,0 +1,5 @@
+pub mod Blocks
+pub mod Customs
+pub mod Indexes
+pub mod Readers
+pub mod Writing

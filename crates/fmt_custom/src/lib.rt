@@ -1,0 +1,12 @@
+//! Archives in the custom format.
+#![tactic(auto)]
+
+mod blocks;
+mod fault;
+mod pieces;
+mod reader;
+mod writer;
+
+pub use pieces::Pieces;
+pub use reader::CustomReader;
+pub use writer::CustomWriter;

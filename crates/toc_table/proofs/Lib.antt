@@ -1,0 +1,2 @@
+pub mod TocLaws
+pub mod Written
