@@ -8,6 +8,3 @@ pub mod laws;
 
 pub use check::check_columns;
 pub use defaults::column_set;
-
-#[cfg(test)]
-mod tests;

@@ -1,12 +1,4 @@
-pub mod Changes
-pub mod CopyStays
-pub mod Entries
-pub mod Exchange
 pub mod Holders
 pub mod KeyOrder
-pub mod Listed
 pub mod MarkLaws
 pub mod Parts
-pub mod Stays
-pub mod Steps
-pub mod Within

@@ -2,7 +2,6 @@ pub mod Conditions
 pub mod CopiedRows
 pub mod CopyEffect
 pub mod Effects
-pub mod Examples
 pub mod FieldTypes
 pub mod Footprints
 pub mod Grants
@@ -16,7 +15,6 @@ pub mod ObjectEffects
 pub mod References
 pub mod RelationEffects
 pub mod RoleEffects
-pub mod Runs
 pub mod Tables
 pub mod Trees
 pub mod TypeEffects

@@ -1,16 +1,14 @@
--- The first fault of several tables, in their order: of roles, memberships, databases and schemas, and of these with
--- the labels of enums, the relations, the comments and the dependencies. The other tables aren't tried.
+-- The first fault of several tables, in their order: of roles, memberships, databases and schemas; of the labels of enums
+-- and the relations; of the comments and the dependencies.
 use Rattle.std.specs.Prelude.{Option}
 use Rattle.cat_rows.specs.declared.catalogue.Catalogue.{Catalogue}
-use Rattle.cat_rows.specs.declared.table.SysTable.TheVariants.{PgAuthid, PgAuthMembers, PgDatabase, PgNamespace, PgEnum, PgClass, PgIndex, PgSequence, PgRewrite, PgDescription, PgDepend}
+use Rattle.cat_rows.specs.declared.table.SysTable.TheVariants.{PgAuthid, PgAuthMembers, PgDatabase, PgNamespace, PgEnum, PgClass, PgDescription, PgDepend}
 use Rattle.cat_names.specs.declared.fault.CatFault.{CatFault}
 use Rattle.cat_names.specs.Findings.{in_table, fault_before}
 use Rattle.cat_names.specs.Roles.{roles_fault, members_fault, databases_fault}
 use Rattle.cat_names.specs.Schemas.{schemas_fault}
 use Rattle.cat_names.specs.Enums.{labels_fault}
 use Rattle.cat_names.specs.Comments.{comments_fault}
-use Rattle.cat_names.specs.Sequences.{sequence_numbers_fault}
-use Rattle.cat_names.specs.Rewrites.{rewrite_oids_fault, index_oids_fault}
 use Rattle.cat_names.specs.Relations.{relations_fault, depends_fault}
 
 abbrev pub cluster_fault : Catalogue → Option CatFault
@@ -20,22 +18,12 @@ cluster_fault cat =
     (fault_before (in_table PgDatabase (databases_fault cat.pg_authid cat.pg_database))
     (in_table PgNamespace (schemas_fault cat.pg_authid cat.pg_namespace))))
 
-abbrev pub cluster_and_relations_fault : Catalogue → Option CatFault
-cluster_and_relations_fault cat =
-    fault_before (cluster_fault cat)
-    (fault_before (in_table PgEnum (labels_fault cat.pg_type cat.pg_enum))
-    (fault_before (in_table PgClass (relations_fault cat))
-    (fault_before (in_table PgDescription (comments_fault cat))
-    (in_table PgDepend (depends_fault cat.pg_class cat.pg_depend)))))
+-- the labels of enums and the relations
+abbrev pub labels_and_relations_fault : Catalogue → Option CatFault
+labels_and_relations_fault cat =
+    fault_before (in_table PgEnum (labels_fault cat.pg_type cat.pg_enum)) (in_table PgClass (relations_fault cat))
 
--- the same with pg_index, pg_sequence and pg_rewrite, of which the oids and numbers alone are tried
-abbrev pub names_and_oids_fault : Catalogue → Option CatFault
-names_and_oids_fault cat =
-    fault_before (cluster_fault cat)
-    (fault_before (in_table PgEnum (labels_fault cat.pg_type cat.pg_enum))
-    (fault_before (in_table PgClass (relations_fault cat))
-    (fault_before (in_table PgIndex (index_oids_fault cat))
-    (fault_before (in_table PgSequence (sequence_numbers_fault cat))
-    (fault_before (in_table PgRewrite (rewrite_oids_fault cat.pg_class cat.pg_rewrite))
-    (fault_before (in_table PgDescription (comments_fault cat))
-    (in_table PgDepend (depends_fault cat.pg_class cat.pg_depend))))))))
+-- the comments and the dependencies
+abbrev pub comments_and_depends_fault : Catalogue → Option CatFault
+comments_and_depends_fault cat =
+    fault_before (in_table PgDescription (comments_fault cat)) (in_table PgDepend (depends_fault cat.pg_class cat.pg_depend))

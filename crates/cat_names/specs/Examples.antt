@@ -29,8 +29,6 @@ use Rattle.cat_names.specs.Cluster.{cluster_fault}
 use Rattle.cat_names.specs.Enums.{labels_fault}
 use Rattle.cat_names.specs.Relations.{relations_fault, depends_fault}
 use Rattle.cat_names.specs.Comments.{comments_fault}
-use Rattle.cat_names.specs.Rewrites.{rewrite_oids_fault, index_oids_fault}
-use Rattle.cat_names.specs.Sequences.{sequence_numbers_fault}
 use Rattle.cat_rows.specs.declared.relations.RewriteRow.{RewriteRow}
 use Rattle.cat_rows.specs.declared.relations.IndexRow.{IndexRow}
 use Rattle.std.specs.FinMap.{from_entries}
@@ -234,39 +232,3 @@ pub record Comments : Type 0 where
   pub column_of_schema : comments_found (comment 2615 2200 1 ∷ []) ≡ at_line 1 kind.Dangling
   pub of_domain : comments_found (comment 2606 8 0 ∷ []) ≡ at_line 1 (kind.OutOfProfile what.CommentKind)
   pub other_class : comments_found (comment 1260 10 0 ∷ []) ≡ at_line 1 (kind.OutOfProfile what.CommentKind)
-
--- ---- oids and numbers of views, indexes and sequences
-
-abbrev pub rewrite : ℕ → ℕ → RewriteRow
-rewrite oid view = record { oid = oid; ev_class = view; viewdef = codes "SELECT 1;" }
-
-abbrev pub rewrites_found : List RewriteRow → Option LineFault
-rewrites_found rows = rewrite_oids_fault (relation 1 (codes "t") 114 ∷ relation 4 (codes "v") 118 ∷ []) rows
-
-abbrev pub index_row : ℕ → ℕ → IndexRow
-index_row oid table = record { indexrelid = oid; indrelid = table; indisunique = false; indexdef = codes "" }
-
--- a table 1, its index 5, and its primary key 7 with the index 6
-abbrev pub indexes_found : List IndexRow → Option LineFault
-indexes_found rows = index_oids_fault (record (with_relations (relation 1 (codes "t") 114 ∷ relation 5 (codes "i") 105 ∷ relation 6 (codes "k") 105 ∷ []) []) {
-  pg_constraint = record (check_of 7 1 0) { contype = 112; conindid = 6 } ∷ [];
-  pg_index = rows;
-})
-
--- a table 1 with the column 1, and sequences 3 and 8
-abbrev pub sequences_found : List SequenceRow → Option LineFault
-sequences_found rows = sequence_numbers_fault (record (with_relations (relation 1 (codes "t") 114 ∷ relation 3 (codes "s") 83 ∷ relation 8 (codes "u") 83 ∷ []) rows) { pg_attribute = column 1 1 (codes "a") ∷ [] })
-
-pub record Oids : Type 0 where
-  pub view : rewrites_found (rewrite 9 4 ∷ []) ≡ None
-  pub view_twice : rewrites_found (rewrite 9 4 ∷ rewrite 10 4 ∷ []) ≡ at_line 2 kind.RepeatedName
-  pub rewrite_of_table : rewrites_found (rewrite 9 1 ∷ []) ≡ at_line 1 kind.Dangling
-  pub own_index : indexes_found (index_row 5 1 ∷ []) ≡ None
-  pub key_index : indexes_found (index_row 6 1 ∷ []) ≡ at_line 1 kind.BadText
-  pub index_on_index : indexes_found (index_row 5 6 ∷ []) ≡ at_line 1 kind.Dangling
-  pub two_sequences : sequences_found (sequence_row 3 ∷ record (sequence_row 8) { ownrel = 1; owncol = pos 1 } ∷ []) ≡ None
-  pub sequence_twice : sequences_found (sequence_row 3 ∷ sequence_row 3 ∷ []) ≡ at_line 2 kind.RepeatedOid
-  pub no_owner : sequences_found (record (sequence_row 3) { ownrel = 1; owncol = pos 2 } ∷ []) ≡ at_line 1 kind.Dangling
-  pub no_step : sequences_found (record (sequence_row 3) { seqincrement = pos 0 } ∷ []) ≡ at_line 1 kind.BadText
-  pub start_too_low : sequences_found (record (sequence_row 3) { seqmin = pos 2 } ∷ []) ≡ at_line 1 kind.BadText
-  pub value_too_high : sequences_found (record (sequence_row 3) { last_value = pos 10 } ∷ []) ≡ at_line 1 kind.BadText

@@ -8,8 +8,6 @@ pub mod Kinds
 pub mod Enums
 pub mod Relations
 pub mod Comments
-pub mod Rewrites
-pub mod Sequences
 pub mod Cluster
 pub mod Gives
 pub mod Indexed

@@ -1,26 +1,31 @@
 //! Relations, found by oid, and what they are.
-ghost use Rattle.std.specs.Prelude.{◌≡◌, option_map};
+ghost use Rattle.std.specs.Prelude.{◌≡◌, option_map, IfOk};
 ghost use Rattle.std.specs.List.{slice_get};
 ghost use Rattle.cat_names.specs.Kinds.{class_oids, class_of, kind_of, relation_kind, is_table, is_view, is_sequence, is_index};
 ghost use Rattle.cat_names.specs.Lookups.{has_oid};
 
 use crate::oid_index::OidIndex;
 use cat_rows::{ClassRow, Letter};
+use std::alloc::{AllocError, Global};
 use std::marker::Model;
 
-/// What a relation is.
+/// What a relation is. <https://www.postgresql.org/docs/16/catalog-pg-class.html>
 #[derive(Debug, Clone, Copy, PartialEq, Eq)]
-pub(crate) enum RelationKind {
+pub enum RelationKind {
+    /// A table, `r`.
     Table,
+    /// A view, `v`.
     View,
+    /// A sequence, `S`.
     Sequence,
+    /// An index, `i`.
     Index,
     /// Another kind, by its letter.
     Other(u8),
 }
 
 /// What a relation of this letter is.
-pub(crate) fn relation_kind(letter: Letter) -> RelationKind
+pub fn relation_kind(letter: Letter) -> RelationKind
     ensures { result ≡ relation_kind letter }
 {
     match letter.byte() {
@@ -58,7 +63,7 @@ pub(crate) fn is_index(kind: Option<RelationKind>) -> bool
 
 /// The relations of a catalogue, found without going through them. A contract sees the list of their rows.
 #[derive(Drop)]
-pub(crate) struct ClassIndex<'a> {
+pub struct ClassIndex<'a> {
     rows: &'a [ClassRow],
     oids: OidIndex,
 }
@@ -76,12 +81,12 @@ impl<'a> Model for ClassIndex<'a> {
 }
 
 impl<'a> ClassIndex<'a> {
-    /// These relations, with their oids.
-    pub(crate) fn new(rows: &'a [ClassRow], oids: OidIndex) -> ClassIndex<'a>
-        requires oids { oids ≡ class_oids rows.now }
-        ensures { result ≡ rows.now }
+    /// These relations, with what they are found by.
+    pub fn of(alloc: Global, rows: &'a [ClassRow]) -> Result<ClassIndex<'a>, AllocError>
+        ensures { IfOk result (λ classes. classes ≡ rows.now) }
     {
-        ClassIndex { rows, oids }
+        let oids = class_oids(alloc, rows)?;
+        Ok(ClassIndex { rows, oids })
     }
 
     /// Whether there is a relation of this oid.
@@ -91,8 +96,8 @@ impl<'a> ClassIndex<'a> {
         self.oids.has(oid)
     }
 
-    /// The first relation of this oid.
-    pub(crate) fn find(&self, oid: u32) -> Option<&ClassRow>
+    /// The first relation of this oid; `None` where there is none.
+    pub fn find(&self, oid: u32) -> Option<&ClassRow>
         ensures { option_map (λ r. r.now) result ≡ class_of self.now oid }
     {
         match self.oids.find(oid) {
@@ -110,6 +115,13 @@ impl<'a> ClassIndex<'a> {
             None => None,
         }
     }
+}
+
+fn class_oids(alloc: Global, rows: &[ClassRow]) -> Result<OidIndex, AllocError>
+    ensures { IfOk result (λ oids. oids ≡ class_oids rows.now) }
+{
+    let oids: Vec<u32> = rows.iter().map(|c| c.oid).collect(alloc)?;
+    OidIndex::of(alloc, &oids)
 }
 
 fn row_at(rows: &[ClassRow], place: usize) -> Option<&ClassRow>

@@ -13,7 +13,7 @@ ghost use Rattle.cat_names.specs.Enums.{label_findings, labels_fault};
 ghost use Rattle.cat_names.specs.Relations.{relation_findings, relations_fault, depend_findings, depends_fault};
 ghost use Rattle.cat_names.specs.Comments.{comment_findings, comments_fault};
 ghost use Rattle.cat_names.specs.declared.fault.LineFault.{LineFault};
-ghost use Rattle.cat_names.specs.Examples.{Faults, Names, Labels, Relations, Comments, Oids};
+ghost use Rattle.cat_names.specs.Examples.{Faults, Names, Labels, Relations, Comments};
 ghost use Rattle.cat_names.specs.Firsts.{IsFirstFault, IsCleanTable};
 ghost use Rattle.cat_names.specs.Roles.{dangling_unless, has_boot, has_current, role_findings, roles_fault, member_findings, members_fault, database_findings, databases_fault};
 ghost use Rattle.cat_names.specs.Schemas.{schema_findings, schemas_fault};
@@ -29,7 +29,6 @@ pub fn later_tables_meet_the_examples()
     ensures labels { Labels }
     ensures relations { Relations }
     ensures comments { Comments }
-    ensures oids { Oids }
 {}
 
 /// The fault that a table has by its definition is that of the first row which has one, or of the table's end.

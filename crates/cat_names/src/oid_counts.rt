@@ -8,7 +8,7 @@ use std::marker::Model;
 
 /// Oids with the number of their occurrences. A contract sees the list of them.
 #[derive(Drop)]
-pub(crate) struct OidCounts {
+pub struct OidCounts {
     oids: Vec<u32>,
     counts: BTreeMap<u32, usize>,
 }
@@ -26,7 +26,7 @@ impl Model for OidCounts {
 
 impl OidCounts {
     /// No oids.
-    pub(crate) fn new(alloc: Global) -> OidCounts
+    pub fn new(alloc: Global) -> OidCounts
         ensures { result ≡ [] }
     {
         OidCounts {
@@ -36,7 +36,7 @@ impl OidCounts {
     }
 
     /// Adds an oid behind the others.
-    pub(crate) fn push(&mut self, oid: u32) -> Result<(), AllocError>
+    pub fn push(&mut self, oid: u32) -> Result<(), AllocError>
         ensures { OnOk result (self.new ≡ self.old ++ oid ∷ []) }
     {
         self.oids.reserve(1)?;
@@ -47,7 +47,7 @@ impl OidCounts {
     }
 
     /// These oids.
-    pub(crate) fn of(alloc: Global, oids: &[u32]) -> Result<OidCounts, AllocError>
+    pub fn of(alloc: Global, oids: &[u32]) -> Result<OidCounts, AllocError>
         ensures { IfOk result (λ counts. counts ≡ oids.now) }
     {
         let mut counts = OidCounts::new(alloc);
@@ -58,7 +58,7 @@ impl OidCounts {
     }
 
     /// How many of the oids are this one.
-    pub(crate) fn count(&self, oid: u32) -> usize
+    pub fn count(&self, oid: u32) -> usize
         ensures { result ≡ count_of self.now oid }
     {
         self.counts.get(&oid).copied().unwrap_or(0)

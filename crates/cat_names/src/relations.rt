@@ -11,7 +11,7 @@ ghost use Rattle.cat_names.specs.Kinds.{class_oids};
 ghost use Rattle.cat_names.specs.Relations.{path, path_cmp, is_key, key_indexes, own_rows, has_own_row, is_there, is_bad_relation_acl, left_out_first, kind_left_out, persistence_left_out, grants_left_out, columns_left_out, relation_left_out, relation_findings, relations_fault};
 ghost use Rattle.cat_names.specs.Schemas.{schema_oids};
 
-use crate::class_index::{ClassIndex, RelationKind, relation_kind};
+use crate::class_index::{RelationKind, relation_kind};
 use crate::fault::{Findings, LineError};
 use crate::keys::add_key;
 use crate::oid_counts::OidCounts;
@@ -264,17 +264,16 @@ fn find_in_relation(
     })
 }
 
-/// The relations, found by oid, where they are well-formed.
-pub(crate) fn check_relations<'a>(
+/// Goes on where the relations are well-formed.
+pub(crate) fn check_relations(
     alloc: Global,
-    cat: &'a Catalogue,
+    cat: &Catalogue,
     roles: &RoleIndex<'_>,
     schemas: &OidIndex,
-) -> Result<ClassIndex<'a>, LineError>
+) -> Result<(), LineError>
     requires roles { roles.now ≡ cat.now.pg_authid }
     requires schemas { schemas.now ≡ schema_oids cat.now.pg_namespace }
-    ensures fault { GivesLine result (relations_fault cat.now) }
-    ensures index { IfOk result (λ classes. classes ≡ cat.now.pg_class) }
+    ensures { GivesLine result (relations_fault cat.now) }
 {
     let own = OwnRows::of(alloc, cat)?;
     let rows = cat.pg_class.as_slice();
@@ -286,5 +285,5 @@ pub(crate) fn check_relations<'a>(
         go_on(line, found)?;
         line += 1;
     }
-    Ok(ClassIndex::new(rows, oids))
+    Ok(())
 }

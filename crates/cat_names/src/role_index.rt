@@ -1,12 +1,14 @@
 //! Roles, found by oid and by name.
-ghost use Rattle.std.specs.Prelude.{◌≡◌, option_map};
+ghost use Rattle.std.specs.Prelude.{◌≡◌, option_map, IfOk};
 ghost use Rattle.cat_model.specs.Values.{bytes_cmp};
 ghost use Rattle.cat_names.specs.Indexed.{AreKeys};
 ghost use Rattle.cat_names.specs.Lookups.{is_role, is_role_name, name_at, role_name, role_oids, role_names};
 
+use crate::keys::add_key;
 use crate::oid_index::OidIndex;
 use cat_rows::AuthidRow;
 use copy_text::Name;
+use std::alloc::{AllocError, Global};
 use std::collections::BTreeSet;
 use std::marker::Model;
 
@@ -31,6 +33,15 @@ impl<'a> Model for RoleIndex<'a> {
 }
 
 impl<'a> RoleIndex<'a> {
+    /// These roles, with what they are found by.
+    pub fn of(alloc: Global, rows: &'a [AuthidRow]) -> Result<RoleIndex<'a>, AllocError>
+        ensures { IfOk result (λ roles. roles ≡ rows.now) }
+    {
+        let oids = role_oids(alloc, rows)?;
+        let names = role_names(alloc, rows)?;
+        Ok(RoleIndex { rows, oids, names })
+    }
+
     /// These roles, with their oids and the set of their names.
     pub fn new(rows: &'a [AuthidRow], oids: OidIndex, names: BTreeSet<Name>) -> RoleIndex<'a>
         requires oids { oids ≡ role_oids rows.now }
@@ -63,6 +74,23 @@ impl<'a> RoleIndex<'a> {
             None => None,
         }
     }
+}
+
+fn role_oids(alloc: Global, rows: &[AuthidRow]) -> Result<OidIndex, AllocError>
+    ensures { IfOk result (λ oids. oids ≡ role_oids rows.now) }
+{
+    let oids: Vec<u32> = rows.iter().map(|r| r.oid).collect(alloc)?;
+    OidIndex::of(alloc, &oids)
+}
+
+fn role_names(alloc: Global, rows: &[AuthidRow]) -> Result<BTreeSet<Name>, AllocError>
+    ensures { IfOk result (λ names. AreKeys bytes_cmp names (role_names rows.now)) }
+{
+    let mut names = BTreeSet::new(alloc);
+    for row in rows {
+        add_key(&mut names, row.rolname.clone()?)?;
+    }
+    Ok(names)
 }
 
 fn name_at(rows: &[AuthidRow], place: usize) -> Option<&Name>

@@ -43,6 +43,3 @@ pub use schemas::NamespaceRow;
 pub use sequences::SequenceRow;
 pub use table::SysTable;
 pub use types::{EnumRow, TypeRow};
-
-#[cfg(test)]
-mod tests;

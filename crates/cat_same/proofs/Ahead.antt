@@ -11,8 +11,8 @@ use Rattle.std.specs.Map.{keys_of, lookup}
 use Rattle.cat_model.specs.declared.key.Key.{Key}
 use Rattle.cat_model.specs.Keys.{key_cmp}
 use Rattle.cat_model.specs.KeyLaws.{key_cmp_total, key_cmp-IsAntisymmetric}
-use Rattle.cat_same.specs.declared.value.NamedValue.{NamedValue}
-use Rattle.cat_same.specs.Seen.{value_at}
+use Rattle.cat_values.specs.declared.value.NamedValue.{NamedValue}
+use Rattle.cat_values.specs.Seen.{value_at}
 
 abbrev is_ahead : Key → List (Key × NamedValue) → Bool
 is_ahead q es = is_some (lookup (is_at (key_cmp q)) es)

@@ -9,10 +9,11 @@ use Rattle.cat_model.specs.Keys.{key_cmp}
 use Rattle.cat_model.specs.KeyLaws.{key_cmp_total, key_cmp-IsAntisymmetric}
 use Rattle.cat_model.specs.Values.{Value, Named}
 use Rattle.cat_names.specs.Naming.{Entry}
-use Rattle.cat_same.specs.declared.value.NamedValue.{NamedValue}
+use Rattle.cat_values.specs.declared.value.NamedValue.{NamedValue}
 use Rattle.cat_same.specs.declared.compare.Verdict.{Verdict}
 use Rattle.cat_same.specs.declared.compare.Verdict.TheVariants.{Same, Differs}
-use Rattle.cat_same.specs.Seen.{AreEntries, AgreeBelow, IsFirstDifference, lesser_of, value_at}
+use Rattle.cat_values.specs.Seen.{AreEntries, value_at}
+use Rattle.cat_same.specs.Differences.{AgreeBelow, IsFirstDifference, lesser_of}
 use Rattle.cat_same.specs.Verdicts.{IsLeastDifference, IsVerdict}
 
 -- a key that each of two maps has as the other has it is the same in both

@@ -1,9 +1,5 @@
-mod FirstValues
-mod Rows
-mod Rights
 mod Differences
 mod Lookups
-mod Holdings
-mod Attributes
 mod Ahead
 mod Clones
+mod Texts

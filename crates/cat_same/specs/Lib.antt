@@ -1,4 +1,3 @@
 pub mod Verdicts
-pub mod Seen
-pub mod Holders
+pub mod Differences
 pub mod Examples

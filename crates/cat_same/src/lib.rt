@@ -2,14 +2,6 @@
 #![tactic(auto)]
 
 mod compare;
-mod firsts;
-mod grants;
 pub mod laws;
-mod named;
-mod role_names;
-mod value;
 
-pub use compare::{Verdict, compare_clusters};
-
-#[cfg(test)]
-mod tests;
+pub use compare::{Verdict, same};

@@ -1,11 +1,9 @@
--- How schemas and relations are found by oid, and sets of paths when one more may come.
+-- How schemas are found by oid, and sets of paths when one more may come.
 use Rattle.std.proofs.Common.{◌≡◌, ℕ, suc, ◌+◌, ◌<◌, Bool, true, false, cond, List, [], ◌∷◌, ◌++◌, length, take, Option, Some, None, option_map, option_and_then, get_or, filter_map, refl, sym, ap, ◌∙◌}
 use Rattle.std.specs.List.{slice_get}
 use Rattle.std.proofs.lemmas.List.{take_more}
 use Rattle.std.proofs.lemmas.List.Elements.{filter_map-append}
 use Rattle.cat_rows.specs.declared.schemas.NamespaceRow.{NamespaceRow}
-use Rattle.cat_rows.specs.declared.relations.ClassRow.{ClassRow}
-use Rattle.cat_names.specs.Kinds.{class_oids, class_of}
 use Rattle.cat_names.specs.Lookups.{same_oid, place_of}
 use Rattle.cat_names.specs.Schemas.{schema_oids}
 use Rattle.cat_types.specs.Paths.{schema_of}
@@ -21,12 +19,6 @@ pub schema_at : (rows : List NamespaceRow) (oid : ℕ) → schema_of rows oid �
 unfolding place_of
 schema_at [] oid = refl
 schema_at (row ∷ rows) oid = found_at (same_oid oid row.oid) row rows (place_of oid (schema_oids rows)) (schema_of rows oid) (schema_at rows oid)
-
--- and so is the relation
-pub class_at : (rows : List ClassRow) (oid : ℕ) → class_of rows oid ≡ option_and_then (slice_get rows) (place_of oid (class_oids rows))
-unfolding place_of
-class_at [] oid = refl
-class_at (row ∷ rows) oid = found_at (same_oid oid row.oid) row rows (place_of oid (class_oids rows)) (class_of rows oid) (class_at rows oid)
 
 one_given : {A B : Type 0} (f : A → Option B) (x : A) → filter_map f (x ∷ []) ≡ filter_map (λ p. p) (f x ∷ [])
 one_given f x = refl

@@ -2,7 +2,6 @@
 #![tactic(auto)]
 
 mod chains;
-mod class_index;
 mod domains;
 mod kinds;
 pub mod laws;
@@ -14,7 +13,5 @@ mod types;
 
 pub use domains::{are_met, is_met, is_met_default, is_type_named};
 pub use lookup::Lookup;
+pub use texts::type_named;
 pub use types::check_types;
-
-#[cfg(test)]
-mod tests;

@@ -2,24 +2,22 @@
 ghost use Rattle.std.specs.Prelude.{◌≡◌, [], ◌∷◌, ◌++◌, not, filter_map, option_map, List, IfOk, OnOk};
 ghost use Rattle.cat_rows.specs.declared.catalogue.Catalogue.{Catalogue as Tables};
 ghost use Rattle.cat_rows.specs.declared.relations.ClassRow.{ClassRow as Class};
-ghost use Rattle.cat_model.specs.Values.{bytes_cmp};
 ghost use Rattle.cat_names.specs.Indexed.{AreKeys};
 ghost use Rattle.cat_names.specs.Kinds.{class_of};
-ghost use Rattle.cat_names.specs.Lookups.{role_oids, role_names, role_name};
+ghost use Rattle.cat_names.specs.Lookups.{role_name};
 ghost use Rattle.cat_names.specs.Rights.{is_bad_acl, is_by_other};
 ghost use Rattle.cat_names.specs.declared.rights.GrantKind.TheVariants as on;
 ghost use Rattle.cat_types.specs.Chains.{chain_ends, type_of};
 ghost use Rattle.cat_types.specs.Domains.{path_of};
-ghost use Rattle.cat_types.specs.Paths.{path_cmp, type_path, class_path, class_path_of, type_paths, class_paths, has_path};
+ghost use Rattle.cat_types.specs.Paths.{path_cmp, schema_of, type_path, class_path, class_path_of, type_paths, class_paths, has_path};
 ghost use Rattle.cat_types.specs.Types.{is_there, is_base_there};
 
 use crate::chains::{chain_ends, ends_at};
-use crate::class_index::ClassIndex;
 use crate::schema_index::SchemaIndex;
 use crate::type_index::TypeIndex;
 use cat_model::QName;
-use cat_names::{GrantKind, OidIndex, RoleIndex, add_key, is_bad_acl, is_by_other};
-use cat_rows::{Acl, AuthidRow, Catalogue, ClassRow, TypeRow};
+use cat_names::{ClassIndex, GrantKind, RoleIndex, add_key, is_bad_acl, is_by_other};
+use cat_rows::{Acl, Catalogue, ClassRow, NamespaceRow, TypeRow};
 use copy_text::Name;
 use std::alloc::{AllocError, Global};
 use std::collections::BTreeSet;
@@ -48,31 +46,6 @@ impl<'a> Model for Lookup<'a> {
     ghost view = { λ l. l.cat.now };
 
     ghost invariant = { λ l. IsBeside l.cat.now l.roles l.schemas l.types l.classes l.type_paths l.class_paths l.ends.items };
-}
-
-fn role_oids(alloc: Global, rows: &[AuthidRow]) -> Result<OidIndex, AllocError>
-    ensures { IfOk result (λ oids. oids ≡ role_oids rows.now) }
-{
-    let oids: Vec<u32> = rows.iter().map(|r| r.oid).collect(alloc)?;
-    OidIndex::of(alloc, &oids)
-}
-
-fn role_names(alloc: Global, rows: &[AuthidRow]) -> Result<BTreeSet<Name>, AllocError>
-    ensures { IfOk result (λ names. AreKeys bytes_cmp names (role_names rows.now)) }
-{
-    let mut names = BTreeSet::new(alloc);
-    for row in rows {
-        add_key(&mut names, row.rolname.clone()?)?;
-    }
-    Ok(names)
-}
-
-fn roles(alloc: Global, rows: &[AuthidRow]) -> Result<RoleIndex<'_>, AllocError>
-    ensures { IfOk result (λ roles. roles ≡ rows.now) }
-{
-    let oids = role_oids(alloc, rows)?;
-    let names = role_names(alloc, rows)?;
-    Ok(RoleIndex::new(rows, oids, names))
 }
 
 // Adds a path, where there is one.
@@ -139,7 +112,7 @@ impl<'a> Lookup<'a> {
     pub fn of(alloc: Global, cat: &'a Catalogue) -> Result<Lookup<'a>, AllocError>
         ensures { IfOk result (λ lookup. lookup ≡ cat.now) }
     {
-        let roles = roles(alloc, cat.pg_authid.as_slice())?;
+        let roles = RoleIndex::of(alloc, cat.pg_authid.as_slice())?;
         let schemas = SchemaIndex::of(alloc, cat.pg_namespace.as_slice())?;
         let types = TypeIndex::of(alloc, cat.pg_type.as_slice())?;
         let classes = ClassIndex::of(alloc, cat.pg_class.as_slice())?;
@@ -179,8 +152,36 @@ impl<'a> Lookup<'a> {
         is_by_other(self.roles.name_of(owner), acl)
     }
 
-    /// The path of a type.
-    pub(crate) fn path(&self, row: &TypeRow) -> Result<Option<QName>, AllocError>
+    /// The tables of the catalogue.
+    pub fn tables(&self) -> &'a Catalogue
+        ensures { result.now ≡ self.now }
+    {
+        self.cat
+    }
+
+    /// The name of the first role of this oid; `None` where there is none.
+    pub fn role_name(&self, oid: u32) -> Option<&Name>
+        ensures { option_map (λ n. n.now) result ≡ role_name self.now.pg_authid oid }
+    {
+        self.roles.name_of(oid)
+    }
+
+    /// The first schema of this oid; `None` where there is none.
+    pub fn schema_of(&self, oid: u32) -> Option<&NamespaceRow>
+        ensures { option_map (λ s. s.now) result ≡ schema_of self.now.pg_namespace oid }
+    {
+        self.schemas.find(oid)
+    }
+
+    /// The path of a relation; `None` where its schema isn't there.
+    pub fn class_path(&self, row: &ClassRow) -> Result<Option<QName>, AllocError>
+        ensures { IfOk result (λ path. path ≡ class_path self.now.pg_namespace row.now) }
+    {
+        self.schemas.path_in(row.relnamespace, &row.relname)
+    }
+
+    /// The path of a type; `None` where its schema isn't there.
+    pub fn path(&self, row: &TypeRow) -> Result<Option<QName>, AllocError>
         ensures { IfOk result (λ path. path ≡ type_path self.now.pg_namespace row.now) }
     {
         self.schemas.path_in(row.typnamespace, &row.typname)

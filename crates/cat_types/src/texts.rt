@@ -6,9 +6,9 @@ use cat_model::TypeName;
 use ddl_parts::{Pieces, ReadError, Run, collect};
 use std::alloc::{AllocError, Global};
 
-/// The type that a text names. Blanks and comments around are free.
+/// The type that a text names; `None` where all of its tokens together name none. Blanks and comments around are free.
 #[tactic(auto, unfolding(crate::specs::Texts::type_named))]
-pub(crate) fn type_named(alloc: Global, text: &[u8]) -> Result<Option<TypeName>, AllocError>
+pub fn type_named(alloc: Global, text: &[u8]) -> Result<Option<TypeName>, AllocError>
     ensures { IfOk result (λ name. name ≡ type_named text.now) }
 {
     let Run { pieces, fault, .. } = collect(alloc, text, 0)?;

@@ -9,7 +9,7 @@ pub due_map : {Y Z : Type 0} (fault : FolderFault) (one : Result Y FolderFault) 
 due_map Failed one other h d = tt
 due_map (Missing name) one other h d = h (Missing name) d
 due_map (BadExport file line kind) one other h d = h (BadExport file line kind) d
-due_map (TooLarge n) one other h d = h (TooLarge n) d
+due_map (TooLarge limit n) one other h d = h (TooLarge limit n) d
 due_map Memory one other h d = tt
 
 -- where nothing was called, no count rose
@@ -17,5 +17,5 @@ pub call_free_count : (X : Type 0) (fault : FolderFault) (before after : â„•) â†
 call_free_count X Failed before after free e = elim free [ ]
 call_free_count X (Missing name) before after free e = e
 call_free_count X (BadExport file line kind) before after free e = e
-call_free_count X (TooLarge n) before after free e = e
+call_free_count X (TooLarge limit n) before after free e = e
 call_free_count X Memory before after free e = e

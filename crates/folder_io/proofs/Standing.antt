@@ -13,13 +13,15 @@ use Rattle.cat_rows.specs.declared.catalogue.Catalogue.{Catalogue}
 use Rattle.cat_rows.specs.Reading.{table_of}
 use Rattle.cat_rows.specs.Catalogues.{rows_in}
 use Rattle.folder_io.specs.declared.file.ExportFile.TheVariants.{Marker, Table}
+use Rattle.folder_io.specs.declared.fault.FolderLimit.{FolderLimit}
+use Rattle.folder_io.specs.declared.fault.FolderLimit.TheVariants.{TableFile}
 use Rattle.folder_io.specs.declared.fault.FolderFault.{FolderFault}
 use Rattle.folder_io.specs.declared.fault.FolderFault.TheVariants.{TooLarge, BadExport}
 use Rattle.folder_io.specs.declared.fault.ExportKind.TheVariants.{Version}
 use Rattle.folder_io.specs.Answers.{◌>>=◌, each_of}
-use Rattle.folder_io.specs.Folders.{Bytes, TextOfTable, all_tables, file_of, marker, marked, marker_of, table_limit, within, text_of, texts_of, placed, rows_of, tables_of, catalogue_rows, catalogue_of, HoldsTable, StandsFor}
+use Rattle.folder_io.specs.Folders.{Bytes, TextOfTable, all_tables, file_of, marker, marked, marker_of, most_bytes, table_limit, within, file_text, text_of, texts_of, placed, rows_of, tables_of, catalogue_rows, catalogue_of, HoldsTable, StandsFor}
 
-bind_ok : {A B : Type 0} (r : Result A FolderFault) (f : A → Result B FolderFault) (y : B) → (r >>= f) ≡ Ok y → (x : A) × (r ≡ Ok x) × (f x ≡ Ok y)
+pub bind_ok : {A B : Type 0} (r : Result A FolderFault) (f : A → Result B FolderFault) (y : B) → (r >>= f) ≡ Ok y → (x : A) × (r ≡ Ok x) × (f x ≡ Ok y)
 bind_ok (Ok x) f y e = (x, refl, e)
 bind_ok (Err o) f y e = absurd cc
 
@@ -28,7 +30,7 @@ bind_ok (Err o) f y e = absurd cc
 abbrev Both : {A B C : Type 0} → (A → Result B FolderFault) → (B → Result C FolderFault) → (A → C) → A → Type 0
 Both {B = B} f g h x = (y : B) × (f x ≡ Ok y) × (g y ≡ Ok (h x))
 
-ok_same : {A : Type 0} (x y : A) → ◌≡◌ {A = Result A FolderFault} (Ok x) (Ok y) → x ≡ y
+pub ok_same : {A : Type 0} (x y : A) → ◌≡◌ {A = Result A FolderFault} (Ok x) (Ok y) → x ≡ y
 ok_same x y e = cc
 
 both_rounds : {A B C : Type 0} (f : A → Result B FolderFault) (g : B → Result C FolderFault) (h : A → C) (xs : List A) (ys : List B)
@@ -63,36 +65,36 @@ map_itself (x ∷ xs) = ap (λ ys. x ∷ ys) (map_itself xs)
 
 -- ---- a table
 
-within_ok : (table : SysTable) (name : Bytes) (found : Option Bytes) (text : TextOfTable) → within table name found ≡ Ok text
-    → (found ≡ Some text.text) × (length text.text ≤ table_limit) × (text.table ≡ table)
-within_ok table name None text e = absurd cc
-within_ok table name (Some bytes) text e = by (nat_le (length bytes) table_limit) refl e
+pub within_ok : (limit : FolderLimit) (name : Bytes) (found : Option Bytes) (text : Bytes) → within limit name found ≡ Ok text → (found ≡ Some text) × (length text ≤ most_bytes limit)
+within_ok limit name None text e = absurd cc
+within_ok limit name (Some bytes) text e = by (nat_le (length bytes) (most_bytes limit)) refl e
   where
-    by : (b : Bool) → nat_le (length bytes) table_limit ≡ b → cond {A = Result TextOfTable FolderFault} b (Ok (record { table = table; text = bytes })) (Err (TooLarge (table_limit + 1))) ≡ Ok text
-        → (Some bytes ≡ Some text.text) × (length text.text ≤ table_limit) × (text.table ≡ table)
+    by : (b : Bool) → nat_le (length bytes) (most_bytes limit) ≡ b → cond {A = Result Bytes FolderFault} b (Ok bytes) (Err (TooLarge limit (most_bytes limit + 1))) ≡ Ok text
+        → (Some bytes ≡ Some text) × (length text ≤ most_bytes limit)
     by false l e = absurd cc
     by true l e =
         let same = ok_same _ _ e in
-        (ap (λ t. Some t.text) same, subst (λ t. length t.text ≤ table_limit) same (leb-true _ _ l), ap (λ t. t.table) (sym same))
+        (ap Some same, subst (λ (t : Bytes). length t ≤ most_bytes limit) same (leb-true _ _ l))
 
 placed_ok : (table : SysTable) (read : Result (List (List Cell)) TableFault) (rows : List (List Cell)) → placed table read ≡ Ok rows → read ≡ Ok rows
 placed_ok table (Ok x) rows e = cc
 placed_ok table (Err first) rows e = absurd cc
 
 table_held : (folder : Bytes) (tree : Tree) (cat : Catalogue) (table : SysTable) → Both (text_of folder tree) rows_of (λ t. rows_in t cat) table → HoldsTable folder tree table (rows_in table cat)
-unfolding text_of
+unfolding text_of file_text
 table_held folder tree cat table both =
-    let found = within_ok table (file_of folder (Table table)) (text_at tree (file_of folder (Table table))) both.0 both.1 in
+    let read = bind_ok (file_text TableFile folder tree (Table table)) (λ bytes. Ok (record { table = table; text = bytes })) both.0 both.1 in
+    let found = within_ok TableFile (file_of folder (Table table)) (text_at tree (file_of folder (Table table))) read.0 read.1 in
     record {
-      text = both.0.text;
+      text = read.0;
       there = found.0;
       fits = found.1;
-      reads = placed_ok table (table_of table both.0.text) (rows_in table cat) (ap (λ t. placed t (table_of t both.0.text)) (sym found.2) ∙ both.2);
+      reads = placed_ok table (table_of table read.0) (rows_in table cat) (ap rows_of (ok_same _ _ read.2) ∙ both.2);
     }
 
 -- ---- the folder
 
-marked_ok : (name : Bytes) (found : Option Bytes) (done : Unit {0}) → marked name found ≡ Ok done → found ≡ Some marker
+pub marked_ok : (name : Bytes) (found : Option Bytes) (done : Unit {0}) → marked name found ≡ Ok done → found ≡ Some marker
 marked_ok name None done e = absurd cc
 marked_ok name (Some text) done e = by (bytes_eq text marker) (bytes_eq-Decides text marker) e
   where
@@ -131,11 +133,12 @@ abbrev held_text : (folder : Bytes) (tree : Tree) (cat : Catalogue) → StandsFo
 held_text folder tree cat stands table = record { table = table; text = (stands.tables table).text }
 
 text_found : (folder : Bytes) (tree : Tree) (cat : Catalogue) (stands : StandsFor folder tree cat) (table : SysTable) → text_of folder tree table ≡ Ok (held_text folder tree cat stands table)
-unfolding text_of
+unfolding text_of file_text
 text_found folder tree cat stands table =
     let holds = stands.tables table in
-    ap (λ found. within table (file_of folder (Table table)) found) holds.there
-    ∙ ap (λ b. cond {A = Result TextOfTable FolderFault} b (Ok (held_text folder tree cat stands table)) (Err (TooLarge (table_limit + 1)))) (fits (nat_le (length holds.text) table_limit) refl holds.fits)
+    let made : Result Bytes FolderFault → Result TextOfTable FolderFault = λ r. r >>= λ bytes. Ok (record { table = table; text = bytes }) in
+    ap (λ found. made (within TableFile (file_of folder (Table table)) found)) holds.there
+    ∙ ap (λ b. made (cond {A = Result Bytes FolderFault} b (Ok holds.text) (Err (TooLarge TableFile (table_limit + 1))))) (fits (nat_le (length holds.text) table_limit) refl holds.fits)
   where
     fits : {n : ℕ} (b : Bool) → nat_le n table_limit ≡ b → n ≤ table_limit → b ≡ true
     fits true l h = refl

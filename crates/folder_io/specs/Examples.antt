@@ -9,11 +9,11 @@ use Rattle.cat_rows.specs.declared.fault.RowFault.TheVariants as row_faults
 use Rattle.cat_rows.specs.declared.catalogue.Catalogue.{Catalogue}
 use Rattle.cat_rows.specs.Catalogues.{no_rows}
 use Rattle.folder_io.specs.declared.file.ExportFile.{ExportFile}
-use Rattle.folder_io.specs.declared.file.ExportFile.TheVariants.{Marker, Table}
+use Rattle.folder_io.specs.declared.file.ExportFile.TheVariants.{Marker, Table, Data}
 use Rattle.folder_io.specs.declared.fault.ExportKind.TheVariants.{Version, Row}
 use Rattle.folder_io.specs.declared.fault.FolderFault.{FolderFault}
 use Rattle.folder_io.specs.declared.fault.FolderFault.TheVariants.{Missing, BadExport}
-use Rattle.folder_io.specs.Folders.{Bytes, all_tables, marker, file_of, rows_of, catalogue_of, catalogue_rows}
+use Rattle.folder_io.specs.Folders.{Bytes, all_tables, marker, file_name, file_of, rows_of, bytes_of, catalogue_of, catalogue_rows}
 
 -- a file by its name
 pub record File : Type 0 where
@@ -65,9 +65,17 @@ empty_catalogue = record no_rows {
   pg_namespace = record { oid = 2200; nspname = codes "public"; nspowner = 10; nspacl = None } ∷ [];
 }
 
--- reading it is due to give this catalogue
-abbrev pub EmptyExportReads : Type 0
-EmptyExportReads = catalogue_of (codes "D") empty_export ≡ Ok (catalogue_rows empty_catalogue)
+-- reading it is due to give this catalogue, of so many bytes
+pub record EmptyExportReads : Type 0 where
+  pub reads : catalogue_of (codes "D") empty_export ≡ Ok (catalogue_rows empty_catalogue)
+  pub bytes : bytes_of (codes "D") empty_export ≡ 76
+
+-- ---- names
+
+pub record Names : Type 0 where
+  pub marker : file_name Marker ≡ codes "format"
+  pub table : file_name (Table PgNamespace) ≡ codes "pg_namespace.copy"
+  pub rows : file_name (Data 16384) ≡ codes "data/16384.copy"
 
 -- ---- texts of tables
 

@@ -1,8 +1,9 @@
 -- An export folder, and the catalogue that it stands for.
-use Rattle.std.specs.Prelude.{◌≡◌, ℕ, ◌+◌, ◌≤◌, List, [], ◌∷◌, ◌++◌, map, length, Option, Some, None, Result, Ok, Err, nat_le, if◌then◌else◌, codes}
+use Rattle.std.specs.Prelude.{◌≡◌, ℕ, ◌+◌, ◌≤◌, List, [], ◌∷◌, ◌++◌, map, length, Option, Some, None, Result, Ok, Err, nat_le, if◌then◌else◌, codes, decimal}
+use Rattle.std.specs.List.{sum_by}
 use Rattle.std.specs.Str.{bytes_eq}
 use Rattle.copy_text.specs.Marks.{newline}
-use Rattle.dump_ports.specs.Tree.{Tree, text_at}
+use Rattle.dump_ports.specs.Tree.{Tree, text_at, bytes_at}
 use Rattle.cat_rows.specs.declared.table.SysTable.{SysTable}
 use Rattle.cat_rows.specs.declared.table.SysTable.TheVariants.{PgAuthid, PgAuthMembers, PgDatabase, PgNamespace, PgType, PgEnum, PgClass, PgAttribute, PgAttrdef, PgConstraint, PgIndex, PgSequence, PgRewrite, PgDescription, PgDepend}
 use Rattle.cat_rows.specs.declared.cell.Cell.{Cell}
@@ -12,8 +13,10 @@ use Rattle.cat_rows.specs.Kinds.{table_file}
 use Rattle.cat_rows.specs.Reading.{table_of}
 use Rattle.cat_rows.specs.Catalogues.{rows_in}
 use Rattle.folder_io.specs.declared.file.ExportFile.{ExportFile}
-use Rattle.folder_io.specs.declared.file.ExportFile.TheVariants.{Marker, Table}
+use Rattle.folder_io.specs.declared.file.ExportFile.TheVariants.{Marker, Table, Data}
 use Rattle.folder_io.specs.declared.fault.ExportKind.TheVariants.{Version, Row}
+use Rattle.folder_io.specs.declared.fault.FolderLimit.{FolderLimit}
+use Rattle.folder_io.specs.declared.fault.FolderLimit.TheVariants.{TableFile, DataFile, Folder}
 use Rattle.folder_io.specs.declared.fault.FolderFault.{FolderFault}
 use Rattle.folder_io.specs.declared.fault.FolderFault.TheVariants.{Missing, BadExport, TooLarge}
 use Rattle.folder_io.specs.Answers.{◌>>=◌, each_of}
@@ -31,6 +34,7 @@ all_tables = PgAuthid ∷ PgAuthMembers ∷ PgDatabase ∷ PgNamespace ∷ PgTyp
 abbrev pub file_name : ExportFile → Bytes
 file_name Marker = codes "format"
 file_name (Table table) = table_file table
+file_name (Data oid) = codes "data/" ++ decimal oid ++ codes ".copy"
 
 -- the path of a file in a folder
 abbrev pub path : Bytes → Bytes → Bytes
@@ -52,28 +56,60 @@ marked name (Some text) = if bytes_eq text marker then Ok tt else Err (BadExport
 unfoldable pub marker_of : Bytes → Tree → Result (Unit {0}) FolderFault
 marker_of folder tree = marked (file_of folder Marker) (text_at tree (file_of folder Marker))
 
+-- ---- files within limits
+
+-- the most bytes of one file, and of all together
+abbrev pub most_bytes : FolderLimit → ℕ
+most_bytes TableFile = 134217728
+most_bytes DataFile = 134217728
+most_bytes Folder = 268435456
+
+abbrev pub within : FolderLimit → Bytes → Option Bytes → Result Bytes FolderFault
+within limit name None = Err (Missing name)
+within limit name (Some text) = if nat_le (length text) (most_bytes limit) then Ok text else Err (TooLarge limit (most_bytes limit + 1))
+
+-- the text of a file, which must be there and within a limit
+unfoldable pub file_text : FolderLimit → Bytes → Tree → ExportFile → Result Bytes FolderFault
+file_text limit folder tree file = within limit (file_of folder file) (text_at tree (file_of folder file))
+
 -- ---- the texts of the tables
 
 -- the most bytes of one table's file
 abbrev pub table_limit : ℕ
-table_limit = 134217728
+table_limit = most_bytes TableFile
 
 -- a table, and the text of its file
 pub record TextOfTable : Type 0 where
   pub table : SysTable
   pub text : Bytes
 
-abbrev pub within : SysTable → Bytes → Option Bytes → Result TextOfTable FolderFault
-within table name None = Err (Missing name)
-within table name (Some text) = if nat_le (length text) table_limit then Ok (record { table = table; text = text }) else Err (TooLarge (table_limit + 1))
-
--- the text of a table's file, which must be there and within the limit
+-- the text of a table's file
 unfoldable pub text_of : Bytes → Tree → SysTable → Result TextOfTable FolderFault
-text_of folder tree table = within table (file_of folder (Table table)) (text_at tree (file_of folder (Table table)))
+text_of folder tree table = do
+  text ← file_text TableFile folder tree (Table table)
+  Ok (record { table = table; text = text })
 
 -- the texts of all tables
 unfoldable pub texts_of : Bytes → Tree → Result (List TextOfTable) FolderFault
 texts_of folder tree = each_of (text_of folder tree) all_tables
+
+-- ---- how many bytes were read
+
+-- the bytes of these texts together
+abbrev pub texts_length : List TextOfTable → ℕ
+texts_length texts = sum_by (λ text. length text.text) texts
+
+-- the files of the catalogue
+abbrev pub catalogue_files : List ExportFile
+catalogue_files = Marker ∷ map Table all_tables
+
+-- the bytes of a file; an absent one has none
+abbrev pub file_length : Bytes → Tree → ExportFile → ℕ
+file_length folder tree file = length (bytes_at tree (file_of folder file))
+
+-- the bytes of the catalogue's files together
+unfoldable pub bytes_of : Bytes → Tree → ℕ
+bytes_of folder tree = sum_by (file_length folder tree) catalogue_files
 
 -- ---- their rows
 

@@ -1,11 +1,13 @@
 //! Why an export folder has no catalogue.
 ghost use Rattle.std.specs.Prelude.{◌≡◌};
+ghost use Rattle.folder_io.specs.Folders.{most_bytes};
 ghost use Rattle.folder_io.specs.declared.fault.FolderFault.TheVariants as faults;
 
 use crate::file::ExportFile;
 use cat_rows::RowFault;
 use copy_text::Text;
 use std::alloc::{AllocError, AllocFailed};
+use std::fmt;
 use thiserror::Error;
 
 /// What is wrong with a place in a file.
@@ -19,7 +21,40 @@ pub enum ExportKind {
     Row(RowFault),
 }
 
-/// Why a folder can't be read as a catalogue.
+/// What has a limit of bytes.
+#[derive(Clone, Copy, Debug, PartialEq, Eq)]
+pub enum FolderLimit {
+    /// The file of one system table.
+    TableFile,
+    /// The file of one table's rows.
+    DataFile,
+    /// All files of a folder together.
+    Folder,
+}
+
+impl FolderLimit {
+    /// The most bytes: 134,217,728 of one file, and 268,435,456 of all together.
+    pub fn bytes(self) -> u64
+        ensures { result ≡ most_bytes self }
+    {
+        match self {
+            FolderLimit::TableFile | FolderLimit::DataFile => 134_217_728,
+            FolderLimit::Folder => 268_435_456,
+        }
+    }
+}
+
+impl fmt::Display for FolderLimit {
+    fn fmt<W: fmt::Write>(&self, f: &mut fmt::Formatter<W>) -> fmt::Result {
+        f.write_str(match self {
+            FolderLimit::TableFile => "a table's file",
+            FolderLimit::DataFile => "a data file",
+            FolderLimit::Folder => "a folder",
+        })
+    }
+}
+
+/// Why a folder can't be read as a catalogue and the rows of its tables.
 #[derive(Debug, Drop, Error)]
 pub enum FolderFault {
     /// Reading failed.
@@ -29,7 +64,7 @@ pub enum FolderFault {
     #[error("missing file {path}", path = .0.as_str())]
     Missing(Text),
     /// The first place that fails.
-    #[error("{name}, line {line}: {kind}", name = .file.name())]
+    #[error("{file}, line {line}: {kind}")]
     BadExport {
         /// The file.
         file: ExportFile,
@@ -38,9 +73,9 @@ pub enum FolderFault {
         /// What is wrong with it.
         kind: ExportKind,
     },
-    /// A table's file has more than 134,217,728 bytes; the number is the limit and one more.
-    #[error("a table's file of {0} bytes or more")]
-    TooLarge(u64),
+    /// A limit of bytes is passed; the number is the limit and one more.
+    #[error("{0} of {1} bytes or more")]
+    TooLarge(FolderLimit, u64),
     /// Memory ran out.
     #[error("out of memory")]
     Memory,

@@ -10,9 +10,7 @@ mod tables;
 mod texts;
 
 pub use beyond::has_rows_beyond;
-pub use fault::{ExportKind, FolderFault};
+pub use fault::{ExportKind, FolderFault, FolderLimit};
 pub use file::ExportFile;
-pub use reading::read_catalogue;
-
-#[cfg(test)]
-mod tests;
+pub use reading::{ReadCatalogue, read_catalogue};
+pub use texts::read_file;

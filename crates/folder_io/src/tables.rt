@@ -1,8 +1,8 @@
 //! The texts of tables, and the rows that they hold.
-ghost use Rattle.std.specs.Prelude.{◌≡◌, map, Ok, IfErr};
+ghost use Rattle.std.specs.Prelude.{◌≡◌, ◌*◌, ◌≤◌, map, Ok, IfErr};
 ghost use Rattle.cat_rows.specs.Catalogues.{rows_in, SameBut};
 ghost use Rattle.folder_io.specs.Answers.{Gives, IsCallFree};
-ghost use Rattle.folder_io.specs.Folders.{all_tables, rows_of, tables_of, catalogue_rows};
+ghost use Rattle.folder_io.specs.Folders.{all_tables, table_limit, texts_length, rows_of, tables_of, catalogue_rows};
 
 use crate::fault::{ExportKind, FolderFault};
 use crate::file::ExportFile;
@@ -23,6 +23,14 @@ impl Model for TableText {
     ghost Value = { TextOfTable };
 
     ghost view = { λ t. record { table = t.table; text = t.bytes.items } };
+}
+
+/// How many bytes these texts of all tables have together.
+pub(crate) fn total_length(texts: &[TableText]) -> u64
+    requires { texts_length texts.now ≤ 15 * table_limit }
+    ensures { result ≡ texts_length texts.now }
+{
+    texts.iter().map(|text| text.bytes.len() as u64).sum()
 }
 
 /// The catalogue whose rows these texts of all tables hold.

@@ -36,18 +36,4 @@ returns c = record {
     of_domain = refl;
     other_class = refl;
   };
-  oids = record {
-    view = refl;
-    view_twice = refl;
-    rewrite_of_table = refl;
-    own_index = refl;
-    key_index = refl;
-    index_on_index = refl;
-    two_sequences = refl;
-    sequence_twice = refl;
-    no_owner = refl;
-    no_step = refl;
-    start_too_low = refl;
-    value_too_high = refl;
-  };
 }

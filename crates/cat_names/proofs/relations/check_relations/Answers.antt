@@ -9,8 +9,8 @@ use Rattle.cat_names.specs.Relations.{path, path_cmp, relation_findings, relatio
 use Rattle.cat_names.proofs.Steps.{passed_at, failed_at, ended_at, column_more}
 use Rattle.cat_names.proofs.relations.check_relations.Goals as goal
 
-pub returns-in_err-go_on-clause-fault : goal.returns-in_err-go_on-clause-fault
-returns-in_err-go_on-clause-fault c =
+pub returns-in_err-go_on : goal.returns-in_err-go_on
+returns-in_err-go_on c =
     let cat = c.args.cat.now in
     let rows = c.as_slice-rows.result.now in
     let i = c.loop-row.row-index in
@@ -33,8 +33,8 @@ loop-row-preserved c =
       ap (λ n. n + 1) c.loop-row.invariant.3,
     )
 
-pub returns-clause-fault : goal.returns-clause-fault
-returns-clause-fault c =
+pub returns : goal.returns
+returns c =
     let cat = c.args.cat.now in
     let rows = c.as_slice-rows.result.now in
     let i = c.loop-row.row-index in

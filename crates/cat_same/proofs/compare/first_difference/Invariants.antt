@@ -5,7 +5,7 @@ use Rattle.std.specs.List.Sorted.{IsStrictlySortedBy}
 use Rattle.std.specs.Map.{keys_of, lookup}
 use Rattle.cat_model.specs.declared.key.Key.{Key}
 use Rattle.cat_model.specs.Keys.{key_cmp}
-use Rattle.cat_same.specs.Seen.{value_at}
+use Rattle.cat_values.specs.Seen.{value_at}
 use Rattle.cat_same.proofs.compare.first_difference.Given as goal
 
 abbrev pub invariant-loop-key : goal.invariant-loop-key

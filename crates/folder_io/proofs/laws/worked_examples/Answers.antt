@@ -1,4 +1,6 @@
-use Rattle.std.proofs.Common.{◌≡◌, ◌≤◌, [], ◌∷◌, List, length, Option, Some, Result, Ok, Err, codes, refl, ap, ◌∙◌, arith}
+use Rattle.std.proofs.Common.{◌≡◌, ◌+◌, ◌≤◌, [], ◌∷◌, List, length, map, Option, Some, unwrap_or, Result, Ok, Err, codes, refl, sym, ap, ◌∙◌, arith}
+use Rattle.std.specs.List.{sum_by}
+use Rattle.std.proofs.lemmas.List.Sums.{sum_by-cons}
 use Rattle.copy_text.specs.Pieces.{pieces_after, ends_escaping}
 use Rattle.copy_text.specs.Escapes.{decode_behind, escape}
 use Rattle.copy_text.specs.Reading.{row_of, fields_of, field_of}
@@ -13,10 +15,11 @@ use Rattle.std.specs.Str.{is_utf8, chars}
 use Rattle.std.specs.Fmt.{digits}
 use lib.Utf8.{encode}
 use Rattle.folder_io.specs.declared.file.ExportFile.TheVariants.{Marker, Table}
+use Rattle.folder_io.specs.declared.fault.FolderLimit.TheVariants.{TableFile}
 use Rattle.folder_io.specs.declared.fault.FolderFault.{FolderFault}
 use Rattle.folder_io.specs.declared.fault.FolderFault.TheVariants.{Missing}
 use Rattle.folder_io.specs.Answers.{◌>>=◌, each_of}
-use Rattle.folder_io.specs.Folders.{Bytes, marked, marker_of, within, text_of, texts_of, tables_of, catalogue_of, file_of, marker, table_limit}
+use Rattle.folder_io.specs.Folders.{Bytes, marked, marker_of, within, file_text, text_of, texts_of, tables_of, catalogue_of, file_of, file_length, bytes_of, all_tables, marker, table_limit}
 use Rattle.folder_io.specs.Examples.{File, tree_of, in_folder, empty_files, empty_export, empty_text, empty_catalogue}
 use Rattle.cat_rows.specs.Catalogues.{rows_in}
 use Rattle.folder_io.proofs.Examples.{found, first_of}
@@ -39,9 +42,9 @@ abbrev later_tables : List SysTable
 later_tables = PgAuthMembers ∷ PgDatabase ∷ PgNamespace ∷ PgType ∷ PgEnum ∷ PgClass ∷ PgAttribute ∷ PgAttrdef ∷ PgConstraint ∷ PgIndex ∷ PgSequence ∷ PgRewrite ∷ PgDescription ∷ PgDepend ∷ []
 
 no_authid : texts_of (codes "D") (tree_of (only (codes "1\n"))) ≡ Err (Missing (codes "D/pg_authid.copy"))
-unfolding texts_of each_of text_of
+unfolding texts_of each_of text_of file_text
 no_authid =
-    ap (λ o. within PgAuthid (codes "D/pg_authid.copy") o >>= λ y. each_of (text_of (codes "D") (tree_of (only (codes "1\n")))) later_tables >>= λ ys. Ok (y ∷ ys))
+    ap (λ o. (within TableFile (codes "D/pg_authid.copy") o >>= λ text. Ok (record { table = PgAuthid; text = text })) >>= λ y. each_of (text_of (codes "D") (tree_of (only (codes "1\n")))) later_tables >>= λ ys. Ok (y ∷ ys))
     (found (only (codes "1\n")) (codes "D/pg_authid.copy"))
 
 pub returns-clause-markers : goal.returns-clause-markers
@@ -52,6 +55,10 @@ returns-clause-markers c = record {
   no_line_feed = tried (only (codes "1"));
   longer = tried (only (codes "1\n\n"));
 }
+
+pub returns-clause-names : goal.returns-clause-names
+unfolding digits
+returns-clause-names c = record { marker = refl; table = refl; rows = refl }
 
 pub returns-clause-rows : goal.returns-clause-rows
 unfolding is_utf8 chars encode pieces_after ends_escaping decode_behind row_of fields_of field_of lines cell_at cells_at row_start cells_of table_from table_of
@@ -111,13 +118,29 @@ reads PgRewrite = refl
 reads PgDescription = refl
 reads PgDepend = refl
 
+-- the bytes of these tables' files
+tables_length : (tables : List SysTable) → sum_by (file_length (codes "D") empty_export) (map Table tables) ≡ sum_by (λ table. length (empty_text table)) tables
+tables_length [] = refl
+tables_length (table ∷ tables) =
+    sum_by-cons (file_length (codes "D") empty_export) (Table table) (map Table tables)
+    ∙ ap (λ o. length (unwrap_or o []) + sum_by (file_length (codes "D") empty_export) (map Table tables)) (found empty_files (file_of (codes "D") (Table table)) ∙ there table)
+    ∙ ap (λ n. length (empty_text table) + n) (tables_length tables)
+    ∙ sym (sum_by-cons (λ t. length (empty_text t)) table tables)
+
 pub returns-clause-empty_export : goal.returns-clause-empty_export
-returns-clause-empty_export c = stands_read (codes "D") empty_export empty_catalogue (record {
-  marked = found empty_files (file_of (codes "D") Marker);
-  tables = λ table. record {
-    text = empty_text table;
-    there = found empty_files (file_of (codes "D") (Table table)) ∙ there table;
-    fits = fits table;
-    reads = reads table;
-  };
-})
+unfolding bytes_of
+returns-clause-empty_export c = record {
+  reads = stands_read (codes "D") empty_export empty_catalogue (record {
+    marked = found empty_files (file_of (codes "D") Marker);
+    tables = λ table. record {
+      text = empty_text table;
+      there = found empty_files (file_of (codes "D") (Table table)) ∙ there table;
+      fits = fits table;
+      reads = reads table;
+    };
+  });
+  bytes =
+      sum_by-cons (file_length (codes "D") empty_export) Marker (map Table all_tables)
+      ∙ ap (λ o. length (unwrap_or o []) + sum_by (file_length (codes "D") empty_export) (map Table all_tables)) (found empty_files (file_of (codes "D") Marker))
+      ∙ ap (λ n. 2 + n) (tables_length all_tables);
+}

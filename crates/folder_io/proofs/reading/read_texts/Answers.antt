@@ -4,6 +4,7 @@ use Rattle.std.proofs.lemmas.Result.{err_from_is_err_and}
 use Rattle.cat_rows.specs.declared.table.SysTable.TheVariants.{PgAuthid}
 use Rattle.folder_io.specs.Folders.{all_tables, text_of, texts_of}
 use Rattle.folder_io.proofs.Dues.{due_map}
+use Rattle.folder_io.proofs.Lengths.{one_more}
 use Rattle.folder_io.proofs.Steps.{gave, refused, ended}
 use Rattle.folder_io.proofs.TableOrder.{next_table}
 use Rattle.folder_io.proofs.reading.read_texts.Goals as goal
@@ -25,6 +26,7 @@ loop-table-preserved g c = record {
       rw c.in_ok-push.ensures.items (gave (text_of c.args.folder.now tree) all_tables c.loop-table.texts.items c.loop-table.table-index (get_or all_tables c.loop-table.table-index PgAuthid) c.in_ok-text.text c.loop-table-test.true (get_or_default all_tables c.loop-table.table-index _ PgAuthid c.loop-table-test.true) (c.loop-table.invariant.so_far tree told) (c.in_ok-text.ensures.due tree (c.loop-table.invariant.kept ∙ told)));
   tables =
       rw c.in_ok-push.ensures.items (next_table c.loop-table.table-index c.loop-table.texts.items c.in_ok-text.text (get_or all_tables c.loop-table.table-index PgAuthid) c.loop-table-test.true (get_or_default all_tables c.loop-table.table-index _ PgAuthid c.loop-table-test.true) c.in_ok-text.ensures.table c.loop-table.invariant.tables);
+  limited = rw c.in_ok-push.ensures.items (one_more c.loop-table.texts.items c.in_ok-text.text c.loop-table.table-index c.loop-table.invariant.limited c.in_ok-text.ensures.limited);
 }
 
 pub returns-clause-due : goal.returns-clause-due

@@ -1,5 +1,0 @@
-use Rattle.cat_model.proofs.Exchange.{outcome_stays, within_stays, next-commute}
-use Rattle.cat_model.proofs.laws.trees_change_places.Goals as goal
-
-pub returns : goal.returns
-returns c = record { says = outcome_stays; within = within_stays; leaves = next-commute }

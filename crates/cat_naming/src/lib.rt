@@ -1,0 +1,20 @@
+//! What all tables of a catalogue, with the rows of its tables, stand for by names.
+#![tactic(auto)]
+
+mod checks;
+mod cluster;
+mod columns;
+mod comments;
+mod constraints;
+mod entries;
+pub mod laws;
+mod named;
+mod naming;
+mod paths;
+mod relations;
+mod sequences;
+mod texts;
+mod types;
+
+pub use named::catalogue_named;
+pub use naming::Naming;

@@ -1,0 +1,9 @@
+use Rattle.std.proofs.Common.{length}
+use Rattle.data_rows.proofs.RowLemmas.{Kept}
+use Rattle.data_rows.proofs.check.check_rows.Given as goal
+
+abbrev pub invariant-loop-line : goal.invariant-loop-line
+invariant-loop-line l = Kept l.columns l.text l.rest l.count
+
+abbrev pub decreases-loop-line : goal.decreases-loop-line
+decreases-loop-line l = length l.rest

@@ -1,0 +1,7 @@
+//! Export folders, read whole: the catalogue, and the rows of its tables.
+#![tactic(auto)]
+
+pub mod laws;
+mod reading;
+
+pub use reading::{Export, read_export};

@@ -1,0 +1,97 @@
+//! A folder read as an export.
+ghost use Rattle.std.specs.Prelude.{◌≡◌, Some, None};
+ghost use Rattle.dump_ports.specs.Tree.{Tree};
+ghost use Rattle.table_rows.specs.Values.{values_fault};
+ghost use Rattle.folder_io.specs.Folders.{bytes_of};
+ghost use Rattle.tool_words.specs.Answers.{Gives, CountsRead};
+ghost use Rattle.exports.specs.Exports.{export_with, export_of};
+
+use cat_check::WellFormed;
+use cat_names::DataSet;
+use cat_rows::Catalogue;
+use copy_text::Text;
+use dump_ports::Files;
+use folder_io::read_catalogue;
+use folder_rows::read_rows;
+use std::alloc::Global;
+use std::marker::Model;
+use table_rows::check_values;
+use tool_words::Outcome;
+
+/// What an export folder holds: a catalogue that is well-formed, and texts that hold rows of its tables. A contract sees
+/// the record of both.
+#[derive(Drop)]
+pub struct Export {
+    cat: WellFormed,
+    rows: DataSet,
+}
+
+impl Model for Export {
+    ghost use Rattle.std.specs.Coded.{codes};
+    ghost use Rattle.exports.specs.Exports.{Exported, texts_code};
+
+    ghost Value = { Exported };
+
+    ghost coded = { Prim.hlevel (codes, texts_code) };
+
+    ghost use Rattle.std.specs.Prelude.{◌≡◌, None};
+    ghost use Rattle.table_rows.specs.Values.{values_fault};
+
+    ghost view = { λ e. record { cat = e.cat; rows = e.rows } };
+
+    ghost invariant = { λ e. values_fault e.cat e.rows ≡ None };
+}
+
+impl Export {
+    /// Its catalogue.
+    pub fn catalogue(&self) -> &WellFormed
+        ensures { result.now ≡ self.now.cat }
+    {
+        &self.cat
+    }
+
+    /// The texts of its tables' rows. Each table has one, and it holds rows of the table.
+    pub fn rows(&self) -> &DataSet
+        ensures rows { result.now ≡ self.now.rows }
+        ensures hold { values_fault self.now.cat self.now.rows ≡ None }
+    {
+        &self.rows
+    }
+}
+
+/// Reads an export folder. The first step that refuses is the answer: the marker and the tables of the catalogue are
+/// read; the catalogue is well-formed; the data files of its tables are read, by rising oid; and each of their texts
+/// holds rows of its table, in the same order.
+///
+/// `Missing`, `BadExport`, `OutOfProfile` and `TooLarge` are told as these steps meet them. `ReadFault` comes exactly
+/// where a call of the files failed, and `Memory` may come for any folder.
+#[tactic(auto, unfolding(crate::specs::Exports::export_of))]
+pub fn read_export<F: Files>(alloc: Global, files: &mut F, folder: &Text) -> Result<Export, Outcome>
+    ensures due { (tree : Tree) → F.tree files.old ≡ Some tree → Gives (λ export. export) result (export_of folder.now tree) }
+    ensures kept { F.tree files.new ≡ F.tree files.old }
+    ensures read_count { CountsRead result (F.read_faults files.old) (F.read_faults files.new) }
+    ensures write_count { F.write_faults files.new ≡ F.write_faults files.old }
+{
+    let read = read_catalogue(alloc, files, folder)?;
+    read_behind(alloc, files, folder, read.cat, read.bytes)
+}
+
+/// What stands behind the tables of the catalogue, whose files have so many bytes.
+#[tactic(auto, unfolding(crate::specs::Exports::export_with))]
+fn read_behind<F: Files>(
+    alloc: Global,
+    files: &mut F,
+    folder: &Text,
+    cat: Catalogue,
+    bytes: u64,
+) -> Result<Export, Outcome>
+    ensures due { (tree : Tree) → F.tree files.old ≡ Some tree → Gives (λ export. export) result (export_with folder.now bytes cat tree) }
+    ensures kept { F.tree files.new ≡ F.tree files.old }
+    ensures read_count { CountsRead result (F.read_faults files.old) (F.read_faults files.new) }
+    ensures write_count { F.write_faults files.new ≡ F.write_faults files.old }
+{
+    let cat = WellFormed::check(alloc, cat)?;
+    let rows = read_rows(alloc, files, folder, cat.rows(), bytes)?;
+    check_values(alloc, cat.rows(), &rows)?;
+    Ok(Export { cat, rows })
+}

@@ -1,0 +1,6 @@
+mod ByNumber
+mod Found
+mod OneOrder
+mod Places
+mod Placing
+pub mod Rows

@@ -1,0 +1,4 @@
+pub mod Examples
+pub mod Groups
+pub mod Orders
+pub mod Sorted

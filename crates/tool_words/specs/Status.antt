@@ -1,0 +1,17 @@
+-- The exit status of each outcome.
+-- Everything but Done is an error; want of memory has a status of its own.
+use Rattle.std.specs.Prelude.{ℕ}
+use Rattle.ddl_read.specs.declared.fault.ReadStmtsError.{ReadStmtsError}
+use Rattle.ddl_read.specs.declared.fault.ReadStmtsError.TheVariants as errors
+use Rattle.tool_words.specs.declared.outcome.Outcome.{Outcome}
+use Rattle.tool_words.specs.declared.outcome.Outcome.TheVariants.{Done, BadScript, Memory}
+
+abbrev pub status_of : Outcome → ℕ
+status_of Done = 0
+status_of Memory = 71
+status_of _ = 1
+
+-- the outcome where a script isn't read
+abbrev pub script_outcome : ReadStmtsError → Outcome
+script_outcome (errors.Fault fault) = BadScript fault
+script_outcome errors.Memory = Memory

@@ -1,0 +1,225 @@
+//! What a call of the program comes to.
+ghost use Rattle.std.specs.Prelude.{◌≡◌, ℕ};
+ghost use Rattle.tool_words.specs.Status.{status_of, script_outcome};
+ghost use Rattle.tool_words.specs.Outcomes.{export_fault, limit_of, folder_outcome, fault_outcome, check_outcome, values_cause, values_outcome, check_values_outcome};
+ghost use Rattle.tool_words.specs.declared.outcome.Outcome.TheVariants as outcomes;
+
+use crate::keys::Difference;
+use cat_model::{Cause, What};
+use cat_names::{CatFault, CheckError, FaultKind};
+use cat_rows::RowFault;
+use copy_text::Text;
+use data_rows::DataFault;
+use ddl_read::{DdlFault, ReadStmtsError};
+use folder_io::{ExportFile, ExportKind, FolderFault, FolderLimit};
+use std::alloc::AllocError;
+use table_rows::{CheckValuesError, ValuesFault};
+
+/// Why the words of a command line have no reading. Words count from 0.
+#[derive(Clone, Copy, Debug, PartialEq, Eq)]
+pub enum UsageKind {
+    /// There are no words.
+    NoCommand,
+    /// The words aren't of a form that the program has.
+    UnknownCommand,
+    /// The word isn't UTF-8.
+    BadValue,
+}
+
+/// Which limit is passed.
+#[derive(Clone, Copy, Debug, PartialEq, Eq)]
+pub enum Limit {
+    /// A script has at most 268,435,456 bytes.
+    Script,
+    /// The file of one system table has at most 134,217,728 bytes.
+    TableFile,
+    /// The file of one table's rows has at most 134,217,728 bytes.
+    DataFile,
+    /// The files of one folder have at most 268,435,456 bytes together.
+    Folder,
+    /// A dump has at most 200,000 entries.
+    Entries,
+}
+
+/// What is wrong with a place of an export folder.
+#[derive(Debug, PartialEq, Eq, Drop)]
+pub enum ExportFault {
+    /// The marker isn't that of version 1.
+    Version,
+    /// The line is no row of its table.
+    Row(RowFault),
+    /// The row doesn't fit to the others.
+    Cat(FaultKind),
+    /// The line is no row of the user's table: `BadRow` or `Fields`.
+    Values(Cause),
+}
+
+/// What a call of the program comes to.
+#[derive(Debug, Drop)]
+pub enum Outcome {
+    /// The input was read to its end and the output is written.
+    Done,
+    /// The words have no reading.
+    Usage {
+        /// The first word that fails.
+        word: usize,
+        /// Why.
+        kind: UsageKind,
+    },
+    /// Reading failed.
+    ReadFault,
+    /// Writing failed.
+    WriteFault,
+    /// A file that is needed is absent; its whole path.
+    Missing(Text),
+    /// The first place of an export folder that fails.
+    BadExport {
+        /// The file.
+        file: ExportFile,
+        /// The line, counted from 1; a row that must be there and isn't counts at the line after the last.
+        line: u64,
+        /// What is wrong.
+        kind: ExportFault,
+    },
+    /// The script has no reading; the first place where it has none.
+    BadScript(DdlFault),
+    /// Something is met that the program doesn't support.
+    OutOfProfile(What),
+    /// A limit is passed. Where it is one of bytes, the number is the limit and one more; of entries it is their number.
+    TooLarge(Limit, u64),
+    /// Two folders stand for different catalogues by names; the least key at which they differ.
+    Differs(Difference),
+    /// Memory ran out.
+    Memory,
+}
+
+impl Outcome {
+    /// The exit status: 0 for `Done`, 71 for `Memory`, as `EX_OSERR` of sysexits.h, and 1 for all others.
+    pub fn status(&self) -> u8
+        ensures { result ≡ status_of self.now }
+    {
+        match self {
+            Outcome::Done => 0,
+            Outcome::Memory => 71,
+            _ => 1,
+        }
+    }
+}
+
+impl From<AllocError> for Outcome {
+    ghost from_gives = { λ _ outcome. outcome ≡ outcomes.Memory };
+
+    fn from(_error: AllocError) -> Outcome {
+        Outcome::Memory
+    }
+}
+
+impl From<ReadStmtsError> for Outcome {
+    ghost from_gives = { λ error outcome. outcome ≡ script_outcome error };
+
+    fn from(error: ReadStmtsError) -> Outcome {
+        match error {
+            ReadStmtsError::Fault(fault) => Outcome::BadScript(fault),
+            ReadStmtsError::Memory => Outcome::Memory,
+        }
+    }
+}
+
+impl From<FolderFault> for Outcome {
+    ghost from_gives = { λ fault outcome. outcome ≡ folder_outcome fault };
+
+    fn from(fault: FolderFault) -> Outcome {
+        match fault {
+            FolderFault::Failed => Outcome::ReadFault,
+            FolderFault::Missing(name) => Outcome::Missing(name),
+            FolderFault::BadExport { file, line, kind } => Outcome::BadExport {
+                file,
+                line,
+                kind: export_fault(kind),
+            },
+            FolderFault::TooLarge(limit, most) => Outcome::TooLarge(limit_of(limit), most),
+            FolderFault::Memory => Outcome::Memory,
+        }
+    }
+}
+
+/// What is wrong with a place, as reading the folder tells it.
+fn export_fault(kind: ExportKind) -> ExportFault
+    ensures { result ≡ export_fault kind }
+{
+    match kind {
+        ExportKind::Version => ExportFault::Version,
+        ExportKind::Row(fault) => ExportFault::Row(fault),
+    }
+}
+
+/// The limit, as reading a folder tells it.
+fn limit_of(limit: FolderLimit) -> Limit
+    ensures { result ≡ limit_of limit }
+{
+    match limit {
+        FolderLimit::TableFile => Limit::TableFile,
+        FolderLimit::DataFile => Limit::DataFile,
+        FolderLimit::Folder => Limit::Folder,
+    }
+}
+
+impl From<CheckError> for Outcome {
+    ghost from_gives = { λ error outcome. outcome ≡ check_outcome error };
+
+    fn from(error: CheckError) -> Outcome {
+        match error {
+            CheckError::Fault(fault) => fault_outcome(fault),
+            CheckError::Memory => Outcome::Memory,
+        }
+    }
+}
+
+/// The outcome where the rows don't fit together.
+fn fault_outcome(fault: CatFault) -> Outcome
+    ensures { result ≡ fault_outcome fault fault.kind }
+{
+    let CatFault { table, line, kind } = fault;
+    match kind {
+        FaultKind::OutOfProfile(what) => Outcome::OutOfProfile(what),
+        kind => Outcome::BadExport {
+            file: ExportFile::Table(table),
+            line,
+            kind: ExportFault::Cat(kind),
+        },
+    }
+}
+
+impl From<CheckValuesError> for Outcome {
+    ghost from_gives = { λ error outcome. outcome ≡ check_values_outcome error };
+
+    fn from(error: CheckValuesError) -> Outcome {
+        match error {
+            CheckValuesError::Fault(fault) => fault.into(),
+            CheckValuesError::Memory => Outcome::Memory,
+        }
+    }
+}
+
+impl From<ValuesFault> for Outcome {
+    ghost from_gives = { λ fault outcome. outcome ≡ values_outcome fault };
+
+    fn from(fault: ValuesFault) -> Outcome {
+        let ValuesFault { table, row, fault } = fault;
+        Outcome::BadExport {
+            file: ExportFile::Data(table),
+            line: row,
+            kind: ExportFault::Values(values_cause(row, fault)),
+        }
+    }
+}
+
+/// What is wrong with a row of a table's rows.
+fn values_cause(row: u64, fault: DataFault) -> Cause
+    ensures { result ≡ values_cause row fault }
+{
+    match fault {
+        DataFault::BadRow(fault) => Cause::BadRow { row, fault },
+        DataFault::Fields(found) => Cause::Fields { row, found },
+    }
+}

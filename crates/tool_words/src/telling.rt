@@ -1,0 +1,181 @@
+//! The line of a call that is refused as a whole.
+ghost use Rattle.std.specs.Prelude.{◌≡◌, ℕ, ◌≤◌, ◌++◌, List, OnOk, OnErr, decimal, codes};
+ghost use Rattle.dump_ports.specs.Faults.{CountsFault};
+ghost use Rattle.folder_io.specs.Folders.{file_name};
+ghost use Rattle.tool_words.specs.Messages.{kind_text, limit_text, what_text, outcome_text, outcome_line};
+ghost use Rattle.tool_words.specs.Lines.{Appends, AppendsPart};
+
+use crate::outcome::{Limit, Outcome, UsageKind};
+use crate::words::Tool;
+use cat_model::What;
+use dump_ports::{Failed, Sink, write_all};
+use folder_io::ExportFile;
+use itoa::Buffer;
+
+/// Writes the line of a refusal to standard error. After an error a first part of it was written.
+pub fn tell<E: Sink>(err: &mut E, tool: Tool, outcome: &Outcome) -> Result<(), Failed>
+    ensures ok { OnOk result (Appends (outcome_line tool outcome.now) (E.written err.old) (E.written err.new)) }
+    ensures err { OnErr result (AppendsPart (outcome_line tool outcome.now) (E.written err.old) (E.written err.new)) }
+    ensures count { CountsFault result (E.faults err.old) (E.faults err.new) }
+{
+    write_two(err, tool.name().as_bytes(), b": error: ")?;
+    write_outcome(err, outcome)?;
+    write_bytes(err, b"\n")
+}
+
+/// Writes the text of a refusal.
+fn write_outcome<E: Sink>(err: &mut E, outcome: &Outcome) -> Result<(), Failed>
+    ensures ok { OnOk result (Appends (outcome_text outcome.now) (E.written err.old) (E.written err.new)) }
+    ensures err { OnErr result (AppendsPart (outcome_text outcome.now) (E.written err.old) (E.written err.new)) }
+    ensures count { CountsFault result (E.faults err.old) (E.faults err.new) }
+{
+    match outcome {
+        Outcome::Done => Ok(()),
+        Outcome::Usage { word, kind } => write_numbered(err, b"word ", *word, kind_text(*kind)),
+        Outcome::ReadFault => write_bytes(err, b"could not read"),
+        Outcome::WriteFault => write_bytes(err, b"could not write"),
+        Outcome::Missing(name) => write_two(err, b"missing file ", name.as_bytes()),
+        Outcome::BadExport { file, line, .. } => write_place(err, *file, *line),
+        Outcome::BadScript(fault) => write_numbered(err, b"bad script at ", fault.place(), b""),
+        Outcome::OutOfProfile(what) => write_two(err, b"not supported: ", what_text(what)),
+        Outcome::TooLarge(limit, _) => write_two(err, b"too large: ", limit_text(*limit)),
+        Outcome::Differs(difference) => write_two(err, b"differs: ", difference.text()),
+        Outcome::Memory => write_bytes(err, b"out of memory"),
+    }
+}
+
+/// Writes a text. After an error a first part of it was written.
+pub fn write_bytes<E: Sink>(err: &mut E, bytes: &[u8]) -> Result<(), Failed>
+    ensures ok { OnOk result (Appends bytes.now (E.written err.old) (E.written err.new)) }
+    ensures err { OnErr result (AppendsPart bytes.now (E.written err.old) (E.written err.new)) }
+    ensures count { CountsFault result (E.faults err.old) (E.faults err.new) }
+{
+    write_all(err, bytes)
+}
+
+/// Writes two texts.
+fn write_two<E: Sink>(err: &mut E, one: &[u8], two: &[u8]) -> Result<(), Failed>
+    ensures ok { OnOk result (Appends (one.now ++ two.now) (E.written err.old) (E.written err.new)) }
+    ensures err { OnErr result (AppendsPart (one.now ++ two.now) (E.written err.old) (E.written err.new)) }
+    ensures count { CountsFault result (E.faults err.old) (E.faults err.new) }
+{
+    write_bytes(err, one)?;
+    write_bytes(err, two)
+}
+
+/// Writes a text with a number in it.
+fn write_numbered<E: Sink>(
+    err: &mut E,
+    before: &[u8],
+    number: usize,
+    behind: &[u8],
+) -> Result<(), Failed>
+    ensures ok { OnOk result (Appends (before.now ++ decimal number ++ behind.now) (E.written err.old) (E.written err.new)) }
+    ensures err { OnErr result (AppendsPart (before.now ++ decimal number ++ behind.now) (E.written err.old) (E.written err.new)) }
+    ensures count { CountsFault result (E.faults err.old) (E.faults err.new) }
+{
+    write_bytes(err, before)?;
+    write_number(err, number)?;
+    write_bytes(err, behind)
+}
+
+/// Writes the place of a file that fails.
+fn write_place<E: Sink>(err: &mut E, file: ExportFile, line: u64) -> Result<(), Failed>
+    ensures ok { OnOk result (Appends (codes "bad export " ++ file_name file ++ codes " line " ++ decimal line) (E.written err.old) (E.written err.new)) }
+    ensures err { OnErr result (AppendsPart (codes "bad export " ++ file_name file ++ codes " line " ++ decimal line) (E.written err.old) (E.written err.new)) }
+    ensures count { CountsFault result (E.faults err.old) (E.faults err.new) }
+{
+    write_file(err, file)?;
+    write_line(err, line)
+}
+
+/// Writes the name of a file behind its words.
+fn write_file<E: Sink>(err: &mut E, file: ExportFile) -> Result<(), Failed>
+    ensures ok { OnOk result (Appends (codes "bad export " ++ file_name file) (E.written err.old) (E.written err.new)) }
+    ensures err { OnErr result (AppendsPart (codes "bad export " ++ file_name file) (E.written err.old) (E.written err.new)) }
+    ensures count { CountsFault result (E.faults err.old) (E.faults err.new) }
+{
+    write_bytes(err, b"bad export ")?;
+    write_name(err, file)
+}
+
+/// Writes the name of a file.
+fn write_name<E: Sink>(err: &mut E, file: ExportFile) -> Result<(), Failed>
+    ensures ok { OnOk result (Appends (file_name file) (E.written err.old) (E.written err.new)) }
+    ensures err { OnErr result (AppendsPart (file_name file) (E.written err.old) (E.written err.new)) }
+    ensures count { CountsFault result (E.faults err.old) (E.faults err.new) }
+{
+    let mut digits = Buffer::new();
+    let (before, number, behind) = file.name_parts(&mut digits);
+    write_two(err, before.as_bytes(), number.as_bytes())?;
+    write_bytes(err, behind.as_bytes())
+}
+
+/// Writes the number of a line behind its word.
+fn write_line<E: Sink>(err: &mut E, line: u64) -> Result<(), Failed>
+    ensures ok { OnOk result (Appends (codes " line " ++ decimal line) (E.written err.old) (E.written err.new)) }
+    ensures err { OnErr result (AppendsPart (codes " line " ++ decimal line) (E.written err.old) (E.written err.new)) }
+    ensures count { CountsFault result (E.faults err.old) (E.faults err.new) }
+{
+    let mut buffer = Buffer::new();
+    write_two(err, b" line ", buffer.format(line).as_bytes())
+}
+
+/// Writes a number.
+fn write_number<E: Sink>(err: &mut E, number: usize) -> Result<(), Failed>
+    ensures ok { OnOk result (Appends (decimal number) (E.written err.old) (E.written err.new)) }
+    ensures err { OnErr result (AppendsPart (decimal number) (E.written err.old) (E.written err.new)) }
+    ensures count { CountsFault result (E.faults err.old) (E.faults err.new) }
+{
+    let mut buffer = Buffer::new();
+    write_bytes(err, buffer.format(number).as_bytes())
+}
+
+/// What stands behind the number of a word.
+fn kind_text(kind: UsageKind) -> &'static [u8]
+    ensures { result.now ≡ codes ": " ++ kind_text kind }
+{
+    match kind {
+        UsageKind::NoCommand => b": NoCommand",
+        UsageKind::UnknownCommand => b": UnknownCommand",
+        UsageKind::BadValue => b": BadValue",
+    }
+}
+
+fn limit_text(limit: Limit) -> &'static [u8]
+    ensures { result.now ≡ limit_text limit }
+{
+    match limit {
+        Limit::Script => b"Script",
+        Limit::TableFile => b"TableFile",
+        Limit::DataFile => b"DataFile",
+        Limit::Folder => b"Folder",
+        Limit::Entries => b"Entries",
+    }
+}
+
+fn what_text(what: &What) -> &'static [u8]
+    ensures { result.now ≡ what_text what.now }
+{
+    match what {
+        What::Gzip => b"Gzip",
+        What::Lz4 => b"Lz4",
+        What::Zstd => b"Zstd",
+        What::Tar => b"Tar",
+        What::LargeObjects => b"LargeObjects",
+        What::RelKind(_) => b"RelKind",
+        What::Persistence => b"Persistence",
+        What::TypeKind(_) => b"TypeKind",
+        What::ConstraintKind(_) => b"ConstraintKind",
+        What::Encoding => b"Encoding",
+        What::Identity => b"Identity",
+        What::Inheritance => b"Inheritance",
+        What::Tablespace => b"Tablespace",
+        What::GrantByOther => b"GrantByOther",
+        What::CommentKind => b"CommentKind",
+        What::DefaultOnView => b"DefaultOnView",
+        What::Columns => b"Columns",
+        What::EntryKind(_) => b"EntryKind",
+        What::Unbuilt => b"Unbuilt",
+    }
+}

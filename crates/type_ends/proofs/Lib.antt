@@ -1,0 +1,5 @@
+pub mod LabelsAt
+pub mod Numbered
+pub mod Reached
+pub mod SameLabels
+pub mod Trails

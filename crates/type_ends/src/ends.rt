@@ -1,0 +1,64 @@
+//! The ends of chains of domains, and the labels of enums.
+ghost use Rattle.std.specs.Prelude.{◌≡◌, ◌↔◌, IsTrue};
+ghost use Rattle.type_ends.specs.Enums.{labels_seen};
+
+use cat_model::TypeName;
+use copy_text::Text;
+use std::marker::Model;
+
+/// The labels of an enum, in the order of their positions. A contract sees the list of their bytes.
+#[derive(Drop)]
+pub struct Labels<'a> {
+    labels: Vec<&'a Text>,
+}
+
+impl<'a> Model for Labels<'a> {
+    ghost use Rattle.std.specs.Prelude.{List};
+    ghost use Rattle.cat_model.specs.Values.{Bytes};
+    ghost use Rattle.type_ends.specs.Enums.{labels_seen};
+
+    ghost Value = { List Bytes };
+
+    ghost view = { λ l. labels_seen l.labels.items };
+}
+
+impl<'a> Labels<'a> {
+    /// These labels.
+    pub fn new(labels: Vec<&'a Text>) -> Labels<'a>
+        ensures { result ≡ labels_seen labels.entry.items }
+    {
+        Labels { labels }
+    }
+
+    /// Whether the same labels stand in the same order.
+    pub fn is_same(&self, other: &Labels<'_>) -> bool
+        ensures { IsTrue result ↔ (self.now ≡ other.now) }
+    {
+        are_same(&self.labels, &other.labels)
+    }
+}
+
+// Whether these texts are the same in the same order.
+fn are_same(labels: &[&Text], others: &[&Text]) -> bool
+    ensures { IsTrue result ↔ (labels_seen labels.now ≡ labels_seen others.now) }
+{
+    labels == others
+}
+
+/// A type that is no domain, at the end of a chain of domains: an enum with its labels, or a type without a row.
+#[derive(Drop)]
+pub struct Base<'a> {
+    /// The type.
+    pub type_name: TypeName,
+    /// The labels of an enum; `None` for any other type.
+    pub labels: Option<Labels<'a>>,
+}
+
+/// What a type of pg_type is at the end of its chain of domains.
+#[derive(Clone, Copy)]
+pub struct TypeEnd<'a> {
+    /// The type at the end.
+    pub base: &'a Base<'a>,
+    /// Whether a domain of the chain takes no null.
+    pub not_null: bool,
+}

@@ -1,0 +1,12 @@
+//! What types are at the ends of their chains of domains.
+#![tactic(auto)]
+
+mod all_ends;
+mod bases;
+mod ends;
+mod enums;
+mod jumps;
+pub mod laws;
+
+pub use all_ends::TypeEnds;
+pub use ends::{Base, Labels, TypeEnd};
