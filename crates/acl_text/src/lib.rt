@@ -11,6 +11,3 @@ pub use list::{Acl, AclItem};
 pub use reading::read_acl;
 pub use rights::{Privilege, Right, Rights};
 pub use writing::write_acl;
-
-#[cfg(test)]
-mod tests;

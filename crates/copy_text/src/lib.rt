@@ -22,6 +22,3 @@ pub use reading::read_row;
 pub use row::Row;
 pub use text::Text;
 pub use writing::write_row;
-
-#[cfg(test)]
-mod tests;

@@ -9,6 +9,3 @@ mod roles;
 pub use comments::comment_on;
 pub use databases::create_database;
 pub use roles::{alter_role, create_role};
-
-#[cfg(test)]
-mod tests;

@@ -7,6 +7,3 @@ mod meta_lines;
 
 pub use copy_rows::{Rows, RowsError, rows_behind};
 pub use meta_lines::{MetaError, meta_line};
-
-#[cfg(test)]
-mod tests;

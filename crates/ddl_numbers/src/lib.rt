@@ -5,6 +5,3 @@ pub mod laws;
 mod numbers;
 
 pub use numbers::{LIMIT, count_first, opposite, whole_number};
-
-#[cfg(test)]
-mod tests;

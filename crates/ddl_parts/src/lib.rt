@@ -14,6 +14,3 @@ pub use collecting::{Run, collect};
 pub use fault::{Halt, ReadError};
 pub use pieces::{Piece, Pieces};
 pub use qualified::qualified_name;
-
-#[cfg(test)]
-mod tests;

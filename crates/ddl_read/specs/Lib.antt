@@ -10,10 +10,3 @@ pub mod ValueGrammar
 pub mod Grammar
 pub mod Faults
 pub mod Reading
-pub mod Readings
-pub mod Examples
-pub mod AlterExamples
-pub mod SequenceExamples
-pub mod CopyExamples
-pub mod RightsExamples
-pub mod Respelling

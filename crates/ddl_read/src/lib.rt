@@ -6,7 +6,6 @@ mod columns;
 mod copying;
 mod fault;
 mod kinds;
-pub mod laws;
 mod located;
 mod reading;
 mod relations;
@@ -18,6 +17,3 @@ mod values;
 pub use fault::{DdlFault, ReadStmtsError};
 pub use located::Located;
 pub use reading::read_stmts;
-
-#[cfg(test)]
-mod tests;

@@ -7,6 +7,3 @@ mod memberships;
 mod rights;
 
 pub use grants::{granted, revoked};
-
-#[cfg(test)]
-mod tests;

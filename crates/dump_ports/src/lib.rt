@@ -28,6 +28,3 @@ pub use moment::Moment;
 pub use sink::Sink;
 pub use source::Source;
 pub use whole::{WholeFault, read_all, read_whole, write_all};
-
-#[cfg(test)]
-mod tests;

@@ -1,6 +1,1 @@
 pub mod OrderLemmas
-pub mod Pieces
-pub mod Shown
-pub mod ScriptPieces
-pub mod Collecting
-pub mod Taken

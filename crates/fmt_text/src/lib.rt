@@ -11,6 +11,3 @@ mod script;
 pub use laws::worked_examples;
 pub use options::Options;
 pub use script::script_text;
-
-#[cfg(test)]
-mod tests;

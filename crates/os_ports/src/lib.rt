@@ -12,6 +12,3 @@ mod streams;
 pub use clock::moment_now;
 pub use files::OsFiles;
 pub use streams::{OsErr, OsIn, OsOut};
-
-#[cfg(test)]
-mod tests;

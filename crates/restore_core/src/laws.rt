@@ -11,7 +11,7 @@ ghost use Rattle.restore_core.specs.Machine.{Going, State, first, enabled, IsLeg
 ghost use Rattle.restore_core.specs.Phases.{is_running};
 ghost use Rattle.restore_core.specs.declared.event.Event.{Event};
 
-use cat_model::trees_change_places;
+use model_laws::trees_change_places;
 use restore_plan::plans_stay_in_places;
 
 /// In every legal history so far the catalogue is what the statements that each entry has run make of the opening, one

@@ -5,8 +5,6 @@ mod event;
 mod examples;
 mod laws;
 mod phase;
-#[cfg(test)]
-mod tests;
 
 pub use event::Event;
 pub use examples::same_in_every_schedule;

@@ -8,7 +8,7 @@ ghost use Rattle.restore_plan.specs.Places.{Given, InPlaces};
 ghost use Rattle.restore_plan.specs.Serial.{serial};
 ghost use Rattle.restore_plan.specs.declared.status.EntryStatus.{EntryStatus};
 
-use cat_model::{only_writes_change, statements_stay_within_footprints};
+use model_laws::{only_writes_change, statements_stay_within_footprints};
 
 /// Each statement of each entry stays within the entry's footprint in the entry's place: wherever the foreign keys are
 /// those of the opening and of the entries so far.

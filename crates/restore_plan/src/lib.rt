@@ -10,6 +10,3 @@ pub use examples::{one_schema_twice, parents_and_children};
 pub use kind::Kind;
 pub use laws::{chains_skip, plans_stay_in_places};
 pub use status::{EntryStatus, Note};
-
-#[cfg(test)]
-mod tests;

@@ -22,6 +22,3 @@ pub use meaning::{is_keyword, literal_text, token_name};
 pub use next::{next_token, tokens};
 pub use token::{Token, TokenKind};
 pub use write::{write_literal, write_name};
-
-#[cfg(test)]
-mod tests;

@@ -6,8 +6,6 @@ mod objects;
 mod parts;
 mod reads;
 mod single;
-#[cfg(test)]
-mod tests;
 mod whole;
 mod writes;
 

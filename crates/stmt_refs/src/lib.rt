@@ -12,6 +12,3 @@ mod view;
 pub use columns::plain_columns;
 pub use expression::expr_refs;
 pub use view::view_refs;
-
-#[cfg(test)]
-mod tests;

@@ -1,0 +1,536 @@
+-- A default is written with the tokens that it has, with NOT NULL behind it or without; and what is read of a text as a
+-- default can be written.
+use Rattle.std.proofs.Common.{◌≡◌, ℕ, ◌+◌, ◌-◌, Bool, true, false, cond, List, [], ◌∷◌, ◌++◌, length, length-append, append_assoc, append-nil, take, drop, Option, Some, None, refl, sym, ap, subst, ◌∙◌, ◌⊎◌, arith, inl, inr, codes, option_and_then}
+use Rattle.std.specs.Str.{is_utf8, chars}
+use Rattle.std.proofs.Math.Utf8.{encode}
+use Rattle.std.proofs.lemmas.Bool.{and_parts, and_from}
+use Rattle.std.proofs.lemmas.List.{take_at, drop_at}
+use Rattle.sql_lex.specs.declared.token.TokenKind.{TokenKind}
+use Rattle.sql_lex.specs.declared.token.TokenKind.TheVariants.{Word, QuotedName, Literal, Number, Sign, MetaLine}
+use Rattle.sql_lex.specs.Bytes.{begins_word, in_word, is_digit}
+use Rattle.sql_lex.specs.Meaning.{is_keyword_of}
+use Rattle.ddl_parts.specs.declared.runs.Bracket.{Bracket}
+use Rattle.ddl_parts.specs.declared.runs.Spot.{Spot}
+use Rattle.ddl_parts.specs.declared.runs.Spot.TheVariants.{First, FirstNot, LaterNot, Inside, Closed as Shut}
+use Rattle.ddl_parts.specs.Lexemes.{Lexeme, spelled, source, is_word, is_sign}
+use Rattle.ddl_parts.specs.Parts.{run, Runs}
+use Rattle.ddl_parts.specs.Expressions.{Nest, nested, nest_step, nest_done, ends_run, behind_kind, behind_not, behind_null, behind_other, is_inside, moved, step_by, default_text, default_and_null, are_not_null, without_not_null}
+use Rattle.ddl_parts.proofs.Leads.{words_apart}
+use Rattle.ddl_laws.specs.Respelling.{IsDefaultText}
+use Rattle.ddl_laws.proofs.Standing.{Stood, placed}
+use Rattle.ddl_laws.proofs.Kept.{AllCame, came_front}
+use Rattle.ddl_laws.proofs.Tokens.{Gap, space, word_token, a_word}
+use Rattle.ddl_laws.proofs.RunTexts.{AllPlain, IsSafe, not_some, run_none, run-append, placed-append, run_kept, run_read, safe_word}
+use Rattle.ddl_laws.proofs.Expressions.{nested_plain}
+
+-- ---- steps of the two machines of defaults
+
+abbrev nest : List Bracket → Spot → Nest
+nest brackets spot = record { brackets = brackets; spot = spot }
+
+-- outside brackets, by what the token is: one that ends a run, NOT, NULL
+abbrev outside : Bool → Spot → TokenKind → Bool → Bool → Bool → Option Nest
+outside takes spot kind ends is_not is_null = cond ends None (cond is_not (behind_not spot) (cond is_null (behind_null takes spot) (behind_other kind spot)))
+
+abbrev is_shut : Spot → Bool
+is_shut Shut = true
+is_shut _ = false
+
+abbrev is_later : Spot → Bool
+is_later LaterNot = true
+is_later _ = false
+
+-- a property of what a step leads to
+passed : (P : Nest → Type 0) (y x : Nest) → Some y ≡ Some x → P y → P x
+passed P y x e h = let same : y ≡ x = cc in subst P same h
+
+moved_inside : (o : Option (List Bracket)) (x : Nest) → moved o ≡ Some x → x.spot ≡ Inside
+moved_inside None x e = absurd cc
+moved_inside (Some bs) x e = passed (λ y. y.spot ≡ Inside) (nest bs Inside) x e refl
+
+other_inside : (kind : TokenKind) (spot : Spot) (x : Nest) → behind_other kind spot ≡ Some x → x.spot ≡ Inside
+other_inside kind First x e = moved_inside (behind_kind kind []) x e
+other_inside kind FirstNot x e = moved_inside (behind_kind kind []) x e
+other_inside kind LaterNot x e = moved_inside (behind_kind kind []) x e
+other_inside kind Inside x e = moved_inside (behind_kind kind []) x e
+other_inside kind Shut x e = absurd cc
+
+-- where NOT NULL isn't taken, a run goes on as where it is
+null_more : (spot : Spot) (x : Nest) → behind_null false spot ≡ Some x → behind_null true spot ≡ Some x
+null_more First x e = e
+null_more FirstNot x e = e
+null_more LaterNot x e = absurd cc
+null_more Inside x e = e
+null_more Shut x e = e
+
+outside_more : (spot : Spot) (kind : TokenKind) (ends is_not is_null : Bool) (x : Nest) → outside false spot kind ends is_not is_null ≡ Some x → outside true spot kind ends is_not is_null ≡ Some x
+outside_more spot kind true is_not is_null x e = e
+outside_more spot kind false true is_null x e = e
+outside_more spot kind false false true x e = null_more spot x e
+outside_more spot kind false false false x e = e
+
+step_more : (s x : Nest) (t : Lexeme) → nest_step true false s t ≡ Some x → nest_step true true s t ≡ Some x
+unfolding nest_step
+step_more s x t e = by s.brackets e
+  where
+    by : (bs : List Bracket) → step_by true false s.spot t bs ≡ Some x → step_by true true s.spot t bs ≡ Some x
+    by [] f = outside_more s.spot t.kind (ends_run true t) (is_word (codes "not") t) (is_word (codes "null") t) x f
+    by (b ∷ bs) f = f
+
+run_more : (s last : Nest) (ts : List Lexeme) → run (nested true false) (Some s) ts ≡ Some last → run (nested true true) (Some s) ts ≡ Some last
+run_more s last [] e = e
+run_more s last (t ∷ ts) e = by (nest_step true false s t) refl (λ x f. run_more x last ts f) e
+  where
+    by : (next : Option Nest) → nest_step true false s t ≡ next → ((x : Nest) → run (nested true false) (Some x) ts ≡ Some last → run (nested true true) (Some x) ts ≡ Some last)
+        → run (nested true false) next ts ≡ Some last → run (nested true true) (Some s) (t ∷ ts) ≡ Some last
+    by None is later f = absurd (not_some last (run (nested true false) None ts) f (run_none (nested true false) ts))
+    by (Some x) is later f = ap (λ o. run (nested true true) o ts) (step_more s x t is) ∙ later x f
+
+-- where NOT NULL isn't taken, no run is behind it
+null_open : (spot : Spot) (x : Nest) → behind_null false spot ≡ Some x → is_shut x.spot ≡ false
+null_open First x e = passed (λ y. is_shut y.spot ≡ false) (nest [] Inside) x e refl
+null_open FirstNot x e = absurd cc
+null_open LaterNot x e = absurd cc
+null_open Inside x e = passed (λ y. is_shut y.spot ≡ false) (nest [] Inside) x e refl
+null_open Shut x e = absurd cc
+
+not_open : (spot : Spot) (x : Nest) → behind_not spot ≡ Some x → is_shut x.spot ≡ false
+not_open First x e = passed (λ y. is_shut y.spot ≡ false) (nest [] FirstNot) x e refl
+not_open FirstNot x e = passed (λ y. is_shut y.spot ≡ false) (nest [] LaterNot) x e refl
+not_open LaterNot x e = passed (λ y. is_shut y.spot ≡ false) (nest [] LaterNot) x e refl
+not_open Inside x e = passed (λ y. is_shut y.spot ≡ false) (nest [] LaterNot) x e refl
+not_open Shut x e = absurd cc
+
+outside_open : (spot : Spot) (kind : TokenKind) (ends is_not is_null : Bool) (x : Nest) → outside false spot kind ends is_not is_null ≡ Some x → is_shut x.spot ≡ false
+outside_open spot kind true is_not is_null x e = absurd cc
+outside_open spot kind false true is_null x e = not_open spot x e
+outside_open spot kind false false true x e = null_open spot x e
+outside_open spot kind false false false x e = ap is_shut (other_inside kind spot x e)
+
+step_open : (s x : Nest) (t : Lexeme) → nest_step true false s t ≡ Some x → is_shut x.spot ≡ false
+unfolding nest_step
+step_open s x t e = by s.brackets e
+  where
+    by : (bs : List Bracket) → step_by true false s.spot t bs ≡ Some x → is_shut x.spot ≡ false
+    by [] f = outside_open s.spot t.kind (ends_run true t) (is_word (codes "not") t) (is_word (codes "null") t) x f
+    by (b ∷ bs) f = ap is_shut (moved_inside (behind_kind t.kind (b ∷ bs)) x f)
+
+run_open : (s last : Nest) (ts : List Lexeme) → is_shut s.spot ≡ false → run (nested true false) (Some s) ts ≡ Some last → is_shut last.spot ≡ false
+run_open s last [] free e = passed (λ y. is_shut y.spot ≡ false) s last e free
+run_open s last (t ∷ ts) free e = by (nest_step true false s t) refl (λ x is f. run_open x last ts is f) e
+  where
+    by : (next : Option Nest) → nest_step true false s t ≡ next → ((x : Nest) → is_shut x.spot ≡ false → run (nested true false) (Some x) ts ≡ Some last → is_shut last.spot ≡ false)
+        → run (nested true false) next ts ≡ Some last → is_shut last.spot ≡ false
+    by None is later f = absurd (not_some last (run (nested true false) None ts) f (run_none (nested true false) ts))
+    by (Some x) is later f = later x (step_open s x t is) f
+
+-- ---- NOT and NULL
+
+-- a word changes no bracket
+word_keeps : (key : List ℕ) (t : Lexeme) (bs : List Bracket) → is_word key t ≡ true → behind_kind t.kind bs ≡ Some bs
+unfolding is_word is_keyword_of
+word_keeps key t bs e = by t.kind t.word e
+  where
+    by : (k : TokenKind) (w : List ℕ) → is_keyword_of k w key ≡ true → behind_kind k bs ≡ Some bs
+    by Word w f = refl
+    by QuotedName w f = refl
+    by Literal w f = refl
+    by Number w f = refl
+    by (Sign c) w f = absurd cc
+    by MetaLine w f = absurd cc
+
+not_step : (takes : Bool) (spot : Spot) (t : Lexeme) → is_word (codes "not") t ≡ true → step_by true takes spot t [] ≡ cond (ends_run true t) None (behind_not spot)
+not_step takes spot t e = ap (λ (b : Bool). outside takes spot t.kind (ends_run true t) b (is_word (codes "null") t)) e
+
+null_step : (takes : Bool) (spot : Spot) (t : Lexeme) → is_word (codes "null") t ≡ true → step_by true takes spot t [] ≡ cond (ends_run true t) None (behind_null takes spot)
+null_step takes spot t e =
+    ap (λ (b : Bool). outside takes spot t.kind (ends_run true t) b (is_word (codes "null") t)) (words_apart (codes "null") (codes "not") refl t e)
+    ∙ ap (λ (b : Bool). outside takes spot t.kind (ends_run true t) false b) e
+
+-- where NOT NULL isn't taken, no run ends with it
+null_refused : (spot : Spot) (t : Lexeme) → is_word (codes "null") t ≡ true → behind_null false spot ≡ None → step_by true false spot t [] ≡ None
+null_refused spot t e none = null_step false spot t e ∙ by (ends_run true t)
+  where
+    by : (b : Bool) → cond b None (behind_null false spot) ≡ None
+    by true = refl
+    by false = none
+
+both_refused : (spot : Spot) (a b : Lexeme) → is_word (codes "not") a ≡ true → is_word (codes "null") b ≡ true → option_and_then (λ x. nest_step true false x b) (step_by true false spot a []) ≡ None
+unfolding nest_step
+both_refused spot a b e f = ap (option_and_then (λ x. nest_step true false x b)) (not_step false spot a e) ∙ by (ends_run true a) spot
+  where
+    by : (ends : Bool) (s : Spot) → option_and_then (λ x. nest_step true false x b) (cond ends None (behind_not s)) ≡ None
+    by true s = refl
+    by false First = null_refused FirstNot b f refl
+    by false FirstNot = null_refused LaterNot b f refl
+    by false LaterNot = null_refused LaterNot b f refl
+    by false Inside = null_refused LaterNot b f refl
+    by false Shut = refl
+
+both_within : (c : Bracket) (bs : List Bracket) (spot : Spot) (a b : Lexeme) → is_word (codes "not") a ≡ true → is_word (codes "null") b ≡ true
+    → option_and_then (λ x. nest_step true false x b) (step_by true false spot a (c ∷ bs)) ≡ Some (nest (c ∷ bs) Inside)
+unfolding nest_step
+both_within c bs spot a b e f = ap (λ o. option_and_then (λ x. nest_step true false x b) (moved o)) (word_keeps (codes "not") a (c ∷ bs) e) ∙ ap moved (word_keeps (codes "null") b (c ∷ bs) f)
+
+none_at_end : (s last : Nest) (a b : Lexeme) → is_word (codes "not") a ≡ true → is_word (codes "null") b ≡ true → run (nested true false) (Some s) (a ∷ b ∷ []) ≡ Some last → nest_done last ≡ true → ⊥
+unfolding nest_step nest_done
+none_at_end s last a b e f runs done = by s.brackets runs
+  where
+    by : (bs : List Bracket) → option_and_then (λ x. nest_step true false x b) (step_by true false s.spot a bs) ≡ Some last → ⊥
+    by [] g = not_some last (option_and_then (λ x. nest_step true false x b) (step_by true false s.spot a [])) g (both_refused s.spot a b e f)
+    by (c ∷ bs) g =
+        let same = passed (λ y. nest_done y ≡ false) (nest (c ∷ bs) Inside) last (sym (both_within c bs s.spot a b e f) ∙ g) refl in
+        absurd (cc (same, done))
+
+-- ---- the last two tokens
+
+record EndsInTwo (ts : List Lexeme) : Type 0 where
+  front : List Lexeme
+  a : Lexeme
+  b : Lexeme
+  parts : ts ≡ front ++ a ∷ b ∷ []
+
+two_at_least : (a b : Lexeme) (ts : List Lexeme) → EndsInTwo (a ∷ b ∷ ts)
+two_at_least a b [] = record { front = []; a = a; b = b; parts = refl }
+two_at_least a b (c ∷ ts) = let h = two_at_least b c ts in record { front = a ∷ h.front; a = h.a; b = h.b; parts = ap (λ (us : List Lexeme). a ∷ us) h.parts }
+
+abbrev are_nulls : List Lexeme → Bool
+are_nulls ts = are_not_null (drop (length ts - 2) ts)
+
+abbrev ended_by : Bool → List Lexeme → List Lexeme → List ℕ × Bool
+ended_by b front ts = cond b (source front, true) (source ts, false)
+
+two_less : (front : List Lexeme) (a b : Lexeme) → length (front ++ a ∷ b ∷ []) - 2 ≡ length front
+two_less front a b = omega (arith, length-append front (a ∷ b ∷ []))
+
+nulls_are : (front : List Lexeme) (a b : Lexeme) → are_nulls (front ++ a ∷ b ∷ []) ≡ are_not_null (a ∷ b ∷ [])
+nulls_are front a b =
+    let ts = front ++ a ∷ b ∷ [] in
+    ap (λ n. are_not_null (drop n ts)) (two_less front a b) ∙ ap are_not_null (drop_at front (a ∷ b ∷ []) (length front) refl)
+
+with_nulls : (front : List Lexeme) (a b : Lexeme) → are_not_null (a ∷ b ∷ []) ≡ true → without_not_null (front ++ a ∷ b ∷ []) ≡ (source front, true)
+unfolding without_not_null
+with_nulls front a b is =
+    let ts = front ++ a ∷ b ∷ [] in
+    ap (λ (e : Bool). ended_by e (take (length ts - 2) ts) ts) (nulls_are front a b ∙ is)
+    ∙ ap (λ n. ended_by true (take n ts) ts) (two_less front a b)
+    ∙ ap (λ (us : List Lexeme). ended_by true us ts) (take_at front (a ∷ b ∷ []) (length front) refl)
+
+without_nulls : (ts : List Lexeme) → are_nulls ts ≡ false → without_not_null ts ≡ (source ts, false)
+unfolding without_not_null
+without_nulls ts isnt = ap (λ (e : Bool). ended_by e (take (length ts - 2) ts) ts) isnt
+
+no_nulls : (ts : List Lexeme) → Runs (nested true false) ts → are_nulls ts ≡ false
+no_nulls [] runs = refl
+no_nulls (t ∷ []) runs = refl
+no_nulls (t ∷ u ∷ ts) runs = let h = two_at_least t u ts in subst (λ (us : List Lexeme). are_nulls us ≡ false) (sym h.parts) (by h.front h.a h.b (subst (Runs (nested true false)) h.parts runs))
+  where
+    by_front : (a b : Lexeme) (last : Nest) → nest_done last ≡ true → is_word (codes "not") a ≡ true → is_word (codes "null") b ≡ true → (o : Option Nest) → run (nested true false) o (a ∷ b ∷ []) ≡ Some last → ⊥
+    by_front a b last done e f None g = absurd cc
+    by_front a b last done e f (Some s) g = none_at_end s last a b e f g done
+
+    by_end : (front : List Lexeme) (a b : Lexeme) → Runs (nested true false) (front ++ a ∷ b ∷ []) → (e : Bool) → are_not_null (a ∷ b ∷ []) ≡ e → e ≡ false
+    by_end front a b r false is = refl
+    by_end front a b r true is =
+        let words = and_parts (is_word (codes "not") a) (is_word (codes "null") b) is in
+        absurd (by_front a b r.last r.done words.0 words.1 (run (nested true false) (Some (nested true false).start) front) (sym (run-append (nested true false) (Some (nested true false).start) front (a ∷ b ∷ [])) ∙ r.runs))
+
+    by : (front : List Lexeme) (a b : Lexeme) → Runs (nested true false) (front ++ a ∷ b ∷ []) → are_nulls (front ++ a ∷ b ∷ []) ≡ false
+    by front a b r = nulls_are front a b ∙ by_end front a b r (are_not_null (a ∷ b ∷ [])) refl
+
+-- ---- a default's text
+
+-- the words NOT NULL
+abbrev pub not_null : List Lexeme
+not_null = word_token (32 ∷ []) (codes "NOT") ∷ word_token (32 ∷ []) (codes "NULL") ∷ []
+
+pub not_null_safe : (others : List Lexeme) → IsSafe (not_null ++ others)
+not_null_safe others after e = refl
+
+pub not_null_plain : AllPlain not_null
+unfolding is_sign
+not_null_plain = (record { ends = refl; line = λ e. absurd cc }, (record { ends = refl; line = λ e. absurd cc }, tt))
+
+pub not_null_stood : (others : List Lexeme) → Stood others → IsSafe others → Stood (not_null ++ others)
+unfolding in_word begins_word is_digit is_utf8 chars encode
+not_null_stood others stood safe = (
+  a_word (32 ∷ []) (codes "NOT") 32 _ space (refl, refl) refl refl refl,
+  (
+    safe_word (32 ∷ []) (codes "NULL") others space (refl, refl) refl safe,
+    stood,
+  ),
+)
+
+nulls_taken : (spot : Spot) (bs : List Bracket) (at : ℕ) → nest_done (nest bs spot) ≡ true → is_shut spot ≡ false → run (nested true true) (Some (nest bs spot)) (placed at not_null) ≡ Some (nest [] Shut)
+unfolding nest_step nest_done ends_run is_word is_sign is_keyword_of
+nulls_taken First bs at done free = absurd cc
+nulls_taken FirstNot [] at done free = refl
+nulls_taken LaterNot [] at done free = refl
+nulls_taken Inside [] at done free = refl
+nulls_taken Shut bs at done free = absurd cc
+nulls_taken FirstNot (b ∷ bs) at done free = absurd cc
+nulls_taken LaterNot (b ∷ bs) at done free = absurd cc
+nulls_taken Inside (b ∷ bs) at done free = absurd cc
+
+shut_is_done : nest_done (nest [] Shut) ≡ true
+unfolding nest_done
+shut_is_done = refl
+
+runs_with_null : (ts : List Lexeme) (at : ℕ) → Runs (nested true false) ts → Runs (nested true true) (ts ++ placed at not_null)
+runs_with_null ts at r =
+    let free = run_open (nested true false).start r.last ts refl r.runs in
+    record {
+      last = nest [] Shut;
+      runs = run-append (nested true true) (Some (nested true true).start) ts (placed at not_null)
+          ∙ ap (λ o. run (nested true true) o (placed at not_null)) (run_more (nested true false).start r.last ts r.runs)
+          ∙ nulls_taken r.last.spot r.last.brackets at r.done free;
+      done = shut_is_done;
+    }
+
+placed_nulls : (at : ℕ) → are_not_null (placed at not_null) ≡ true
+unfolding is_word is_keyword_of
+placed_nulls at = refl
+
+-- tokens for a default behind a gap, before others
+pub record IsDefaultKept (g v : List ℕ) (others : List Lexeme) : Type 0 where
+  pub tokens : List Lexeme
+  pub bytes : spelled tokens ≡ g ++ v
+  pub stood : Stood (tokens ++ others)
+  pub plain : AllPlain tokens
+  pub spells : (at : ℕ) → default_text.Spells v (placed at tokens)
+  pub alone : (at : ℕ) → default_and_null.Spells (v, false) (placed at tokens)
+  pub with_null : (at : ℕ) → default_and_null.Spells (v, true) (placed at (tokens ++ not_null))
+
+alone_spells : (v : List ℕ) (ts : List Lexeme) → source ts ≡ v → Runs (nested true false) ts → default_and_null.Spells (v, false) ts
+unfolding default_and_null
+alone_spells v ts whole r =
+    let no_null : Bool = false in
+    (ts, sym (without_nulls ts (no_nulls ts r) ∙ ap (λ (x : List ℕ). (x, no_null)) whole), (refl, record { last = r.last; runs = run_more (nested true false).start r.last ts r.runs; done = r.done }))
+
+null_spells : (v : List ℕ) (ts : List Lexeme) (at : ℕ) → source ts ≡ v → Runs (nested true false) ts → default_and_null.Spells (v, true) (ts ++ placed at not_null)
+unfolding default_and_null
+null_spells v ts at whole r =
+    (ts ++ placed at not_null, sym (with_nulls ts _ _ (placed_nulls at) ∙ ap (λ (x : List ℕ). (x, true)) whole), (refl, runs_with_null ts at r))
+
+pub default_kept : (g v : List ℕ) (others : List Lexeme) → Gap g → IsDefaultText v → Stood others → IsSafe others → IsDefaultKept g v others
+unfolding default_text
+default_kept g v others gap h stood safe =
+    let k = run_kept (nested true false) (nested_plain true false) g v others gap h stood safe in
+    record {
+      tokens = k.tokens;
+      bytes = k.bytes;
+      stood = k.stood;
+      plain = k.plain;
+      spells = λ at. (placed at k.tokens, sym (k.whole at), (refl, k.runs at));
+      alone = λ at. alone_spells v (placed at k.tokens) (k.whole at) (k.runs at);
+      with_null = λ at.
+          subst (default_and_null.Spells (v, true)) (sym (placed-append at k.tokens not_null))
+          (null_spells v (placed at k.tokens) (at + length (spelled k.tokens)) (k.whole at) (k.runs at));
+    }
+
+-- ---- a default that was read
+
+-- what tokens of a text spell is a default's text
+pub default_is_read : (v : List ℕ) (ts : List Lexeme) (r : List ℕ) → AllCame ts r → default_text.Spells v ts → IsDefaultText v
+unfolding default_text
+default_is_read v ts r came spells =
+    subst IsDefaultText (ap source (sym spells.2.0) ∙ sym spells.1) (run_read (nested true false) (nested_plain true false) ts r came spells.2.1).text
+
+-- a step on which NOT NULL is complete
+record Completes (s x : Nest) (t : Lexeme) : Type 0 where
+  null : is_word (codes "null") t ≡ true
+  spot : s.spot ≡ LaterNot
+  flat : s.brackets ≡ []
+  shut : x ≡ nest [] Shut
+
+null_less : (spot : Spot) (x : Nest) → behind_null true spot ≡ Some x → (behind_null false spot ≡ Some x) ⊎ ((spot ≡ LaterNot) × (x ≡ nest [] Shut))
+null_less First x e = inl e
+null_less FirstNot x e = inl e
+null_less LaterNot x e = inr (refl, passed (λ y. y ≡ nest [] Shut) (nest [] Shut) x e refl)
+null_less Inside x e = inl e
+null_less Shut x e = inl e
+
+outside_less : (spot : Spot) (kind : TokenKind) (ends is_not is_null : Bool) (x : Nest) → outside true spot kind ends is_not is_null ≡ Some x
+    → (outside false spot kind ends is_not is_null ≡ Some x) ⊎ ((is_null ≡ true) × ((spot ≡ LaterNot) × (x ≡ nest [] Shut)))
+outside_less spot kind true is_not is_null x e = inl e
+outside_less spot kind false true is_null x e = inl e
+outside_less spot kind false false true x e = by (null_less spot x e)
+  where
+    by : (behind_null false spot ≡ Some x) ⊎ ((spot ≡ LaterNot) × (x ≡ nest [] Shut)) → (behind_null false spot ≡ Some x) ⊎ ((true ≡ true) × ((spot ≡ LaterNot) × (x ≡ nest [] Shut)))
+    by (inl f) = inl f
+    by (inr h) = inr (refl, h)
+outside_less spot kind false false false x e = inl e
+
+step_less : (s x : Nest) (t : Lexeme) → nest_step true true s t ≡ Some x → (nest_step true false s t ≡ Some x) ⊎ Completes s x t
+unfolding nest_step
+step_less s x t e = by s.brackets refl e
+  where
+    by_outside : s.brackets ≡ [] → (step_by true false s.spot t [] ≡ Some x) ⊎ ((is_word (codes "null") t ≡ true) × ((s.spot ≡ LaterNot) × (x ≡ nest [] Shut))) → (step_by true false s.spot t s.brackets ≡ Some x) ⊎ Completes s x t
+    by_outside flat (inl f) = inl (ap (step_by true false s.spot t) flat ∙ f)
+    by_outside flat (inr h) = inr (record { null = h.0; spot = h.1.0; flat = flat; shut = h.1.1 })
+
+    by : (bs : List Bracket) → s.brackets ≡ bs → step_by true true s.spot t s.brackets ≡ Some x → (step_by true false s.spot t s.brackets ≡ Some x) ⊎ Completes s x t
+    by [] flat f = by_outside flat (outside_less s.spot t.kind (ends_run true t) (is_word (codes "not") t) (is_word (codes "null") t) x (ap (step_by true true s.spot t) (sym flat) ∙ f))
+    by (b ∷ bs) is f = inl (ap (step_by true false s.spot t) is ∙ (ap (step_by true true s.spot t) (sym is) ∙ f))
+
+-- nothing follows NOT NULL
+shut_outside : (kind : TokenKind) (ends is_not is_null : Bool) → outside true Shut kind ends is_not is_null ≡ None
+shut_outside kind true is_not is_null = refl
+shut_outside kind false true is_null = refl
+shut_outside kind false false true = refl
+shut_outside kind false false false = refl
+
+shut_ends : (last : Nest) (ts : List Lexeme) → run (nested true true) (Some (nest [] Shut)) ts ≡ Some last → ts ≡ []
+unfolding nest_step
+shut_ends last [] e = refl
+shut_ends last (t ∷ ts) e =
+    let none = shut_outside t.kind (ends_run true t) (is_word (codes "not") t) (is_word (codes "null") t) in
+    absurd (not_some last (run (nested true true) (nest_step true true (nest [] Shut) t) ts) e (ap (λ o. run (nested true true) o ts) none ∙ run_none (nested true true) ts))
+
+-- a run up to a last NULL that completes NOT NULL
+record EndsInNull (s : Nest) (ts : List Lexeme) : Type 0 where
+  front : List Lexeme
+  word : Lexeme
+  parts : ts ≡ front ++ word ∷ []
+  null : is_word (codes "null") word ≡ true
+  last : Nest
+  runs : run (nested true false) (Some s) front ≡ Some last
+  spot : last.spot ≡ LaterNot
+
+run_less : (s last : Nest) (ts : List Lexeme) → run (nested true true) (Some s) ts ≡ Some last → (run (nested true false) (Some s) ts ≡ Some last) ⊎ EndsInNull s ts
+run_less s last [] e = inl e
+run_less s last (t ∷ ts) e = by_next (nest_step true true s t) refl (λ x f. run_less x last ts f) e
+  where
+    by_later : (x : Nest) → nest_step true false s t ≡ Some x → (run (nested true false) (Some x) ts ≡ Some last) ⊎ EndsInNull x ts → (run (nested true false) (Some s) (t ∷ ts) ≡ Some last) ⊎ EndsInNull s (t ∷ ts)
+    by_later x is (inl f) = inl (ap (λ o. run (nested true false) o ts) is ∙ f)
+    by_later x is (inr h) = inr (record {
+      front = t ∷ h.front;
+      word = h.word;
+      parts = ap (λ (us : List Lexeme). t ∷ us) h.parts;
+      null = h.null;
+      last = h.last;
+      runs = ap (λ o. run (nested true false) o h.front) is ∙ h.runs;
+      spot = h.spot;
+    })
+
+    by_step : (x : Nest) → ((x : Nest) → run (nested true true) (Some x) ts ≡ Some last → (run (nested true false) (Some x) ts ≡ Some last) ⊎ EndsInNull x ts)
+        → run (nested true true) (Some x) ts ≡ Some last → (nest_step true false s t ≡ Some x) ⊎ Completes s x t → (run (nested true false) (Some s) (t ∷ ts) ≡ Some last) ⊎ EndsInNull s (t ∷ ts)
+    by_step x later f (inl is) = by_later x is (later x f)
+    by_step x later f (inr c) =
+        let nothing = shut_ends last ts (subst (λ y. run (nested true true) (Some y) ts ≡ Some last) c.shut f) in
+        inr (record { front = []; word = t; parts = ap (λ (us : List Lexeme). t ∷ us) nothing; null = c.null; last = s; runs = refl; spot = c.spot })
+
+    by_next : (next : Option Nest) → nest_step true true s t ≡ next → ((x : Nest) → run (nested true true) (Some x) ts ≡ Some last → (run (nested true false) (Some x) ts ≡ Some last) ⊎ EndsInNull x ts)
+        → run (nested true true) next ts ≡ Some last → (run (nested true false) (Some s) (t ∷ ts) ≡ Some last) ⊎ EndsInNull s (t ∷ ts)
+    by_next None is later f = absurd (not_some last (run (nested true true) None ts) f (run_none (nested true true) ts))
+    by_next (Some x) is later f = by_step x later f (step_less s x t is)
+
+-- a step to behind a later NOT
+record IsLaterNot (s : Nest) (t : Lexeme) : Type 0 where
+  word : is_word (codes "not") t ≡ true
+  done : nest_done s ≡ true
+
+inside_no_later : (x : Nest) → x.spot ≡ Inside → x.spot ≡ LaterNot → ⊥
+inside_no_later x e f = absurd (cc (e, f))
+
+later_flat : (spot : Spot) (x : Nest) → behind_not spot ≡ Some x → x.spot ≡ LaterNot → is_inside spot [] ≡ true
+later_flat First x e f = let g = passed (λ y. y.spot ≡ FirstNot) (nest [] FirstNot) x e refl in absurd (cc (f, g))
+later_flat FirstNot x e f = refl
+later_flat LaterNot x e f = refl
+later_flat Inside x e f = refl
+later_flat Shut x e f = refl
+
+null_no_later : (spot : Spot) (x : Nest) → behind_null false spot ≡ Some x → x.spot ≡ LaterNot → ⊥
+null_no_later First x e f = inside_no_later x (passed (λ y. y.spot ≡ Inside) (nest [] Inside) x e refl) f
+null_no_later FirstNot x e f = absurd cc
+null_no_later LaterNot x e f = absurd cc
+null_no_later Inside x e f = inside_no_later x (passed (λ y. y.spot ≡ Inside) (nest [] Inside) x e refl) f
+null_no_later Shut x e f = absurd cc
+
+outside_later : (spot : Spot) (kind : TokenKind) (ends is_not is_null : Bool) (x : Nest) → outside false spot kind ends is_not is_null ≡ Some x → x.spot ≡ LaterNot → (is_not ≡ true) × (is_inside spot [] ≡ true)
+outside_later spot kind true is_not is_null x e f = absurd cc
+outside_later spot kind false true is_null x e f = (refl, later_flat spot x e f)
+outside_later spot kind false false true x e f = absurd (null_no_later spot x e f)
+outside_later spot kind false false false x e f = absurd (inside_no_later x (other_inside kind spot x e) f)
+
+step_later : (s x : Nest) (t : Lexeme) → nest_step true false s t ≡ Some x → x.spot ≡ LaterNot → IsLaterNot s t
+unfolding nest_step nest_done
+step_later s x t e spot = by s.brackets refl
+  where
+    by : (bs : List Bracket) → s.brackets ≡ bs → IsLaterNot s t
+    by [] flat =
+        let h = outside_later s.spot t.kind (ends_run true t) (is_word (codes "not") t) (is_word (codes "null") t) x (ap (step_by true false s.spot t) (sym flat) ∙ e) spot in
+        record { word = h.0; done = ap (is_inside s.spot) flat ∙ h.1 }
+    by (b ∷ bs) is = absurd (inside_no_later x (moved_inside (behind_kind t.kind (b ∷ bs)) x (ap (step_by true false s.spot t) (sym is) ∙ e)) spot)
+
+-- a run up to a last NOT that isn't its first token
+record EndsInNot (s : Nest) (ts : List Lexeme) : Type 0 where
+  front : List Lexeme
+  word : Lexeme
+  parts : ts ≡ front ++ word ∷ []
+  is : is_word (codes "not") word ≡ true
+  last : Nest
+  runs : run (nested true false) (Some s) front ≡ Some last
+  done : nest_done last ≡ true
+
+run_later : (s last : Nest) (ts : List Lexeme) → run (nested true false) (Some s) ts ≡ Some last → last.spot ≡ LaterNot → ((ts ≡ []) × (s.spot ≡ LaterNot)) ⊎ EndsInNot s ts
+run_later s last [] e spot = inl (refl, passed (λ y. y.spot ≡ LaterNot) last s (sym e) spot)
+run_later s last (t ∷ ts) e spot = inr (by_next (nest_step true false s t) refl (λ x f. run_later x last ts f spot) e)
+  where
+    by_later : (x : Nest) → nest_step true false s t ≡ Some x → ((ts ≡ []) × (x.spot ≡ LaterNot)) ⊎ EndsInNot x ts → EndsInNot s (t ∷ ts)
+    by_later x is (inl h) =
+        let n = step_later s x t is h.1 in
+        record { front = []; word = t; parts = ap (λ (us : List Lexeme). t ∷ us) h.0; is = n.word; last = s; runs = refl; done = n.done }
+    by_later x is (inr h) = record {
+      front = t ∷ h.front;
+      word = h.word;
+      parts = ap (λ (us : List Lexeme). t ∷ us) h.parts;
+      is = h.is;
+      last = h.last;
+      runs = ap (λ o. run (nested true false) o h.front) is ∙ h.runs;
+      done = h.done;
+    }
+
+    by_next : (next : Option Nest) → nest_step true false s t ≡ next → ((x : Nest) → run (nested true false) (Some x) ts ≡ Some last → ((ts ≡ []) × (x.spot ≡ LaterNot)) ⊎ EndsInNot x ts)
+        → run (nested true false) next ts ≡ Some last → EndsInNot s (t ∷ ts)
+    by_next None is later f = absurd (not_some last (run (nested true false) None ts) f (run_none (nested true false) ts))
+    by_next (Some x) is later f = by_later x is (later x f)
+
+-- a default, and whether NOT NULL follows it
+record IsDefaultRead (ts : List Lexeme) : Type 0 where
+  front : List Lexeme
+  behind : List Lexeme
+  parts : ts ≡ front ++ behind
+  text : (without_not_null ts).0 ≡ source front
+  runs : Runs (nested true false) front
+
+default_read : (ts : List Lexeme) → Runs (nested true true) ts → IsDefaultRead ts
+default_read ts r = by (run_less (nested true true).start r.last ts r.runs)
+  where
+    by_front : (h : EndsInNull (nested true true).start ts) → ((h.front ≡ []) × (First ≡ LaterNot)) ⊎ EndsInNot (nested true false).start h.front → IsDefaultRead ts
+    by_front h (inl f) = absurd (cc f.1)
+    by_front h (inr k) =
+        let nulls = k.word ∷ h.word ∷ [] in
+        let parts : ts ≡ k.front ++ nulls = h.parts ∙ ap (λ (us : List Lexeme). us ++ h.word ∷ []) k.parts ∙ append_assoc k.front (k.word ∷ []) (h.word ∷ []) in
+        record {
+          front = k.front;
+          behind = nulls;
+          parts = parts;
+          text = ap (λ (us : List Lexeme). (without_not_null us).0) parts ∙ ap (λ (x : List ℕ × Bool). x.0) (with_nulls k.front k.word h.word (and_from (is_word (codes "not") k.word) (is_word (codes "null") h.word) k.is h.null));
+          runs = record { last = k.last; runs = k.runs; done = k.done };
+        }
+
+    by : (run (nested true false) (Some (nested true false).start) ts ≡ Some r.last) ⊎ EndsInNull (nested true true).start ts → IsDefaultRead ts
+    by (inl f) =
+        let runs : Runs (nested true false) ts = record { last = r.last; runs = f; done = r.done } in
+        record { front = ts; behind = []; parts = sym (append-nil ts); text = ap (λ (x : List ℕ × Bool). x.0) (without_nulls ts (no_nulls ts runs)); runs = runs }
+    by (inr h) = by_front h (run_later (nested true false).start h.last h.front h.runs h.spot)
+
+-- what tokens of a text spell is a default's text, whether NOT NULL follows or not
+pub default_and_null_is_read : (x : List ℕ × Bool) (ts : List Lexeme) (r : List ℕ) → AllCame ts r → default_and_null.Spells x ts → IsDefaultText x.0
+unfolding default_and_null
+default_and_null_is_read x ts r came spells =
+    let d = default_read ts spells.2.1 in
+    let front = came_front d.front d.behind r (subst (λ (us : List Lexeme). AllCame us r) d.parts came) in
+    let text = (run_read (nested true false) (nested_plain true false) d.front (spelled d.behind ++ r) front d.runs).text in
+    subst IsDefaultText (sym (ap (λ (y : List ℕ × Bool). y.0) spells.1 ∙ ap (λ (us : List Lexeme). (without_not_null us).0) spells.2.0 ∙ d.text)) text

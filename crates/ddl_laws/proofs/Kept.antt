@@ -1,0 +1,276 @@
+-- Tokens of a text are read as the same tokens in another text, where they are kept with what stands between them.
+use Rattle.std.proofs.Common.{◌≡◌, ℕ, zero, suc, ◌+◌, ◌-◌, ◌<◌, ◌≤◌, Bool, true, false, cond, ◌&&◌, List, [], ◌∷◌, ◌++◌, length, length-append, append_assoc, append-nil, take, drop, Option, Some, None, Result, Ok, Err, refl, sym, ap, subst, ◌∙◌, ◌⊎◌, arith, inl, inr}
+use Rattle.std.specs.Prelude.{◌==◌, slice_range}
+use Rattle.std.specs.List.{list_all}
+use Rattle.std.specs.Str.{is_utf8}
+use Rattle.std.proofs.lemmas.Bool.{or_parts, cases_Bool}
+use Rattle.std.proofs.lemmas.Bool.Decides.{nat_tests}
+use Rattle.std.proofs.lemmas.List.{drop_at}
+use Rattle.std.proofs.lemmas.List.Folds.{drop_split}
+use Rattle.sql_lex.specs.declared.token.TokenKind.{TokenKind}
+use Rattle.sql_lex.specs.declared.token.TokenKind.TheVariants.{Word, QuotedName, Literal, Number, Sign, MetaLine}
+use Rattle.sql_lex.specs.declared.token.Token.{Token}
+use Rattle.sql_lex.specs.declared.fault.LexFault.{LexFault}
+use Rattle.sql_lex.specs.Bytes.{is_digit, begins_word, in_word, next_is}
+use Rattle.sql_lex.specs.Next.{next_token_of}
+use Rattle.sql_lex.specs.Meaning.{spelling}
+use Rattle.sql_lex.specs.Spelling.{Spells, IsGap, goes_on, goes_on_behind_dot}
+use Rattle.sql_lex.specs.Answers.{Between, nothing, gap, IsNext}
+use Rattle.sql_lex.proofs.TextLaws.{next_found, piece_word}
+use Rattle.sql_lex.specs.Written.{quoted}
+use Rattle.sql_lex.proofs.PieceLaws.{quoted_is}
+use Rattle.sql_lex.proofs.Passing.{lies_behind}
+use Rattle.sql_lex.proofs.WriteLaws.{spelling_is_read, gap_is_passed}
+use Rattle.ddl_parts.specs.Lexemes.{Lexeme, spelled, is_sign_kind}
+use Rattle.ddl_parts.specs.Pieces.{lexeme_of, lexemes}
+use Rattle.ddl_parts.specs.Collecting.{Collected, collected, collected_within, collected_by, nothing_more, preceded}
+use Rattle.ddl_parts.proofs.Slices.{drop_twice, seam}
+use Rattle.ddl_laws.proofs.Standing.{is_safe, is_safe_byte, Stands, Stood}
+
+-- ---- tokens as they came
+
+-- white space and comments, before these bytes
+pub data Gaps : List ℕ → List ℕ → Type 0 where
+  no_gap : (behind : List ℕ) → Gaps [] behind
+  one_gap : (g more behind : List ℕ) → IsGap g (more ++ behind) → is_utf8 g ≡ true → Gaps more behind → Gaps (g ++ more) behind
+
+pub record Came (t : Lexeme) (behind : List ℕ) : Type 0 where
+  pub gap : Gaps t.gap (t.word ++ behind)
+  pub spells : Spells t.kind t.word
+  pub utf8 : is_utf8 t.word ≡ true
+  pub ends : goes_on t.kind t.word behind ≡ false
+
+-- tokens one after another, before these bytes
+abbrev pub AllCame : List Lexeme → List ℕ → Type 0
+AllCame [] behind = Unit {0}
+AllCame (t ∷ ts) behind = Came t (spelled ts ++ behind) × AllCame ts behind
+
+left_of : (text : List ℕ) (at end : ℕ) (word rest : List ℕ) → drop at text ≡ word ++ rest → end ≡ at + length word → rest ≡ drop end text
+left_of text at end word rest e ends =
+    sym (drop_at word rest (length word) refl) ∙ ap (drop (length word)) (sym e) ∙ drop_twice (length word) at text ∙ ap (λ n. drop n text) (sym ends)
+
+between_low : (text : List ℕ) (at to : ℕ) → Between text at to → at ≤ to
+between_low text _ _ (nothing at) = omega arith
+between_low text _ _ (gap at end to s more) = omega (arith, s.piece.ends, between_low text end to more)
+
+between_gaps : (text : List ℕ) (at to : ℕ) → Between text at to → Gaps (slice_range text at to) (drop to text)
+between_gaps text _ _ (nothing at) = subst (λ n. Gaps (take n (drop at text)) (drop at text)) (let e : 0 ≡ at - at = omega arith in e) (no_gap (drop at text))
+between_gaps text _ _ (gap at end to s more) =
+    let p = s.piece in
+    let low = between_low text end to more in
+    let first : slice_range text at end ≡ p.word = piece_word text None at end p in
+    let rest : p.rest ≡ slice_range text end to ++ drop to text = left_of text at end p.word p.rest p.bytes p.ends ∙ drop_split text end to low in
+    let whole : p.word ++ slice_range text end to ≡ slice_range text at to = ap (λ (x : List ℕ). x ++ slice_range text end to) (sym first) ∙ seam text at end to (omega (arith, p.ends)) low in
+    subst (λ (x : List ℕ). Gaps x (drop to text)) whole (one_gap p.word (slice_range text end to) (drop to text) (subst (IsGap p.word) rest p.is) s.utf8 (between_gaps text end to more))
+
+pub came_token : (text : List ℕ) (at : ℕ) (t : Token) → at ≤ length text → next_token_of text at ≡ Ok (Some t) → Came (lexeme_of text (record { from = at; token = t })) (drop t.end text)
+unfolding spelling
+came_token text at t le e =
+    let found : IsNext text at (Ok (Some t)) = subst (IsNext text at) e (next_found text at le) in
+    let s = found.2 in
+    let p = s.piece in
+    let word : p.word ≡ slice_range text t.start t.end = sym (piece_word text (Some t.kind) t.start t.end p) in
+    let rest : p.rest ≡ drop t.end text = left_of text t.start t.end p.word p.rest p.bytes p.ends in
+    record {
+      gap = subst (Gaps (slice_range text at t.start)) (drop_split text t.start t.end (omega (arith, p.ends))) (between_gaps text at t.start found.0);
+      spells = subst (Spells t.kind) word p.is.spells;
+      utf8 = ap is_utf8 (sym word) ∙ s.utf8;
+      ends = ap (goes_on t.kind (slice_range text t.start t.end)) (sym rest) ∙ ap (λ (w : List ℕ). goes_on t.kind w p.rest) (sym word) ∙ p.is.ends;
+    }
+
+-- what is collected from a place on came so, and is what stands there
+record HasCome (text : List ℕ) (at : ℕ) (c : Collected) : Type 0 where
+  came : AllCame (lexemes text c.pieces) (drop c.end text)
+  whole : drop at text ≡ spelled (lexemes text c.pieces) ++ drop c.end text
+
+one_whole : (text : List ℕ) (at : ℕ) (t : Token) → at ≤ t.start → t.start < t.end → drop at text ≡ slice_range text at t.start ++ (slice_range text t.start t.end ++ drop t.end text)
+one_whole text at t low long = drop_split text at t.start low ∙ ap (λ (x : List ℕ). slice_range text at t.start ++ x) (drop_split text t.start t.end (omega (arith, long)))
+
+come_by_sign : (behind : ℕ → Collected) (text : List ℕ) (at : ℕ) (t : Token) → at ≤ length text → next_token_of text at ≡ Ok (Some t) → at ≤ t.start → t.start < t.end → HasCome text t.end (behind t.end)
+    → (b : Bool) → HasCome text at (preceded (record { from = at; token = t }) (cond b (nothing_more t.end None) (behind t.end)))
+unfolding spelling
+come_by_sign behind text at t le e low long later true = record {
+  came = (came_token text at t le e, tt);
+  whole = one_whole text at t low long ∙ regroup (slice_range text at t.start) (slice_range text t.start t.end) (drop t.end text);
+}
+  where
+    regroup : (a b c : List ℕ) → a ++ (b ++ c) ≡ (a ++ (b ++ [])) ++ c
+    regroup a b c = sym (append_assoc a (b ++ []) c ∙ ap (λ (x : List ℕ). a ++ (x ++ c)) (append-nil b))
+come_by_sign behind text at t le e low long later false =
+    let ts = lexemes text (behind t.end).pieces in
+    let r = drop (behind t.end).end text in
+    record {
+      came = (subst (Came (lexeme_of text (record { from = at; token = t }))) later.whole (came_token text at t le e), later.came);
+      whole = one_whole text at t low long ∙ ap (λ (x : List ℕ). slice_range text at t.start ++ (slice_range text t.start t.end ++ x)) later.whole
+          ∙ ap (λ (x : List ℕ). slice_range text at t.start ++ x) (sym (append_assoc (slice_range text t.start t.end) (spelled ts) r))
+          ∙ sym (append_assoc (slice_range text at t.start) (slice_range text t.start t.end ++ spelled ts) r);
+    }
+
+come_by : (behind : ℕ → Collected) (text : List ℕ) (at : ℕ) (r : Result (Option Token) LexFault) → at ≤ length text → next_token_of text at ≡ r → ((end : ℕ) → end ≤ length text → HasCome text end (behind end)) → HasCome text at (collected_by behind at r)
+come_by behind text at (Err fault) le e later = record { came = tt; whole = refl }
+come_by behind text at (Ok None) le e later = record { came = tt; whole = refl }
+come_by behind text at (Ok (Some t)) le e later =
+    let lies = lies_behind text at (Ok (Some t)) le (sym e) in
+    come_by_sign behind text at t le e lies.0 lies.1 (later t.end lies.2) (is_sign_kind 59 t.kind)
+
+come_within : (n : ℕ) (text : List ℕ) (at : ℕ) → at ≤ length text → HasCome text at (collected_within n text at)
+unfolding collected_within
+come_within zero text at le = record { came = tt; whole = refl }
+come_within (suc n) text at le = come_by (collected_within n text) text at (next_token_of text at) le refl (λ end high. come_within n text end high)
+
+pub whole_text : (text : List ℕ) (at : ℕ) → at ≤ length text → drop at text ≡ spelled (lexemes text (collected text at).pieces) ++ drop (collected text at).end text
+unfolding collected
+whole_text text at le = (come_within (length text + 1) text at le).whole
+
+pub have_come : (text : List ℕ) (at : ℕ) → at ≤ length text → AllCame (lexemes text (collected text at).pieces) (drop (collected text at).end text)
+unfolding collected
+have_come text at le = (come_within (length text + 1) text at le).came
+
+-- ---- parts of them
+
+pub spelled-append : (a b : List Lexeme) → spelled (a ++ b) ≡ spelled a ++ spelled b
+spelled-append [] b = refl
+spelled-append (t ∷ a) b =
+    ap (λ (x : List ℕ). t.gap ++ (t.word ++ x)) (spelled-append a b) ∙ ap (λ (x : List ℕ). t.gap ++ x) (sym (append_assoc t.word (spelled a) (spelled b))) ∙ sym (append_assoc t.gap (t.word ++ spelled a) (spelled b))
+
+pub came_front : (a b : List Lexeme) (r : List ℕ) → AllCame (a ++ b) r → AllCame a (spelled b ++ r)
+came_front [] b r h = tt
+came_front (t ∷ a) b r h = (subst (Came t) (ap (λ (x : List ℕ). x ++ r) (spelled-append a b) ∙ append_assoc (spelled a) (spelled b) r) h.0, came_front a b r h.1)
+
+pub came_behind : (a b : List Lexeme) (r : List ℕ) → AllCame (a ++ b) r → AllCame b r
+came_behind [] b r h = h
+came_behind (t ∷ a) b r h = came_behind a b r h.1
+
+-- ---- where they are kept
+
+safe_word : (b : ℕ) → is_safe_byte b ≡ true → in_word b ≡ false
+unfolding in_word begins_word is_digit
+safe_word b e = grind (arith, nat_tests)
+
+safe_digit : (b : ℕ) → is_safe_byte b ≡ true → is_digit b ≡ false
+unfolding is_digit
+safe_digit b e = grind (arith, nat_tests)
+
+safe_other : (b c : ℕ) → is_safe_byte b ≡ true → is_safe_byte c ≡ false → (b == c) ≡ false
+safe_other b c e f = by (cases_Bool (b == c))
+  where
+    by : ((b == c) ≡ true) ⊎ ((b == c) ≡ false) → (b == c) ≡ false
+    by (inl is) = grind (arith, nat_tests)
+    by (inr isnt) = isnt
+
+and_false : (x : Bool) → (x && false) ≡ false
+and_false true = refl
+and_false false = refl
+
+-- nothing that is safe goes on with a token
+pub safe_ends : (kind : TokenKind) (word after : List ℕ) → (kind ≡ MetaLine → ⊥) → is_safe after ≡ true → goes_on kind word after ≡ false
+unfolding goes_on next_is goes_on_behind_dot
+safe_ends Word word [] line e = and_false _
+safe_ends QuotedName word [] line e = refl
+safe_ends Literal word [] line e = refl
+safe_ends Number word [] line e = and_false _
+safe_ends (Sign b) word [] line e = rw (and_false (b == 45), and_false (b == 47)) refl
+safe_ends Word word (b ∷ after) line e = rw (safe_word b e, safe_other b 39 e refl) (and_false _)
+safe_ends QuotedName word (b ∷ after) line e = safe_other b 34 e refl
+safe_ends Literal word (b ∷ after) line e = safe_other b 39 e refl
+safe_ends Number word (b ∷ after) line e = rw (safe_digit b e, safe_other b 46 e refl) (and_false _)
+safe_ends (Sign c) word (b ∷ after) line e = rw (safe_other b 45 e refl, safe_other b 42 e refl, and_false (c == 45), and_false (c == 47)) refl
+safe_ends MetaLine word after line e = absurd (line refl)
+
+safe_next_digit : (after : List ℕ) → is_safe after ≡ true → next_is is_digit after ≡ false
+unfolding next_is
+safe_next_digit [] e = refl
+safe_next_digit (b ∷ after) e = safe_digit b e
+
+-- one byte of what goes on stays
+one_stays : (kind : TokenKind) (word : List ℕ) (x : ℕ) (r after : List ℕ) → goes_on kind word (x ∷ r) ≡ false → is_safe after ≡ true → goes_on kind word (x ∷ after) ≡ false
+unfolding goes_on next_is goes_on_behind_dot
+one_stays Word word x r after e safe = e
+one_stays QuotedName word x r after e safe = e
+one_stays Literal word x r after e safe = e
+one_stays Number word x r after e safe =
+    let h = or_parts (is_digit x) (list_all is_digit word && (x == 46 && next_is is_digit r)) e in
+    rw (h.0, safe_next_digit after safe, and_false (x == 46)) (and_false _)
+one_stays (Sign b) word x r after e safe = e
+one_stays MetaLine word x r after e safe = e
+
+two_stay : (kind : TokenKind) (word : List ℕ) (x y : ℕ) (r after : List ℕ) → goes_on kind word (x ∷ y ∷ r) ≡ false → goes_on kind word (x ∷ y ∷ after) ≡ false
+unfolding goes_on next_is goes_on_behind_dot
+two_stay Word word x y r after e = e
+two_stay QuotedName word x y r after e = e
+two_stay Literal word x y r after e = e
+two_stay Number word x y r after e = e
+two_stay (Sign b) word x y r after e = e
+two_stay MetaLine word x y r after e = e
+
+pub still_ends : (kind : TokenKind) (word m r after : List ℕ) → (kind ≡ MetaLine → ⊥) → goes_on kind word (m ++ r) ≡ false → is_safe after ≡ true → goes_on kind word (m ++ after) ≡ false
+still_ends kind word [] r after line e safe = safe_ends kind word after line safe
+still_ends kind word (x ∷ []) r after line e safe = one_stays kind word x r after e safe
+still_ends kind word (x ∷ y ∷ m) r after line e safe = two_stay kind word x y (m ++ r) (m ++ after) e
+
+gap_stays : (g : List ℕ) (x : ℕ) (r other : List ℕ) → IsGap g (x ∷ r) → IsGap g (x ∷ other)
+unfolding next_is
+gap_stays g x r other (inl h) = inl h
+gap_stays g x r other (inr (inl h)) = inr (inl h)
+gap_stays g x r other (inr (inr h)) = inr (inr h)
+
+-- a gap before a word of a byte at least, whatever comes behind the word
+gap_again : (g more word r other : List ℕ) → 0 < length word → IsGap g (more ++ (word ++ r)) → IsGap g (more ++ (word ++ other))
+gap_again g [] [] r other some h = absurd (omega arith)
+gap_again g [] (x ∷ word) r other some h = gap_stays g x (word ++ r) (word ++ other) h
+gap_again g (x ∷ more) word r other some h = gap_stays g x (more ++ (word ++ r)) (more ++ (word ++ other)) h
+
+gaps_pass : (gap word r other : List ℕ) → 0 < length word → (behind : List ℕ) → behind ≡ word ++ r → Gaps gap behind → (front : List ℕ) → next_token_of (front ++ (gap ++ (word ++ other))) (length front) ≡ next_token_of (front ++ (gap ++ (word ++ other))) (length front + length gap)
+gaps_pass _ word r other some behind e (no_gap _) front = ap (next_token_of (front ++ (word ++ other))) (let p : length front ≡ length front + 0 = omega arith in p)
+gaps_pass _ word r other some behind e (one_gap g more _ is utf8 gaps) front =
+    let rest = more ++ (word ++ other) in
+    let here : IsGap g rest = gap_again g more word r other some (subst (λ (x : List ℕ). IsGap g (more ++ x)) e is) in
+    let passed = gap_is_passed front g rest here utf8 in
+    let text : (front ++ g) ++ rest ≡ front ++ (g ++ rest) = append_assoc front g rest in
+    let later = gaps_pass more word r other some behind e gaps (front ++ g) in
+    let later' : next_token_of (front ++ (g ++ rest)) (length (front ++ g)) ≡ next_token_of (front ++ (g ++ rest)) (length (front ++ g) + length more) =
+    subst (λ (x : List ℕ). next_token_of x (length (front ++ g)) ≡ next_token_of x (length (front ++ g) + length more)) text later in
+    let place = length-append front g in
+    let sizes = length-append g more in
+    ap (λ (x : List ℕ). next_token_of (front ++ x) (length front)) (append_assoc g more (word ++ other))
+    ∙ passed ∙ ap (next_token_of (front ++ (g ++ rest))) (sym place) ∙ later'
+    ∙ ap (next_token_of (front ++ (g ++ rest))) (let p : length (front ++ g) + length more ≡ length front + length (g ++ more) = omega arith in p)
+    ∙ ap (λ (x : List ℕ). next_token_of (front ++ x) (length front + length (g ++ more))) (sym (append_assoc g more (word ++ other)))
+
+-- a token that came before some bytes stands before a front of them that is followed by what is safe
+pub stands_again : (t : Lexeme) (m r s : List ℕ) → (t.kind ≡ MetaLine → ⊥) → 0 < length t.word → Came t (m ++ r) → ((after : List ℕ) → is_safe after ≡ true → is_safe (s ++ after) ≡ true) → Stands t (m ++ s)
+stands_again t m r s line some came safe = record {
+  gap = λ front after e.
+      subst (λ (x : List ℕ). next_token_of (front ++ (t.gap ++ x)) (length front) ≡ next_token_of (front ++ (t.gap ++ x)) (length front + length t.gap)) (sym (append_assoc t.word (m ++ s) after))
+      (gaps_pass t.gap t.word (m ++ r) ((m ++ s) ++ after) some (t.word ++ (m ++ r)) refl came.gap front);
+  token = λ front after e.
+      spelling_is_read front t.word ((m ++ s) ++ after) t.kind came.spells
+      (ap (goes_on t.kind t.word) (append_assoc m s after) ∙ still_ends t.kind t.word m r (s ++ after) line came.ends (safe after e)) came.utf8 (λ e. absurd (line e));
+  some = some;
+}
+
+abbrev pub NoLine : List Lexeme → Type 0
+NoLine [] = Unit {0}
+NoLine (t ∷ ts) = (t.kind ≡ MetaLine → ⊥) × NoLine ts
+
+some_bytes : (kind : TokenKind) (word : List ℕ) → Spells kind word → 0 < length word
+some_bytes Word [] h = absurd h
+some_bytes Word (b ∷ word) h = omega arith
+some_bytes QuotedName word h = quoted_some 34 word h
+  where
+    quoted_some : (q : ℕ) (word : List ℕ) → (text : List ℕ) × (word ≡ quoted q text) → 0 < length word
+    quoted_some q word h = subst (λ (x : List ℕ). 0 < length x) (sym (h.1 ∙ quoted_is q h.0)) (omega arith)
+some_bytes Literal word (inl h) = subst (λ (x : List ℕ). 0 < length x) (sym (h.1 ∙ quoted_is 39 h.0)) (omega arith)
+some_bytes Literal word (inr h) = subst (λ (x : List ℕ). 0 < length x) (sym h.4) (omega arith)
+some_bytes Number word (inl h) = h.0
+some_bytes Number word (inr h) = subst (λ (x : List ℕ). 0 < length x) (sym h.4) (omega (arith, length-append h.0 (46 ∷ h.1)))
+some_bytes (Sign b) word h = subst (λ (x : List ℕ). 0 < length x) (sym h.1) (omega arith)
+some_bytes MetaLine word h = subst (λ (x : List ℕ). 0 < length x) (sym h.2) (omega arith)
+
+-- tokens that are kept stand before others that begin with what is safe
+pub all_stand_again : (ts others : List Lexeme) (r : List ℕ) → NoLine ts → AllCame ts r → Stood others → ((after : List ℕ) → is_safe after ≡ true → is_safe (spelled others ++ after) ≡ true) → Stood (ts ++ others)
+all_stand_again [] others r line came stood safe = stood
+all_stand_again (t ∷ ts) others r line came stood safe = (
+  subst (Stands t) (sym (spelled-append ts others)) (stands_again t (spelled ts) r (spelled others) line.0 (some_bytes t.kind t.word came.0.spells) came.0 safe),
+  all_stand_again ts others r line.1 came.1 stood safe,
+)

@@ -1,0 +1,281 @@
+-- The text of a run of a machine is written with the tokens that it has: behind a gap and before other tokens, and what
+-- was read of a text is such a text.
+use Rattle.std.proofs.Common.{◌≡◌, ℕ, ◌+◌, ◌-◌, ◌≤◌, Bool, true, false, not, cond, ◌&&◌, List, [], ◌∷◌, ◌++◌, length, length-append, append-nil, take, drop, Option, Some, None, refl, sym, ap, subst, ◌∙◌, arith, inl, inr, option_and_then}
+use Rattle.std.proofs.Math.Seq.{drop-length}
+use Rattle.std.proofs.lemmas.Bool.{and_parts, and_from}
+use Rattle.std.proofs.lemmas.Bool.Decides.{nat_tests}
+use Rattle.sql_lex.specs.declared.token.TokenKind.{TokenKind}
+use Rattle.sql_lex.specs.declared.token.TokenKind.TheVariants.{Word, QuotedName, Literal, Number, Sign, MetaLine}
+use Rattle.sql_lex.specs.Bytes.{is_blank, is_sign as is_sign_byte, marks_escapes}
+use Rattle.sql_lex.specs.Spelling.{Spells, IsWord, AreDigits}
+use Rattle.sql_lex.specs.Reserved.{is_reserved}
+use Rattle.sql_lex.specs.Written.{is_bare, written_name}
+use Rattle.sql_lex.specs.ReadBack.{written_kind}
+use Rattle.sql_lex.proofs.WriteLaws.{name_is_read, spelling_is_read}
+use Rattle.copy_text.specs.Texts.{IsName}
+use Rattle.std.specs.Str.{is_utf8}
+use Rattle.sql_lex.proofs.PieceLaws.{quoted_is, word_free, digit_free}
+use Rattle.ddl_parts.specs.declared.pieces.Piece.{Piece}
+use Rattle.ddl_parts.specs.Lexemes.{Lexeme, spelled, source, is_sign, start_of}
+use Rattle.ddl_parts.specs.Parts.{Machine, run, Runs}
+use Rattle.ddl_parts.specs.Pieces.{lexeme_of, lexemes}
+use Rattle.ddl_parts.specs.Collecting.{collected}
+use Rattle.ddl_read.specs.Grammar.{semicolon}
+use Rattle.ddl_read.specs.Reading.{first_start}
+use Rattle.ddl_laws.specs.Respelling.{IsRunText}
+use Rattle.ddl_laws.proofs.Closed.{only_last}
+use Rattle.ddl_laws.proofs.Standing.{is_safe, Stands, Stood, placed, NoSemicolon, collects_all}
+use Rattle.ddl_laws.proofs.Kept.{AllCame, NoLine, safe_ends, have_come, whole_text, stands_again, all_stand_again, spelled-append}
+use Rattle.ddl_laws.proofs.Tokens.{word_token, name_token, Gap, none as none_before, Begun, gap_stands, begun_some, word_begun, name_begun}
+
+-- ---- machines
+
+-- A machine that takes no semicolon and no line that begins with a backslash, that looks at kinds and words alone, and
+-- that takes a token at least.
+pub record IsPlainMachine (m : Machine) : Type 0 where
+  pub ends : (s x : m.State) (t : Lexeme) → m.step s t ≡ Some x → semicolon t ≡ false
+  pub line : (s x : m.State) (t : Lexeme) → m.step s t ≡ Some x → t.kind ≡ MetaLine → ⊥
+  pub same : (s : m.State) (gap : List ℕ) (start : ℕ) (t : Lexeme) → m.step s (record { gap = gap; kind = t.kind; word = t.word; start = start }) ≡ m.step s t
+  pub begins : m.done m.start ≡ false
+
+pub not_some : {A : Type 0} (x : A) (o : Option A) → o ≡ Some x → o ≡ None → ⊥
+not_some x o e f = absurd (cc (e, f))
+
+pub run_none : (m : Machine) (ts : List Lexeme) → run m None ts ≡ None
+run_none m [] = refl
+run_none m (t ∷ ts) = run_none m ts
+
+pub run-append : (m : Machine) (s : Option m.State) (a b : List Lexeme) → run m s (a ++ b) ≡ run m (run m s a) b
+run-append m s [] b = refl
+run-append m s (t ∷ a) b = run-append m (option_and_then (λ x. m.step x t) s) a b
+
+-- none of the tokens is a semicolon, or a line that begins with a backslash
+pub record Plain (t : Lexeme) : Type 0 where
+  pub ends : semicolon t ≡ false
+  pub line : t.kind ≡ MetaLine → ⊥
+
+abbrev pub AllPlain : List Lexeme → Type 0
+AllPlain [] = Unit {0}
+AllPlain (t ∷ ts) = Plain t × AllPlain ts
+
+pub are_plain : (m : Machine) → IsPlainMachine m → (s last : m.State) (ts : List Lexeme) → run m (Some s) ts ≡ Some last → AllPlain ts
+are_plain m h s last [] e = tt
+are_plain m h s last (t ∷ ts) e = by (m.step s t) refl (λ x f. are_plain m h x last ts f) e
+  where
+    by : (next : Option m.State) → m.step s t ≡ next → ((x : m.State) → run m (Some x) ts ≡ Some last → AllPlain ts) → run m next ts ≡ Some last → AllPlain (t ∷ ts)
+    by None is later f = absurd (not_some last (run m None ts) f (run_none m ts))
+    by (Some x) is later f = (record { ends = h.ends s x t is; line = h.line s x t is }, later x f)
+
+no_lines : (ts : List Lexeme) → AllPlain ts → NoLine ts
+no_lines [] h = tt
+no_lines (t ∷ ts) h = (h.0.line, no_lines ts h.1)
+
+pub last_more : (test : Lexeme → Bool) (t : Lexeme) (us : List Lexeme) → test t ≡ false → only_last test us ≡ true → only_last test (t ∷ us) ≡ true
+last_more test t [] e last = refl
+last_more test t (u ∷ us) e last = and_from (not (test t)) (only_last test (u ∷ us)) (ap not e) last
+
+pub plain_last : (ts us : List Lexeme) → AllPlain ts → only_last semicolon us ≡ true → only_last semicolon (ts ++ us) ≡ true
+plain_last [] us h last = last
+plain_last (t ∷ ts) us h last = last_more semicolon t (ts ++ us) h.0.ends (plain_last ts us h.1 last)
+
+-- ---- the same tokens elsewhere
+
+abbrev pub gapped : List ℕ → Lexeme → Lexeme
+gapped g t = record { gap = g; kind = t.kind; word = t.word; start = 0 }
+
+pub placed-append : (at : ℕ) (a b : List Lexeme) → placed at (a ++ b) ≡ placed at a ++ placed (at + length (spelled a)) b
+placed-append at [] b = ap (λ n. placed n b) (let e : at ≡ at + 0 = omega arith in e)
+placed-append at (t ∷ a) b =
+    let start : Lexeme = record { gap = t.gap; kind = t.kind; word = t.word; start = at + length t.gap } in
+    ap (λ (x : List Lexeme). start ∷ x) (placed-append (at + length t.gap + length t.word) a b)
+    ∙ ap (λ n. start ∷ (placed (at + length t.gap + length t.word) a ++ placed n b))
+    (let e : at + length t.gap + length t.word + length (spelled a) ≡ at + length (spelled (t ∷ a)) = omega (arith, length-append t.gap (t.word ++ spelled a), length-append t.word (spelled a)) in e)
+
+pub spelled_placed : (at : ℕ) (ts : List Lexeme) → spelled (placed at ts) ≡ spelled ts
+spelled_placed at [] = refl
+spelled_placed at (t ∷ ts) = ap (λ (x : List ℕ). t.gap ++ (t.word ++ x)) (spelled_placed (at + length t.gap + length t.word) ts)
+
+step_placed : (m : Machine) → IsPlainMachine m → (s : Option m.State) (gap : List ℕ) (start : ℕ) (t : Lexeme)
+    → option_and_then (λ x. m.step x (record { gap = gap; kind = t.kind; word = t.word; start = start })) s ≡ option_and_then (λ x. m.step x t) s
+step_placed m h None gap start t = refl
+step_placed m h (Some x) gap start t = h.same x gap start t
+
+pub run_placed : (m : Machine) → IsPlainMachine m → (s : Option m.State) (at : ℕ) (ts : List Lexeme) → run m s (placed at ts) ≡ run m s ts
+run_placed m h s at [] = refl
+run_placed m h s at (t ∷ ts) =
+    ap (λ o. run m o (placed (at + length t.gap + length t.word) ts)) (step_placed m h s t.gap (at + length t.gap) t)
+    ∙ run_placed m h (option_and_then (λ x. m.step x t) s) (at + length t.gap + length t.word) ts
+
+run_gapped : (m : Machine) → IsPlainMachine m → (g : List ℕ) (at : ℕ) (t : Lexeme) (ts : List Lexeme) → run m (Some m.start) (placed at (gapped g t ∷ ts)) ≡ run m (Some m.start) (t ∷ ts)
+run_gapped m h g at t ts = run_placed m h (Some m.start) at (gapped g t ∷ ts) ∙ ap (λ o. run m o ts) (h.same m.start g 0 t)
+
+-- of what kinds tokens are
+abbrev pub kinds : List Lexeme → List TokenKind
+kinds [] = []
+kinds (t ∷ ts) = t.kind ∷ kinds ts
+
+pub kinds_placed : (at : ℕ) (ts : List Lexeme) → kinds (placed at ts) ≡ kinds ts
+kinds_placed at [] = refl
+kinds_placed at (t ∷ ts) = ap (λ (ks : List TokenKind). t.kind ∷ ks) (kinds_placed (at + length t.gap + length t.word) ts)
+
+source_gapped : (g : List ℕ) (at : ℕ) (t : Lexeme) (ts : List Lexeme) → source (placed at (gapped g t ∷ ts)) ≡ t.word ++ spelled ts
+source_gapped g at t ts = ap (λ (x : List ℕ). t.word ++ x) (spelled_placed (at + length g + length t.word) ts)
+
+-- ---- what a token begins with
+
+mark_solid : (b : ℕ) → marks_escapes b ≡ true → is_blank b ≡ false
+unfolding marks_escapes is_blank
+mark_solid b e = grind (arith, nat_tests)
+
+sign_byte_solid : (b : ℕ) → is_sign_byte b ≡ true → is_blank b ≡ false
+unfolding is_sign_byte is_blank
+sign_byte_solid b e = grind (arith, nat_tests)
+
+solid : (b : ℕ) (word rest : List ℕ) → word ≡ b ∷ rest → is_blank b ≡ false → Begun word
+solid b word rest e f = record { first = b; rest = rest; bytes = e; solid = f }
+
+solid_34 : is_blank 34 ≡ false
+unfolding is_blank
+solid_34 = refl
+
+solid_39 : is_blank 39 ≡ false
+unfolding is_blank
+solid_39 = refl
+
+token_begun : (kind : TokenKind) (word : List ℕ) → (kind ≡ MetaLine → ⊥) → Spells kind word → Begun word
+token_begun Word [] line h = absurd h
+token_begun Word (b ∷ word) line h = solid b (b ∷ word) word refl (word_free b h.0)
+token_begun QuotedName word line h = solid 34 word _ (h.1 ∙ quoted_is 34 h.0) solid_34
+token_begun Literal word line (inl h) = solid 39 word _ (h.1 ∙ quoted_is 39 h.0) solid_39
+token_begun Literal word line (inr h) = solid h.0 word _ h.4 (mark_solid h.0 h.2)
+token_begun Number [] line (inl h) = absurd (let e = h.0 in omega arith)
+token_begun Number (b ∷ word) line (inl h) = solid b (b ∷ word) word refl (digit_free b (and_parts _ _ h.1).0).0
+token_begun Number word line (inr h) = by h.0 h.2 h.4
+  where
+    by : (whole : List ℕ) → AreDigits whole → word ≡ whole ++ 46 ∷ h.1 → Begun word
+    by [] d e = absurd (let k = d.0 in omega arith)
+    by (b ∷ whole) d e = solid b word (whole ++ 46 ∷ h.1) e (digit_free b (and_parts _ _ d.1).0).0
+token_begun (Sign b) word line h = solid b word [] h.1 (sign_byte_solid b h.0)
+token_begun MetaLine word line h = absurd (line refl)
+
+-- ---- before what is safe
+
+-- whatever is safe behind them, they begin with what is safe
+abbrev pub IsSafe : List Lexeme → Type 0
+IsSafe others = (after : List ℕ) → is_safe after ≡ true → is_safe (spelled others ++ after) ≡ true
+
+pub name_no_line : (n : List ℕ) → written_kind n ≡ MetaLine → ⊥
+unfolding written_kind
+name_no_line n = by (is_bare n && not (is_reserved n))
+  where
+    by : (b : Bool) → cond b Word QuotedName ≡ MetaLine → ⊥
+    by true e = absurd cc
+    by false e = absurd cc
+
+-- a written name before what is safe
+pub safe_name : (g n : List ℕ) (others : List Lexeme) → Gap g → IsName n → IsSafe others → Stands (name_token g n) (spelled others)
+safe_name g n others gap is safe = record {
+  gap = gap_stands g (written_name n) (spelled others) gap (name_begun n);
+  token = λ front after e. (name_is_read front n (spelled others ++ after) is.utf8 (safe_ends (written_kind n) (written_name n) (spelled others ++ after) (name_no_line n) (safe after e))).0;
+  some = begun_some (written_name n) (name_begun n);
+}
+
+-- a word before what is safe
+pub safe_word : (g w : List ℕ) (others : List Lexeme) → Gap g → IsWord w → is_utf8 w ≡ true → IsSafe others → Stands (word_token g w) (spelled others)
+safe_word g w others gap word utf8 safe =
+    let first = word_begun w word in
+    record {
+      gap = gap_stands g w (spelled others) gap first;
+      token = λ front after e. spelling_is_read front w (spelled others ++ after) Word word (safe_ends Word w (spelled others ++ after) (λ f. absurd cc) (safe after e)) utf8 (λ f. absurd cc);
+      some = begun_some w first;
+    }
+
+-- ---- a run's text
+
+-- tokens for the text of a run behind a gap, before others
+pub record IsRunKept (m : Machine) (g v : List ℕ) (others : List Lexeme) : Type 0 where
+  pub tokens : List Lexeme
+  pub bytes : spelled tokens ≡ g ++ v
+  pub stood : Stood (tokens ++ others)
+  pub plain : AllPlain tokens
+  pub runs : (at : ℕ) → Runs m (placed at tokens)
+  pub whole : (at : ℕ) → source (placed at tokens) ≡ v
+  pub same : (at : ℕ) → kinds (placed at tokens) ≡ kinds (lexemes v (collected v 0).pieces)
+
+kept_by : (m : Machine) → IsPlainMachine m → (g v : List ℕ) (t : Lexeme) (ts others : List Lexeme) (r : List ℕ) → Gap g → v ≡ t.word ++ spelled ts → Runs m (t ∷ ts) → AllCame (t ∷ ts) r
+    → kinds (t ∷ ts) ≡ kinds (lexemes v (collected v 0).pieces) → Stood others → IsSafe others → IsRunKept m g v others
+unfolding is_sign
+kept_by m h g v t ts others r gap is runs came same stood safe =
+    let all = are_plain m h m.start runs.last (t ∷ ts) runs.runs in
+    let first = token_begun t.kind t.word all.0.line came.0.spells in
+    let behind = all_stand_again ts others r (no_lines ts all.1) came.1 stood safe in
+    let here = subst (Stands t) (sym (spelled-append ts others)) (stands_again t (spelled ts) r (spelled others) all.0.line (begun_some t.word first) came.0 safe) in
+    record {
+      tokens = gapped g t ∷ ts;
+      bytes = ap (λ (x : List ℕ). g ++ x) (sym is);
+      stood = (record { gap = gap_stands g t.word (spelled (ts ++ others)) gap first; token = here.token; some = here.some }, behind);
+      plain = (record { ends = all.0.ends; line = all.0.line }, all.1);
+      runs = λ at. record { last = runs.last; runs = run_gapped m h g at t ts ∙ runs.runs; done = runs.done };
+      whole = λ at. source_gapped g at t ts ∙ sym is;
+      same = λ at. kinds_placed at (gapped g t ∷ ts) ∙ same;
+    }
+
+first_gap : (m : Machine) → IsPlainMachine m → (g v : List ℕ) (ps : List Piece) (others : List Lexeme) → Gap g → first_start ps ≡ Some 0 → Runs m (lexemes v ps) → AllCame (lexemes v ps) [] → v ≡ spelled (lexemes v ps)
+    → kinds (lexemes v ps) ≡ kinds (lexemes v (collected v 0).pieces) → Stood others → IsSafe others → IsRunKept m g v others
+first_gap m h g v [] others gap first runs came whole same stood safe = absurd cc
+first_gap m h g v (p ∷ ps) others gap first runs came whole same stood safe =
+    let start : p.token.start ≡ 0 = cc in
+    let none : (lexeme_of v p).gap ≡ [] = ap (λ n. take n (drop p.from v)) (let e : p.token.start - p.from ≡ 0 = omega arith in e) in
+    kept_by m h g v (lexeme_of v p) (lexemes v ps) others [] gap (whole ∙ ap (λ (x : List ℕ). x ++ ((lexeme_of v p).word ++ spelled (lexemes v ps))) none) runs came same stood safe
+
+pub run_kept : (m : Machine) → IsPlainMachine m → (g v : List ℕ) (others : List Lexeme) → Gap g → IsRunText m v → Stood others → IsSafe others → IsRunKept m g v others
+run_kept m plain g v others gap h stood safe =
+    let c = collected v 0 in
+    let none : drop c.end v ≡ [] = ap (λ n. drop n v) h.last ∙ drop-length v in
+    let low : 0 ≤ length v = omega arith in
+    let whole : v ≡ spelled (lexemes v c.pieces) = whole_text v 0 low ∙ ap (λ (x : List ℕ). spelled (lexemes v c.pieces) ++ x) none ∙ append-nil (spelled (lexemes v c.pieces)) in
+    first_gap m plain g v c.pieces others gap h.first h.runs (subst (AllCame (lexemes v c.pieces)) none (have_come v 0 low)) whole refl stood safe
+
+-- ---- a run that was read
+
+no_semicolons : (ts : List Lexeme) → AllPlain ts → NoSemicolon ts
+no_semicolons [] h = tt
+no_semicolons (t ∷ ts) h = (h.0.ends, no_semicolons ts h.1)
+
+nothing_follows : (after : List ℕ) → is_safe after ≡ true → is_safe ([] ++ after) ≡ true
+nothing_follows after e = e
+
+kept_alone : (ts : List Lexeme) (r : List ℕ) → NoLine ts → AllCame ts r → Stood ts
+kept_alone ts r line came = subst Stood (append-nil ts) (all_stand_again ts [] r line came tt nothing_follows)
+
+first_is : (text : List ℕ) (ps : List Piece) → start_of (lexemes text ps) ≡ first_start ps
+first_is text [] = refl
+first_is text (p ∷ ps) = refl
+
+-- what tokens of a text say, as a text of its own: a run's text, with tokens of the same kinds
+pub record IsRunRead (m : Machine) (ts : List Lexeme) : Type 0 where
+  pub text : IsRunText m (source ts)
+  pub whole : source (lexemes (source ts) (collected (source ts) 0).pieces) ≡ source ts
+  pub same : kinds (lexemes (source ts) (collected (source ts) 0).pieces) ≡ kinds ts
+
+pub run_read : (m : Machine) → IsPlainMachine m → (ts : List Lexeme) (r : List ℕ) → AllCame ts r → Runs m ts → IsRunRead m ts
+unfolding is_sign
+run_read m h [] r came runs = let same : m.start ≡ runs.last = cc runs.runs in absurd (let d = runs.done in let b = h.begins in let e = ap m.done same ∙ d in cc)
+run_read m h (t ∷ ts) r came runs =
+    let all = are_plain m h m.start runs.last (t ∷ ts) runs.runs in
+    let first = token_begun t.kind t.word all.0.line came.0.spells in
+    let others = kept_alone ts r (no_lines ts all.1) came.1 in
+    let here : Stands t (spelled ts) = subst (Stands t) (append-nil (spelled ts)) (stands_again t (spelled ts) r [] all.0.line (begun_some t.word first) came.0 nothing_follows) in
+    let us = gapped [] t ∷ ts in
+    let stood : Stood us = (record { gap = gap_stands [] t.word (spelled ts) none_before first; token = here.token; some = here.some }, others) in
+    let v = source (t ∷ ts) in
+    let c = collects_all v us refl stood (all.0.ends, no_semicolons ts all.1) in
+    record {
+      text = record {
+        first = sym (first_is v (collected v 0).pieces) ∙ ap start_of c.tokens;
+        last = c.end ∙ (let e : 0 + length v ≡ length v = omega arith in e);
+        runs = subst (Runs m) (sym c.tokens) (record { last = runs.last; runs = run_gapped m h [] 0 t ts ∙ runs.runs; done = runs.done });
+      };
+      whole = ap source c.tokens ∙ source_gapped [] 0 t ts;
+      same = ap kinds c.tokens ∙ kinds_placed 0 us;
+    }

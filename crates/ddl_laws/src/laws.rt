@@ -1,0 +1,73 @@
+//! Laws of the definitions, each the contract of a function that does nothing.
+ghost use Rattle.std.specs.Prelude.{◌≡◌, ◌↔◌, ℕ, List, None, Some, Ok, Err};
+ghost use Rattle.cat_model.specs.declared.object.QName.{QName};
+ghost use Rattle.ddl_parts.specs.Collecting.{collected};
+ghost use Rattle.ddl_parts.specs.Leaves.{qualified};
+ghost use Rattle.ddl_parts.specs.Pieces.{lexemes};
+ghost use Rattle.ddl_read.specs.ValueGrammar.{path_in};
+ghost use Rattle.ddl_read.specs.declared.located.Located.{Located};
+ghost use Rattle.ddl_read.specs.declared.fault.DdlFault.{DdlFault};
+ghost use Rattle.ddl_read.specs.Reading.{statements_of};
+ghost use Rattle.ddl_laws.specs.Readings.{Reads, FailsAt};
+ghost use Rattle.cat_model.specs.declared.stmt.Stmt.{Stmt};
+ghost use Rattle.ddl_laws.specs.Respelling.{AllWritable, spellings, said};
+ghost use Rattle.ddl_laws.specs.Examples.{WorkedExamples};
+ghost use Rattle.ddl_laws.specs.AlterExamples.{AlterExamples};
+ghost use Rattle.ddl_laws.specs.SequenceExamples.{SequenceExamples};
+ghost use Rattle.ddl_laws.specs.CopyExamples.{CopyExamples};
+ghost use Rattle.ddl_laws.specs.RightsExamples.{RightsExamples};
+
+/// A text is read as statements exactly where it reads as them, so that it reads as one list at most.
+pub fn reading_is_exact()
+    ensures { (text : List ℕ) (statements : List Located) → (statements_of text ≡ Ok statements)
+        ↔ Reads text 0 statements }
+{}
+
+/// A fault is at the first place from which on no statement goes on: what stands before it can be finished.
+pub fn the_first_fault_is_told()
+    ensures { (text : List ℕ) (fault : DdlFault) → statements_of text ≡ Err fault → FailsAt text 0 fault }
+{}
+
+/// A literal's text is a path exactly where all of its tokens together spell it, and no fault stands behind them.
+pub fn a_path_is_all_tokens_of_its_literal()
+    ensures { (text : List ℕ) (q : QName) → (path_in text ≡ Ok q)
+        ↔ ((collected text 0).fault ≡ None) × qualified.Spells q (lexemes text (collected text 0).pieces) }
+{}
+
+/// The definitions give what is known of some texts.
+pub fn the_definitions_meet_the_examples()
+    ensures { WorkedExamples }
+{}
+
+/// The same of texts that alter tables.
+pub fn altered_tables_meet_the_examples()
+    ensures { AlterExamples }
+{}
+
+/// The same of texts that create sequences.
+pub fn sequences_meet_the_examples()
+    ensures { SequenceExamples }
+{}
+
+/// The same of texts with COPY, and with lines that begin with a backslash.
+pub fn copies_and_lines_meet_the_examples()
+    ensures { CopyExamples }
+{}
+
+/// The same of texts that grant rights and roles, or take rights away.
+pub fn grants_meet_the_examples()
+    ensures { RightsExamples }
+{}
+
+/// Statements that are written one after another read as these statements: so the spelling of a statement reads as it.
+pub fn written_statements_are_read_back()
+    ensures { (statements : List Stmt) (text : List ℕ) → AllWritable statements → spellings statements ≡ Some text
+        → (found : List Located) × (statements_of text ≡ Ok found) × (said found ≡ statements) }
+{}
+
+/// Where a text reads as statements, their spellings, joined, are a text that reads as the same statements.
+pub fn statements_that_were_read_are_read_again()
+    ensures { (text : List ℕ) (statements : List Located) → statements_of text ≡ Ok statements
+        → (again : List ℕ) × (spellings (said statements) ≡ Some again)
+        × ((same : List Located) × (statements_of again ≡ Ok same) × (said same ≡ said statements)) }
+{}

@@ -1,5 +1,0 @@
-use Rattle.ddl_read.proofs.ValueLaws.{path_found, path_only}
-use Rattle.ddl_read.proofs.laws.a_path_is_all_tokens_of_its_literal.Goals as goal
-
-pub returns : goal.returns
-returns c = λ text q. (path_found text q, path_only text q)

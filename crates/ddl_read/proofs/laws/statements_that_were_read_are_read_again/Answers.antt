@@ -1,5 +1,0 @@
-use Rattle.ddl_read.proofs.Made.{read_again}
-use Rattle.ddl_read.proofs.laws.statements_that_were_read_are_read_again.Goals as goal
-
-pub returns : goal.returns
-returns c = read_again

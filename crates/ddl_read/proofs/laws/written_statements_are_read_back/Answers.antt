@@ -1,5 +1,0 @@
-use Rattle.ddl_read.proofs.Respelled.{joined_read}
-use Rattle.ddl_read.proofs.laws.written_statements_are_read_back.Goals as goal
-
-pub returns : goal.returns
-returns c = joined_read
