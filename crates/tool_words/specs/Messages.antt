@@ -4,10 +4,11 @@ use Rattle.std.specs.Prelude.{ℕ, ◌++◌, List, [], ◌∷◌, codes, decimal
 use Rattle.std.specs.List.{flat_map}
 use Rattle.cat_model.specs.declared.words.What.{What}
 use Rattle.cat_model.specs.declared.words.What.TheVariants as what
-use Rattle.tool_words.specs.declared.outcome.UsageKind.{UsageKind}
-use Rattle.tool_words.specs.declared.outcome.UsageKind.TheVariants.{NoCommand, UnknownCommand, BadValue}
-use Rattle.tool_words.specs.declared.words.Tool.{Tool}
-use Rattle.tool_words.specs.declared.words.Tool.TheVariants as tools
+use Rattle.command_line.specs.declared.usage.UsageKind.{UsageKind}
+use Rattle.command_line.specs.declared.usage.UsageKind.TheVariants as usage
+use Rattle.command_line.specs.Options.{tool_name}
+use Rattle.tool_words.specs.declared.words.Teller.{Teller}
+use Rattle.tool_words.specs.declared.words.Teller.TheVariants as teller
 use Rattle.tool_words.specs.declared.outcome.Limit.{Limit}
 use Rattle.tool_words.specs.declared.outcome.Limit.TheVariants.{Script, TableFile, DataFile, Folder, Entries}
 use Rattle.tool_words.specs.declared.outcome.Outcome.{Outcome}
@@ -83,9 +84,15 @@ refusal_line refusal = codes "psql: error: at " ++ decimal refusal.0 ++ codes ":
 -- ---- a call that is refused as a whole
 
 abbrev pub kind_text : UsageKind → List ℕ
-kind_text NoCommand = codes "NoCommand"
-kind_text UnknownCommand = codes "UnknownCommand"
-kind_text BadValue = codes "BadValue"
+kind_text usage.NoCommand = codes "NoCommand"
+kind_text usage.UnknownCommand = codes "UnknownCommand"
+kind_text usage.OutOfProfile = codes "OutOfProfile"
+kind_text usage.UnknownOption = codes "UnknownOption"
+kind_text usage.MissingValue = codes "MissingValue"
+kind_text usage.BadValue = codes "BadValue"
+kind_text usage.ExtraWord = codes "ExtraWord"
+kind_text usage.Excluded = codes "Excluded"
+kind_text usage.MissingOption = codes "MissingOption"
 
 abbrev pub limit_text : Limit → List ℕ
 limit_text Script = codes "Script"
@@ -115,12 +122,10 @@ what_text what.Columns = codes "Columns"
 what_text (what.EntryKind text) = codes "EntryKind"
 what_text what.Unbuilt = codes "Unbuilt"
 
--- how a tool is called
-abbrev pub tool_name : Tool → List ℕ
-tool_name tools.Program = codes "pgtools"
-tool_name tools.Psql = codes "psql"
-tool_name tools.PgDump = codes "pg_dump"
-tool_name tools.PgCatcmp = codes "pg_catcmp"
+-- how the teller is called
+abbrev pub teller_name : Teller → List ℕ
+teller_name teller.Program = codes "pgtools"
+teller_name (teller.Tool tool) = tool_name tool
 
 abbrev pub outcome_text : Outcome → List ℕ
 outcome_text outcome.Done = []
@@ -136,8 +141,8 @@ outcome_text (outcome.Differs key) = codes "differs: " ++ key_text key
 outcome_text outcome.Memory = codes "out of memory"
 
 -- the line of a call that is refused
-abbrev pub outcome_line : Tool → Outcome → List ℕ
-outcome_line tool outcome = tool_name tool ++ codes ": error: " ++ outcome_text outcome ++ 10 ∷ []
+abbrev pub outcome_line : Teller → Outcome → List ℕ
+outcome_line teller outcome = teller_name teller ++ codes ": error: " ++ outcome_text outcome ++ 10 ∷ []
 
 -- ---- psql's report
 

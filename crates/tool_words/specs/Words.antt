@@ -1,42 +1,108 @@
--- The words of a command line, as far as the program has forms of them.
--- Any other list is refused at its first word.
-use Rattle.std.specs.Prelude.{◌&&◌, List, [], ◌∷◌, Result, Ok, Err, codes, if◌then◌else◌}
-use Rattle.cat_model.specs.Values.{Bytes}
+-- What the words of a command line ask for, as far as it is built, and who tells a refusal.
+use Rattle.std.specs.Prelude.{Bool, true, false, ◌&&◌, ◌||◌, not, List, [], ◌∷◌, Option, Some, None, Result, Ok, Err, codes, if◌then◌else◌}
+use Rattle.cat_names.specs.Rights.{is_empty_list}
 use Rattle.std.specs.Str.{bytes_eq}
-use Rattle.tool_words.specs.declared.words.Command.{Command}
-use Rattle.tool_words.specs.declared.words.Command.TheVariants as command
-use Rattle.tool_words.specs.declared.words.Tool.{Tool}
-use Rattle.tool_words.specs.declared.words.Tool.TheVariants as tools
-use Rattle.tool_words.specs.declared.outcome.UsageKind.{UsageKind}
-use Rattle.tool_words.specs.declared.outcome.UsageKind.TheVariants.{NoCommand, UnknownCommand}
+use Rattle.cat_model.specs.Values.{Bytes}
+use Rattle.cat_model.specs.declared.words.What.TheVariants.{Unbuilt}
+use Rattle.command_line.specs.declared.command.Command.{Command}
+use Rattle.command_line.specs.declared.command.Command.TheVariants as command
+use Rattle.command_line.specs.declared.command.Folder.{Folder}
+use Rattle.command_line.specs.declared.command.Folder.TheVariants as folder
+use Rattle.command_line.specs.declared.command.Choice.{Choice}
+use Rattle.command_line.specs.declared.command.DumpWords.{DumpWords}
+use Rattle.command_line.specs.declared.command.PsqlWords.{PsqlWords}
+use Rattle.command_line.specs.declared.options.Tool.{Tool}
+use Rattle.command_line.specs.declared.usage.UsageFault.{UsageFault}
+use Rattle.command_line.specs.declared.values.Format.{Format}
+use Rattle.command_line.specs.declared.values.Format.TheVariants as format
+use Rattle.command_line.specs.Options.{tool_of}
+use Rattle.command_line.specs.Usage.{usage_of, command_from}
+use Rattle.tool_words.specs.declared.outcome.Outcome.{Outcome}
+use Rattle.tool_words.specs.declared.outcome.Outcome.TheVariants.{Usage, OutOfProfile}
+use Rattle.tool_words.specs.declared.words.Asked.{Asked}
+use Rattle.tool_words.specs.declared.words.Asked.TheVariants.{Psql, Dump, Compare}
+use Rattle.tool_words.specs.declared.words.Teller.{Teller}
+use Rattle.tool_words.specs.declared.words.Teller.TheVariants as teller
 
--- what the words ask for
-pub data Asked : Type 0 where
-  -- psql's folder and its script
-  Psql : Bytes → Bytes → Asked
-  -- the folder that pg_dump reads
-  Dump : Bytes → Asked
-  -- the two folders that pg_catcmp compares
-  Compare : Bytes → Bytes → Asked
+-- ---- what is built of a command
 
--- psql -d FOLDER -f SCRIPT, pg_dump FOLDER, or pg_catcmp FOLDER FOLDER
-abbrev pub words_of : List Bytes → Result Asked UsageKind
-words_of [] = Err NoCommand
-words_of (tool ∷ folder ∷ []) = if bytes_eq tool (codes "pg_dump") then Ok (Dump folder) else Err UnknownCommand
-words_of (tool ∷ first ∷ second ∷ []) = if bytes_eq tool (codes "pg_catcmp") then Ok (Compare first second) else Err UnknownCommand
-words_of (tool ∷ d ∷ folder ∷ f ∷ script ∷ []) =
-    if bytes_eq tool (codes "psql") && bytes_eq d (codes "-d") && bytes_eq f (codes "-f") then Ok (Psql folder script) else Err UnknownCommand
-words_of _ = Err UnknownCommand
+-- the folder, in whichever way it was named
+abbrev pub folder_named : Folder → Bytes
+folder_named (folder.Dbname name) = name
+folder_named (folder.Word name) = name
 
--- a command as it was read
-abbrev pub asked_of : Command → Asked
-asked_of (command.Psql folder script) = Psql folder.now script.now
-asked_of (command.Dump folder) = Dump folder.now
-asked_of (command.Compare first second) = Compare first.now second.now
+-- a file, and not standard input or output
+abbrev pub file_named : Option Bytes → Option Bytes
+file_named None = None
+file_named (Some name) = if bytes_eq name (codes "-") then None else Some name
 
--- the tool that tells a refusal: the program itself where the words have no reading
-abbrev pub tool_of : Result Asked UsageKind → Tool
-tool_of (Ok (Psql folder script)) = tools.Psql
-tool_of (Ok (Dump folder)) = tools.PgDump
-tool_of (Ok (Compare first second)) = tools.PgCatcmp
-tool_of (Err kind) = tools.Program
+-- psql applies a script in a file, to its end
+abbrev pub script_asked : Bytes → Option Bytes → Option Asked
+script_asked folder None = None
+script_asked folder (Some script) = Some (Psql folder script)
+
+abbrev pub psql_asked : PsqlWords → Option Asked
+psql_asked words = if words.on_error_stop then None else script_asked (folder_named words.folder) (file_named words.file)
+
+-- something is left out of a dump by a flag, or each pattern has to hit
+abbrev pub is_flagged : Choice → Bool
+is_flagged choice = choice.data_only || choice.schema_only || choice.no_owner || choice.no_privileges || choice.no_comments || choice.strict_names
+
+-- no object and no section is chosen by name
+abbrev pub names_none : Choice → Bool
+names_none choice =
+    is_empty_list choice.schemas && is_empty_list choice.exclude_schemas && is_empty_list choice.tables && is_empty_list choice.exclude_tables
+    && is_empty_list choice.exclude_table_data && is_empty_list choice.sections
+
+-- all of a folder is dumped
+abbrev pub takes_all : Choice → Bool
+takes_all choice = not (is_flagged choice) && names_none choice
+
+-- a script, which is also what is written where no format is named
+abbrev pub is_script : Option Format → Bool
+is_script None = true
+is_script (Some format.Plain) = true
+is_script (Some _) = false
+
+-- standard output
+abbrev pub is_printed : Option Bytes → Bool
+is_printed None = true
+is_printed (Some name) = bytes_eq name (codes "-")
+
+-- pg_dump prints the script of a whole folder
+abbrev pub dump_asked : DumpWords → Option Asked
+dump_asked words = if is_printed words.file && is_script words.format && takes_all words.choice then Some (Dump (folder_named words.folder)) else None
+
+-- what a command asks for, where that is built
+abbrev pub asked_of : Command → Option Asked
+asked_of (command.Psql words) = psql_asked words
+asked_of (command.PgDump words) = dump_asked words
+asked_of (command.PgCatcmp words) = Some (Compare words.first words.second)
+asked_of (command.PgRestore words) = None
+asked_of (command.PgDumpall words) = None
+asked_of (command.PgClone words) = None
+asked_of (command.PgGen words) = None
+
+abbrev pub built : Option Asked → Result Asked Outcome
+built None = Err (OutOfProfile Unbuilt)
+built (Some asked) = Ok asked
+
+abbrev pub asked_by : Result Command UsageFault → Result Asked Outcome
+asked_by (Err fault) = Err (Usage fault.word fault.kind)
+asked_by (Ok command) = built (asked_of command)
+
+-- What a list of words asks for: the first word that fails is told, and a command of which something isn't built is
+-- refused at once.
+unfoldable pub words_asked : List Bytes → Result Asked Outcome
+words_asked words = asked_by (command_from words)
+
+-- ---- who tells a refusal
+
+abbrev pub told_by : Option UsageFault → Option Tool → Teller
+told_by None (Some tool) = teller.Tool tool
+told_by _ _ = teller.Program
+
+-- the tool that the first word names; the program itself where the words have no reading
+unfoldable pub teller_of : List Bytes → Teller
+teller_of [] = teller.Program
+teller_of (name ∷ words) = told_by (usage_of (name ∷ words)) (tool_of name)

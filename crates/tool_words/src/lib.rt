@@ -7,6 +7,6 @@ mod telling;
 mod words;
 
 pub use keys::Difference;
-pub use outcome::{ExportFault, Limit, Outcome, UsageKind};
+pub use outcome::{ExportFault, Limit, Outcome};
 pub use telling::{tell, write_bytes};
-pub use words::{Command, Tool, read_words, tool_of};
+pub use words::{Asked, Teller, read_asked, teller_of};

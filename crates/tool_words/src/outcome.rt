@@ -8,23 +8,13 @@ use crate::keys::Difference;
 use cat_model::{Cause, What};
 use cat_names::{CatFault, CheckError, FaultKind};
 use cat_rows::RowFault;
+use command_line::UsageKind;
 use copy_text::Text;
 use data_rows::DataFault;
 use ddl_read::{DdlFault, ReadStmtsError};
 use folder_io::{ExportFile, ExportKind, FolderFault, FolderLimit};
 use std::alloc::AllocError;
 use table_rows::{CheckValuesError, ValuesFault};
-
-/// Why the words of a command line have no reading. Words count from 0.
-#[derive(Clone, Copy, Debug, PartialEq, Eq)]
-pub enum UsageKind {
-    /// There are no words.
-    NoCommand,
-    /// The words aren't of a form that the program has.
-    UnknownCommand,
-    /// The word isn't UTF-8.
-    BadValue,
-}
 
 /// Which limit is passed.
 #[derive(Clone, Copy, Debug, PartialEq, Eq)]
@@ -61,7 +51,7 @@ pub enum Outcome {
     Done,
     /// The words have no reading.
     Usage {
-        /// The first word that fails.
+        /// The first word that fails, counted from 0; where something is missing, the number of words.
         word: usize,
         /// Why.
         kind: UsageKind,

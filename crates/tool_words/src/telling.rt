@@ -5,20 +5,21 @@ ghost use Rattle.folder_io.specs.Folders.{file_name};
 ghost use Rattle.tool_words.specs.Messages.{kind_text, limit_text, what_text, outcome_text, outcome_line};
 ghost use Rattle.tool_words.specs.Lines.{Appends, AppendsPart};
 
-use crate::outcome::{Limit, Outcome, UsageKind};
-use crate::words::Tool;
+use crate::outcome::{Limit, Outcome};
+use crate::words::Teller;
 use cat_model::What;
+use command_line::UsageKind;
 use dump_ports::{Failed, Sink, write_all};
 use folder_io::ExportFile;
 use itoa::Buffer;
 
 /// Writes the line of a refusal to standard error. After an error a first part of it was written.
-pub fn tell<E: Sink>(err: &mut E, tool: Tool, outcome: &Outcome) -> Result<(), Failed>
-    ensures ok { OnOk result (Appends (outcome_line tool outcome.now) (E.written err.old) (E.written err.new)) }
-    ensures err { OnErr result (AppendsPart (outcome_line tool outcome.now) (E.written err.old) (E.written err.new)) }
+pub fn tell<E: Sink>(err: &mut E, teller: Teller, outcome: &Outcome) -> Result<(), Failed>
+    ensures ok { OnOk result (Appends (outcome_line teller outcome.now) (E.written err.old) (E.written err.new)) }
+    ensures err { OnErr result (AppendsPart (outcome_line teller outcome.now) (E.written err.old) (E.written err.new)) }
     ensures count { CountsFault result (E.faults err.old) (E.faults err.new) }
 {
-    write_two(err, tool.name().as_bytes(), b": error: ")?;
+    write_two(err, teller.name().as_bytes(), b": error: ")?;
     write_outcome(err, outcome)?;
     write_bytes(err, b"\n")
 }
@@ -138,7 +139,13 @@ fn kind_text(kind: UsageKind) -> &'static [u8]
     match kind {
         UsageKind::NoCommand => b": NoCommand",
         UsageKind::UnknownCommand => b": UnknownCommand",
+        UsageKind::OutOfProfile => b": OutOfProfile",
+        UsageKind::UnknownOption => b": UnknownOption",
+        UsageKind::MissingValue => b": MissingValue",
         UsageKind::BadValue => b": BadValue",
+        UsageKind::ExtraWord => b": ExtraWord",
+        UsageKind::Excluded => b": Excluded",
+        UsageKind::MissingOption => b": MissingOption",
     }
 }
 

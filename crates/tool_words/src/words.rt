@@ -1,90 +1,236 @@
-//! The words of a command line.
-ghost use Rattle.std.specs.Prelude.{◌≡◌, ℕ, List, Result, Ok, Err, MatchResult};
-ghost use Rattle.tool_words.specs.Words.{asked_of, words_of, tool_of};
-ghost use Rattle.tool_words.specs.Messages.{tool_name};
+//! What the words of a command line ask for.
+ghost use Rattle.std.specs.Prelude.{◌≡◌, ℕ, List, Option, Some, None, Result, Ok, Err, MatchResult};
+ghost use Rattle.cat_names.specs.Rights.{is_empty_list};
+ghost use Rattle.tool_words.specs.Answers.{Gives, CountsRead};
+ghost use Rattle.tool_words.specs.Words.{folder_named, file_named, script_asked, psql_asked, is_flagged, names_none, takes_all, is_script, is_printed, dump_asked, asked_of, built, words_asked, told_by, teller_of};
+ghost use Rattle.tool_words.specs.Messages.{teller_name};
 
-use crate::outcome::UsageKind;
+use crate::outcome::Outcome;
+use cat_model::What;
+use command_line::{
+    Choice, Command, CompareWords, DumpWords, Folder, Format, Patterns, PsqlWords, ReadWordsError,
+    SectionList, Tool, UsageFault, read_words, usage_fault,
+};
 use copy_text::Text;
+use std::alloc::Global;
 
-/// What the words ask for.
-#[derive(Clone, Copy, Debug)]
-pub enum Command<'a> {
-    /// psql applies a script to a folder.
+/// What the words ask for, where that is built.
+#[derive(Debug, Drop)]
+pub enum Asked {
+    /// psql applies a script to a folder, to its end.
     Psql {
         /// The folder.
-        folder: &'a Text,
+        folder: Text,
         /// The file of the script.
-        script: &'a Text,
+        script: Text,
     },
     /// pg_dump prints the script of a folder.
     Dump {
         /// The folder.
-        folder: &'a Text,
+        folder: Text,
     },
     /// pg_catcmp compares two folders.
     Compare {
         /// The first folder.
-        first: &'a Text,
+        first: Text,
         /// The second folder.
-        second: &'a Text,
+        second: Text,
     },
 }
 
 /// Who tells a refusal.
 #[derive(Clone, Copy, Debug, PartialEq, Eq)]
-pub enum Tool {
+pub enum Teller {
     /// The program, where its words have no reading.
     Program,
-    /// psql.
-    Psql,
-    /// pg_dump.
-    PgDump,
-    /// pg_catcmp.
-    PgCatcmp,
+    /// The tool that the first word names.
+    Tool(Tool),
 }
 
-impl Tool {
-    /// How the tool is called.
+impl Teller {
+    /// How the teller is called.
     pub fn name(self) -> &'static str
-        ensures { result.now ≡ tool_name self }
+        ensures { result.now ≡ teller_name self }
     {
         match self {
-            Tool::Program => "pgtools",
-            Tool::Psql => "psql",
-            Tool::PgDump => "pg_dump",
-            Tool::PgCatcmp => "pg_catcmp",
+            Teller::Program => "pgtools",
+            Teller::Tool(tool) => tool.name(),
         }
     }
 }
 
-/// The tool that the words ask for, or the program where they have no reading.
-pub fn tool_of(words: &[Text]) -> Tool
-    ensures { result ≡ tool_of (words_of words.now) }
-{
-    match read_words(words) {
-        Ok(Command::Psql { .. }) => Tool::Psql,
-        Ok(Command::Dump { .. }) => Tool::PgDump,
-        Ok(Command::Compare { .. }) => Tool::PgCatcmp,
-        Err(_) => Tool::Program,
-    }
-}
-
-/// Reads the words `psql -d FOLDER -f SCRIPT`, `pg_dump FOLDER` or `pg_catcmp FOLDER FOLDER`.
-///
-/// `NoCommand` comes where there are no words, `UnknownCommand` for any other list. Both name the first word.
-pub fn read_words(words: &[Text]) -> Result<Command<'_>, UsageKind>
-    ensures { MatchResult result (λ command. words_of words.now ≡ Ok (asked_of command)) (λ kind. words_of words.now ≡ Err kind) }
+/// The tool that the first word names, or the program where the words have no reading.
+#[tactic(auto, unfolding(crate::specs::Words::teller_of))]
+pub fn teller_of(words: &[Text]) -> Teller
+    ensures { result ≡ teller_of words.now }
 {
     match words {
-        [] => Err(UsageKind::NoCommand),
-        [tool, d, folder, f, script]
-            if tool.as_str() == "psql" && d.as_str() == "-d" && f.as_str() == "-f" => {
-            Ok(Command::Psql { folder, script })
-        }
-        [tool, folder] if tool.as_str() == "pg_dump" => Ok(Command::Dump { folder }),
-        [tool, first, second] if tool.as_str() == "pg_catcmp" => {
-            Ok(Command::Compare { first, second })
-        }
-        _ => Err(UsageKind::UnknownCommand),
+        [] => Teller::Program,
+        [name, ..] => told_by(usage_fault(words), Tool::named(name.as_str())),
+    }
+}
+
+fn told_by(fault: Option<UsageFault>, tool: Option<Tool>) -> Teller
+    ensures { result ≡ told_by fault tool }
+{
+    match (fault, tool) {
+        (None, Some(tool)) => Teller::Tool(tool),
+        _ => Teller::Program,
+    }
+}
+
+/// Reads what the words ask for. The first word that fails is told; then a command of which something isn't built is
+/// `OutOfProfile(Unbuilt)`. `Memory` comes only where the words read.
+#[tactic(auto, unfolding(crate::specs::Words::words_asked))]
+pub fn read_asked(alloc: Global, words: &[Text]) -> Result<Asked, Outcome>
+    ensures due { Gives (λ asked. asked) result (words_asked words.now) }
+    ensures count { (n : ℕ) → CountsRead result n n }
+{
+    match read_words(alloc, words) {
+        Ok(command) => built(asked_of(command)),
+        Err(ReadWordsError::Usage(UsageFault { word, kind })) => Err(Outcome::Usage { word, kind }),
+        Err(ReadWordsError::Memory) => Err(Outcome::Memory),
+    }
+}
+
+fn built(asked: Option<Asked>) -> Result<Asked, Outcome>
+    ensures exact { result ≡ built asked }
+    ensures count { (n : ℕ) → CountsRead result n n }
+{
+    match asked {
+        Some(asked) => Ok(asked),
+        None => Err(Outcome::OutOfProfile(What::Unbuilt)),
+    }
+}
+
+/// What a command asks for, where that is built.
+fn asked_of(command: Command) -> Option<Asked>
+    ensures { result ≡ asked_of command }
+{
+    match command {
+        Command::Psql(words) => psql_asked(words),
+        Command::PgDump(words) => dump_asked(words),
+        Command::PgCatcmp(CompareWords { first, second }) => Some(Asked::Compare { first, second }),
+        _ => None,
+    }
+}
+
+fn psql_asked(words: PsqlWords) -> Option<Asked>
+    ensures { result ≡ psql_asked words }
+{
+    let PsqlWords {
+        folder,
+        file,
+        on_error_stop,
+    } = words;
+    if on_error_stop {
+        return None;
+    }
+    script_asked(folder_named(folder), file_named(file))
+}
+
+fn script_asked(folder: Text, script: Option<Text>) -> Option<Asked>
+    ensures { result ≡ script_asked folder script }
+{
+    match script {
+        Some(script) => Some(Asked::Psql { folder, script }),
+        None => None,
+    }
+}
+
+/// A file, and not standard input.
+fn file_named(file: Option<Text>) -> Option<Text>
+    ensures { result ≡ file_named file }
+{
+    match file {
+        Some(name) if name.as_str() != "-" => Some(name),
+        _ => None,
+    }
+}
+
+/// The folder, in whichever way it was named.
+fn folder_named(folder: Folder) -> Text
+    ensures { result ≡ folder_named folder }
+{
+    match folder {
+        Folder::Dbname(name) | Folder::Word(name) => name,
+    }
+}
+
+fn dump_asked(words: DumpWords) -> Option<Asked>
+    ensures { result ≡ dump_asked words }
+{
+    if !is_printed(&words.file) || !is_script(words.format) || !takes_all(&words.choice) {
+        return None;
+    }
+    let DumpWords { folder, .. } = words;
+    Some(Asked::Dump {
+        folder: folder_named(folder),
+    })
+}
+
+/// Whether standard output is written to.
+fn is_printed(file: &Option<Text>) -> bool
+    ensures { result ≡ is_printed file.now }
+{
+    match file {
+        Some(name) => name.as_str() == "-",
+        None => true,
+    }
+}
+
+/// Whether a script is written.
+fn is_script(format: Option<Format>) -> bool
+    ensures { result ≡ is_script format }
+{
+    matches!(format, None | Some(Format::Plain))
+}
+
+/// Whether all of a folder is dumped.
+fn takes_all(choice: &Choice) -> bool
+    ensures { result ≡ takes_all choice.now }
+{
+    !is_flagged(choice) && names_none(choice)
+}
+
+/// Whether a flag leaves something out, or wants each pattern to hit.
+fn is_flagged(choice: &Choice) -> bool
+    ensures { result ≡ is_flagged choice.now }
+{
+    choice.data_only
+        || choice.schema_only
+        || choice.no_owner
+        || choice.no_privileges
+        || choice.no_comments
+        || choice.strict_names
+}
+
+/// Whether no object and no section is chosen by name.
+fn names_none(choice: &Choice) -> bool
+    ensures { result ≡ names_none choice.now }
+{
+    has_none(&choice.schemas)
+        && has_none(&choice.exclude_schemas)
+        && has_none(&choice.tables)
+        && has_none(&choice.exclude_tables)
+        && has_none(&choice.exclude_table_data)
+        && has_no_section(&choice.sections)
+}
+
+fn has_none(patterns: &Patterns) -> bool
+    ensures { result ≡ is_empty_list patterns.now }
+{
+    match patterns.as_slice() {
+        [] => true,
+        [_, ..] => false,
+    }
+}
+
+fn has_no_section(sections: &SectionList) -> bool
+    ensures { result ≡ is_empty_list sections.now }
+{
+    match sections.as_slice() {
+        [] => true,
+        [_, ..] => false,
     }
 }
