@@ -1,0 +1,40 @@
+-- What stands once a plan is carried out.
+use Rattle.std.proofs.Common.{◌≡◌, List, [], map, Option, option_map, sym, subst, ◌∙◌}
+use Rattle.std.specs.List.Sorted.{IsPermutation}
+use Rattle.dump_ports.specs.Tree.{Tree}
+use Rattle.cat_rows.specs.declared.table.SysTable.TheVariants.{PgNamespace}
+use Rattle.cat_rows.specs.Writing.{IsWritten}
+use Rattle.cat_model.specs.Values.{Bytes}
+use Rattle.schema_folders.specs.declared.schemas.SchemaRow.{SchemaRow}
+use Rattle.schema_folders.specs.Naming.{boot, named}
+use Rattle.schema_folders.specs.Run.{catalogue_after, Grown}
+use Rattle.schema_folders.specs.Folder.{cells_of_row, folder_saved, schemas_alone, Holds, IsNamespaces}
+use Rattle.dump_tools.specs.Due.{Application, Comes, Applied}
+use Rattle.schema_folders.proofs.Named.{named-IsPermutation}
+use Rattle.schema_folders.proofs.Standing.{folder_holds}
+
+-- what the statements come to
+abbrev pub made_of : (plan : Application) (schemas : List SchemaRow) (text : Bytes) → Grown plan.rows schemas → named schemas ≡ catalogue_after boot plan.statements (named plan.rows) → IsNamespaces schemas text → Comes plan text
+made_of plan schemas text g same n = record {
+  made = g.made;
+  rows = n.sorted;
+  drawn = g.drawn;
+  kept = subst (λ rows. IsPermutation rows n.sorted) g.stays n.kept;
+  same = sym (named-IsPermutation schemas n.sorted n.kept) ∙ same;
+  oids = n.oids;
+  names = n.names;
+  written = subst (λ rows. IsWritten PgNamespace (map cells_of_row rows) (map cells_of_row n.sorted) [] text) g.stays n.written;
+}
+
+-- a folder that is written so holds their catalogue
+pub holds : (plan : Application) (schemas : List SchemaRow) (text : Bytes) (n : IsNamespaces schemas text) → (tree : Tree) → Holds plan.folder (folder_saved plan.folder text tree) (schemas_alone n.sorted)
+holds plan schemas text n tree = folder_holds plan.folder text n.sorted tree n.reads
+
+pub applied : (plan : Application) (schemas : List SchemaRow) (text : Bytes) (before after : Option Tree) → Grown plan.rows schemas → named schemas ≡ catalogue_after boot plan.statements (named plan.rows) → IsNamespaces schemas text
+    → after ≡ option_map (folder_saved plan.folder text) before → Applied plan before after
+applied plan schemas text before after g same n save = record {
+  text = text;
+  result = made_of plan schemas text g same n;
+  saved = save;
+  holds = holds plan schemas text n;
+}

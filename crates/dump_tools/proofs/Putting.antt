@@ -1,0 +1,170 @@
+-- Outputs one after another: what the outside holds once some of them are whole and the next one is cut.
+use Rattle.std.proofs.Common.{◌≡◌, List, [], ◌∷◌, ◌++◌, map, take, drop, Option, Some, None, option_map, Result, Ok, refl, sym, ap, subst, ◌∙◌, inl, inr, append-nil}
+use Rattle.std.proofs.lemmas.List.{append_assoc, map-append, take-append-drop}
+use Rattle.std.specs.FinMap.{insert}
+use Rattle.dump_ports.specs.Tree.{Tree, TakesPrefix}
+use Rattle.cat_model.specs.Values.{Bytes}
+use Rattle.schema_folders.specs.declared.schemas.SchemaRow.{SchemaRow}
+use Rattle.schema_folders.specs.Naming.{boot, named}
+use Rattle.schema_folders.specs.Run.{catalogue_after, Grown}
+use Rattle.schema_folders.specs.Folder.{File, files_written, folder_saved, saved, PartSaved, IsNamespaces}
+use Rattle.schema_folders.specs.Folder.{IsCut as IsCutFile}
+use Rattle.tool_words.specs.declared.outcome.Outcome.{Outcome}
+use Rattle.tool_words.specs.declared.outcome.Outcome.TheVariants.{Done}
+use Rattle.tool_words.specs.declared.words.Teller.{Teller}
+use Rattle.tool_words.specs.Lines.{Appends, AppendsPart}
+use Rattle.dump_ports.specs.declared.moment.Moment.{Moment}
+use Rattle.tool_words.specs.declared.words.Asked.{Asked}
+use Rattle.tool_words.specs.Answers.{◌>>=◌}
+use Rattle.tool_words.specs.Words.{words_asked}
+use Rattle.dump_tools.specs.Due.{asked_due, due, Plan, Applies, Prints, Compares, Application, Applied, IsCarriedOut, WasDue, report_of}
+use Rattle.dump_tools.specs.Outputs.{World, world, Output, Writes, Tells, all_performed, IsPart, IsCut, CutShort, stores}
+use Rattle.dump_tools.specs.Runs.{Run, run_of, IsApplied, HasEnded, HasCut}
+use Rattle.dump_tools.proofs.Ending.{made_of, holds}
+
+pub same_world : (tree tree' : Option Tree) (left : Option Bytes) (printed printed' told told' : Option Bytes) → tree ≡ tree' → printed ≡ printed' → told ≡ told' → world tree left printed told ≡ world tree' left printed' told'
+same_world tree tree' left printed printed' told told' a b c = rw (a, b, c) refl
+
+-- ---- files that are stored
+
+-- files that are stored one after another, and what is put out behind them
+pub all_put : (files : List File) (more : List Output) (tree : Option Tree) (left printed told : Option Bytes) → all_performed (map stores files ++ more) (world tree left printed told) ≡ all_performed more (world (option_map (saved files) tree) left printed told)
+all_put [] more None left printed told = refl
+all_put [] more (Some t) left printed told = refl
+all_put (file ∷ files) more None left printed told = all_put files more None left printed told
+all_put (file ∷ files) more (Some t) left printed told = all_put files more (Some (insert t file.name file.text)) left printed told
+
+whole_put : (files : List File) (tree : Option Tree) (left printed told : Option Bytes) → all_performed (map stores files) (world tree left printed told) ≡ world (option_map (saved files) tree) left printed told
+whole_put [] None left printed told = refl
+whole_put [] (Some t) left printed told = refl
+whole_put (file ∷ files) None left printed told = whole_put files None left printed told
+whole_put (file ∷ files) (Some t) left printed told = whole_put files (Some (insert t file.name file.text)) left printed told
+
+-- ---- outputs that are cut
+
+none_cut : (outputs : List Output) (before after : World) → after ≡ before → IsCut outputs before after
+none_cut [] before after e = e
+none_cut (output ∷ outputs) before after e = inl e
+
+file_part : (file : File) (before after : Option Tree) (left printed told : Option Bytes) → TakesPrefix (λ text tree. insert tree file.name text) file.text before after → IsPart (stores file) (world before left printed told) (world after left printed told)
+file_part file before after left printed told (inl e) = inl (ap (λ tree. world tree left printed told) e)
+file_part file before after left printed told (inr h) = inr (record {
+  front = take h.0 file.text;
+  rest = drop h.0 file.text;
+  split = sym (take-append-drop h.0 file.text);
+  put = ap (λ tree. world tree left printed told) h.2;
+})
+
+files_cut : (later : List File) (more : List Output) (before after : Option Tree) (left printed told : Option Bytes) → IsCutFile later before after → IsCut (map stores later ++ more) (world before left printed told) (world after left printed told)
+files_cut [] more before after left printed told e = none_cut more (world before left printed told) (world after left printed told) (ap (λ tree. world tree left printed told) e)
+files_cut (file ∷ later) more before after left printed told h = file_part file before after left printed told h
+
+split_files : (files whole later : List File) (more : List Output) → files ≡ whole ++ later → map stores files ++ more ≡ map stores whole ++ (map stores later ++ more)
+split_files files whole later more e =
+    ap (λ fs. map stores fs ++ more) e
+    ∙ ap (λ os. os ++ more) (map-append stores whole later)
+    ∙ append_assoc (map stores whole) (map stores later) more
+
+-- the storing of these files ended on its way
+folder_cut : (files : List File) (more : List Output) (before after : Option Tree) (left printed told : Option Bytes) → PartSaved files before after → CutShort (map stores files ++ more) (world before left printed told) (world after left printed told)
+folder_cut files more before after left printed told s = record {
+  whole = map stores s.whole;
+  later = map stores s.later ++ more;
+  split = split_files files s.whole s.later more s.split;
+  cut = subst (λ w. IsCut (map stores s.later ++ more) w (world after left printed told)) (sym (whole_put s.whole before left printed told)) (files_cut s.later more (option_map (saved s.whole) before) after left printed told s.cut);
+}
+
+-- a first part of a text was told
+pub told_part : (tree : Option Tree) (left printed told after : Option Bytes) (text : Bytes) → AppendsPart text told after → IsPart (Tells text) (world tree left printed told) (world tree left printed after)
+told_part tree left printed told after text p = inr (record { front = p.front; rest = p.rest; split = p.split; put = ap (λ t. world tree left printed t) p.taken })
+
+-- a first part of a text was printed
+printed_part : (tree : Option Tree) (left printed after told : Option Bytes) (text : Bytes) → AppendsPart text printed after → IsPart (Writes text) (world tree left printed told) (world tree left after told)
+printed_part tree left printed after told text p = inr (record { front = p.front; rest = p.rest; split = p.split; put = ap (λ t. world tree left t told) p.taken })
+
+-- a whole text was told
+pub told_whole : (tree : Option Tree) (left printed told after : Option Bytes) (text : Bytes) → Appends text told after → IsPart (Tells text) (world tree left printed told) (world tree left printed after)
+told_whole tree left printed told after text a = inr (record { front = text; rest = []; split = sym (append-nil text); put = ap (λ t. world tree left printed t) a })
+
+-- ---- runs that are cut short
+
+-- nothing was put out
+pub cut_none : (teller : Teller) (due : Result Plan Outcome) (before after : World) → after ≡ before → HasCut teller due before after
+cut_none teller due before after e = record { outputs = []; of_run = inl refl; cut = record { whole = []; later = []; split = refl; cut = e } }
+
+-- the files are as they were, and so are the streams
+pub cut_kept : (teller : Teller) (due : Result Plan Outcome) (tree tree' : Option Tree) (left printed told : Option Bytes) → tree' ≡ tree → HasCut teller due (world tree left printed told) (world tree' left printed told)
+cut_kept teller due tree tree' left printed told e = cut_none teller due (world tree left printed told) (world tree' left printed told) (ap (λ t. world t left printed told) e)
+
+-- what is cut short of what is due
+pub cut_due : (teller : Teller) (due d : Result Plan Outcome) (before after : World) → due ≡ d → HasCut teller d before after → HasCut teller due before after
+cut_due teller due d before after e h = subst (λ r. HasCut teller r before after) (sym e) h
+
+-- what is due of the words, once they are read
+pub due_asked : (words : List Bytes) (moment : Moment) (tree : Tree) (asked : Asked) → words_asked words ≡ Ok asked → due words moment tree ≡ asked_due asked moment tree
+due_asked words moment tree asked e = ap (λ (r : Result Asked Outcome). r >>= λ a. asked_due a moment tree) e
+
+abbrev pub applied_run : (plan : Application) (text : Bytes) → Run
+applied_run plan text = run_of (map stores (files_written plan.folder text) ++ Tells (report_of plan) ∷ []) Done
+
+-- the run in which a script is applied
+pub may_apply : (plan : Application) (schemas : List SchemaRow) (text : Bytes) → Grown plan.rows schemas → named schemas ≡ catalogue_after boot plan.statements (named plan.rows) → IsNamespaces schemas text → IsApplied plan (applied_run plan text)
+may_apply plan schemas text g same n = record { text = text; comes = made_of plan schemas text g same n; holds = holds plan schemas text n; is = refl }
+
+-- the writing of a folder ended on its way
+pub cut_in_folder : (teller : Teller) (plan : Application) (text : Bytes) → IsApplied plan (applied_run plan text) → (before after : Option Tree) (left printed told : Option Bytes) → PartSaved (files_written plan.folder text) before after → HasCut teller (Ok (Applies plan)) (world before left printed told) (world after left printed told)
+cut_in_folder teller plan text may before after left printed told s = record {
+  outputs = map stores (files_written plan.folder text) ++ Tells (report_of plan) ∷ [];
+  of_run = inr (applied_run plan text, may, refl);
+  cut = folder_cut (files_written plan.folder text) (Tells (report_of plan) ∷ []) before after left printed told s;
+}
+
+-- the telling of the report ended on its way
+pub cut_in_report : (teller : Teller) (plan : Application) (before after : Option Tree) (left printed told told_after : Option Bytes) → Applied plan before after → AppendsPart (report_of plan) told told_after → HasCut teller (Ok (Applies plan)) (world before left printed told) (world after left printed told_after)
+cut_in_report teller plan before after left printed told told_after a p = record {
+  outputs = map stores (files_written plan.folder a.text) ++ Tells (report_of plan) ∷ [];
+  of_run = inr (applied_run plan a.text, record { text = a.text; comes = a.result; holds = a.holds; is = refl }, refl);
+  cut = record {
+    whole = map stores (files_written plan.folder a.text);
+    later = Tells (report_of plan) ∷ [];
+    split = refl;
+    cut = subst (λ w. IsPart (Tells (report_of plan)) w (world after left printed told_after))
+        (ap (λ tree. world tree left printed told) a.saved ∙ sym (whole_put (files_written plan.folder a.text) before left printed told))
+        (told_part after left printed told told_after (report_of plan) p);
+  };
+}
+
+-- the printing of a text ended on its way
+pub cut_in_text : (teller : Teller) (due : Result Plan Outcome) (text : Bytes) (tree tree' : Option Tree) (left printed printed_after told : Option Bytes) → due ≡ Ok (Prints text) → tree' ≡ tree → AppendsPart text printed printed_after → HasCut teller due (world tree left printed told) (world tree' left printed_after told)
+cut_in_text teller due text tree tree' left printed printed_after told d e p = rw (d, e) (record {
+  outputs = Writes text ∷ [];
+  of_run = inr (run_of (Writes text ∷ []) Done, refl, refl);
+  cut = record { whole = []; later = Writes text ∷ []; split = refl; cut = printed_part tree left printed printed_after told text p };
+})
+
+-- ---- a run that has ended
+
+-- a plan that was due was carried out
+pub ended : (teller : Teller) (due : Result Plan Outcome) (before after : Option Tree) (left out_before out_after told_before told_after : Option Bytes) → WasDue due before after out_before out_after told_before told_after → HasEnded teller due Done (world before left out_before told_before) (world after left out_after told_after)
+ended teller due before after left out_before out_after told_before told_after w = subst (λ d. HasEnded teller d Done (world before left out_before told_before) (world after left out_after told_after)) (sym w.is_due) (of w.plan w.carried)
+  where
+    of : (plan : Plan) → IsCarriedOut plan before after out_before out_after told_before told_after → HasEnded teller (Ok plan) Done (world before left out_before told_before) (world after left out_after told_after)
+    of (Applies plan) carried = record {
+      run = applied_run plan carried.0.text;
+      may = record { text = carried.0.text; comes = carried.0.result; holds = carried.0.holds; is = refl };
+      answers = refl;
+      put = same_world after (option_map (folder_saved plan.folder carried.0.text) before) left out_after out_before told_after (option_map (λ told. told ++ report_of plan) told_before) carried.0.saved carried.1 carried.2
+          ∙ sym (all_put (files_written plan.folder carried.0.text) (Tells (report_of plan) ∷ []) before left out_before told_before);
+    }
+    of (Prints text) carried = record {
+      run = run_of (Writes text ∷ []) Done;
+      may = refl;
+      answers = refl;
+      put = same_world after before left out_after (option_map (λ printed. printed ++ text) out_before) told_after told_before carried.0 carried.1 carried.2;
+    }
+    of (Compares a b) carried = record {
+      run = run_of [] Done;
+      may = inl (carried.0, refl);
+      answers = refl;
+      put = same_world after before left out_after out_before told_after told_before carried.1 carried.2 carried.3;
+    }

@@ -1,0 +1,172 @@
+-- No refusal that is due is Done.
+use Rattle.std.proofs.Common.{◌≡◌, ℕ, Bool, true, false, cond, ◌+◌, List, length, map, Option, Some, None, Result, Ok, Err, nat_le, ap}
+use Rattle.dump_ports.specs.Tree.{Tree, text_at}
+use Rattle.cat_names.specs.declared.fault.CatFault.{CatFault}
+use Rattle.cat_names.specs.declared.fault.FaultKind.{FaultKind}
+use Rattle.cat_names.specs.declared.fault.FaultKind.TheVariants as kinds
+use Rattle.cat_check.specs.Catalogues.{catalogue_fault}
+use Rattle.table_rows.specs.declared.fault.ValuesFault.{ValuesFault}
+use Rattle.table_rows.specs.Values.{values_fault}
+use Rattle.folder_io.specs.declared.fault.FolderFault.{FolderFault}
+use Rattle.folder_io.specs.declared.fault.FolderFault.TheVariants as folders
+use Rattle.folder_io.specs.Folders.{bytes_of, catalogue_of}
+use Rattle.folder_rows.specs.Reading.{data_of}
+use Rattle.cat_rows.specs.declared.table.SysTable.TheVariants.{PgNamespace}
+use Rattle.cat_model.specs.Values.{Bytes}
+use Rattle.cat_model.specs.declared.words.What.TheVariants as what
+use Rattle.ddl_read.specs.declared.fault.DdlFault.{DdlFault}
+use Rattle.ddl_read.specs.declared.located.Located.{Located}
+use Rattle.ddl_read.specs.Reading.{statements_of}
+use Rattle.schema_folders.specs.declared.schemas.SchemaRow.{SchemaRow}
+use Rattle.tool_words.specs.declared.outcome.Limit.{Limit}
+use Rattle.tool_words.specs.declared.outcome.Limit.TheVariants.{Script}
+use Rattle.tool_words.specs.declared.outcome.Outcome.{Outcome}
+use Rattle.tool_words.specs.declared.outcome.Outcome.TheVariants.{Done, OutOfProfile, TooLarge}
+use Rattle.tool_words.specs.Answers.{◌>>=◌}
+use Rattle.command_line.specs.declared.command.Command.{Command}
+use Rattle.command_line.specs.declared.usage.UsageFault.{UsageFault}
+use Rattle.command_line.specs.Usage.{command_from}
+use Rattle.tool_words.specs.declared.words.Asked.{Asked}
+use Rattle.tool_words.specs.declared.words.Asked.TheVariants.{Psql, Dump, Compare}
+use Rattle.tool_words.specs.Words.{asked_of, built, asked_by, words_asked}
+use Rattle.schema_folders.specs.Naming.{boot}
+use Rattle.dump_ports.specs.declared.moment.Moment.{Moment}
+use Rattle.toc_entry.specs.declared.entry.Entry.{Entry}
+use Rattle.dump_schemas.specs.Toc.{toc_due}
+use Rattle.dump_schemas.specs.Scripts.{script_of as dumped_script}
+use Rattle.schema_folders.specs.Texts.{within, file_of}
+use Rattle.schema_folders.specs.Statements.{are_taken, scripted, script_of}
+use Rattle.cat_rows.specs.Catalogues.{rows_in}
+use Rattle.schema_folders.specs.Folder.{is_bare, schemas_of, opening_in, opening_of, or_unbuilt}
+use Rattle.tool_words.specs.Outcomes.{fault_outcome}
+use Rattle.exports.specs.Cells.{catalogue_with}
+use Rattle.exports.specs.Exports.{Exported, told, well_formed, have_rows, export_with, export_of}
+use Rattle.dump_tools.specs.Due.{script_limit, psql_due, database, dump_row, counted, dump_due, second_due, compare_due, asked_due, due}
+
+same : (A B : Type 0) (o : Outcome) → ◌≡◌ {A = Result B Outcome} (Err o) (Err Done) → ◌≡◌ {A = Result A Outcome} (Err o) (Err Done)
+same A B o e = ap Err (inner B o e)
+  where
+    inner : (B : Type 0) (o : Outcome) → ◌≡◌ {A = Result B Outcome} (Err o) (Err Done) → o ≡ Done
+    inner B o e = cc
+
+bind_never : {A B : Type 0} (r : Result A Outcome) (f : A → Result B Outcome) → (r ≡ Err Done → ⊥) → ((x : A) → f x ≡ Err Done → ⊥) → (r >>= f) ≡ Err Done → ⊥
+bind_never (Ok x) f n m e = m x e
+bind_never {A = A} {B = B} (Err o) f n m e = n (same A B o e)
+
+ok_never : {Y : Type 0} (x : Y) → Ok x ≡ Err Done → ⊥
+ok_never x e = cc
+
+within_never : (what : Limit) (limit : ℕ) (name : List ℕ) (found : Option (List ℕ)) → within what limit name found ≡ Err Done → ⊥
+within_never what limit name None e = cc
+within_never what limit name (Some text) e = by_length (nat_le (length text) limit) e
+  where
+    by_length : (b : Bool) → cond {A = Result Bytes Outcome} b (Ok text) (Err (TooLarge what (limit + 1))) ≡ Err Done → ⊥
+    by_length true h = cc
+    by_length false h = cc
+
+file_never : (what : Limit) (limit : ℕ) (name : List ℕ) (tree : Tree) → file_of what limit name tree ≡ Err Done → ⊥
+unfolding file_of
+file_never what limit name tree e = within_never what limit name (text_at tree name) e
+
+unbuilt_never : (plain : Bool) (found : Option (List SchemaRow)) → or_unbuilt plain found ≡ Err Done → ⊥
+unbuilt_never plain None e = cc
+unbuilt_never true (Some rows) e = cc
+unbuilt_never false (Some rows) e = cc
+
+told_never : {A : Type 0} (r : Result A FolderFault) → told r ≡ Err Done → ⊥
+told_never (Ok x) e = cc
+told_never (Err folders.Failed) e = cc
+told_never (Err (folders.Missing name)) e = cc
+told_never (Err (folders.BadExport file line kind)) e = cc
+told_never (Err (folders.TooLarge limit n)) e = cc
+told_never (Err folders.Memory) e = cc
+
+formed_never : (found : Option CatFault) → well_formed found ≡ Err Done → ⊥
+formed_never None e = cc
+formed_never (Some fault) e = by_kind fault.kind e
+  where
+    by_kind : (kind : FaultKind) → ◌≡◌ {A = Result (Unit {0}) Outcome} (Err (fault_outcome fault kind)) (Err Done) → ⊥
+    by_kind kinds.RepeatedOid h = cc
+    by_kind kinds.RepeatedName h = cc
+    by_kind kinds.Dangling h = cc
+    by_kind kinds.BadText h = cc
+    by_kind (kinds.OutOfProfile left) h = cc
+
+rows_never : (found : Option ValuesFault) → have_rows found ≡ Err Done → ⊥
+rows_never None e = cc
+rows_never (Some fault) e = cc
+
+export_never : (folder : Bytes) (tree : Tree) → export_of folder tree ≡ Err Done → ⊥
+unfolding export_of export_with
+export_never folder tree e =
+    bind_never (told (catalogue_of folder tree)) _ (told_never (catalogue_of folder tree))
+    (λ tables. bind_never (well_formed (catalogue_fault (catalogue_with tables))) _ (formed_never (catalogue_fault (catalogue_with tables)))
+    (λ formed. bind_never (told (data_of folder (bytes_of folder tree) (catalogue_with tables) tree)) _ (told_never (data_of folder (bytes_of folder tree) (catalogue_with tables) tree))
+    (λ rows. bind_never (have_rows (values_fault (catalogue_with tables) rows)) _ (rows_never (values_fault (catalogue_with tables) rows))
+    (λ held h. ok_never _ h)))) e
+
+opening_never : (folder : Bytes) (tree : Tree) → opening_of folder tree ≡ Err Done → ⊥
+unfolding opening_of
+opening_never folder tree e =
+    bind_never (export_of folder tree) (λ export. opening_in export.cat) (export_never folder tree)
+    (λ export h. unbuilt_never (is_bare export.cat) (schemas_of (rows_in PgNamespace export.cat)) h) e
+
+scripted_never : (r : Result (List Located) DdlFault) → scripted r ≡ Err Done → ⊥
+scripted_never (Err fault) e = cc
+scripted_never (Ok statements) e = by_kinds (are_taken statements) e
+  where
+    by_kinds : (b : Bool) → cond {A = Result (List Located) Outcome} b (Ok statements) (Err (OutOfProfile what.Unbuilt)) ≡ Err Done → ⊥
+    by_kinds true h = cc
+    by_kinds false h = cc
+
+script_never : (text : List ℕ) → script_of text ≡ Err Done → ⊥
+unfolding script_of
+script_never text e = scripted_never (statements_of text) e
+
+psql_never : (folder script : Bytes) (tree : Tree) → psql_due folder script tree ≡ Err Done → ⊥
+unfolding psql_due
+psql_never folder script tree e =
+    bind_never (file_of Script script_limit script tree) _ (file_never Script script_limit script tree)
+    (λ text. bind_never (script_of text) _ (script_never text)
+    (λ statements. bind_never (opening_of folder tree) _ (opening_never folder tree)
+    (λ rows h. ok_never _ h))) e
+
+counted_never : (script : Bytes) (toc : Result (List Entry) ℕ) → counted script toc ≡ Err Done → ⊥
+counted_never script (Ok entries) e = cc
+counted_never script (Err n) e = cc
+
+dump_never : (folder : Bytes) (moment : Moment) (tree : Tree) → dump_due folder moment tree ≡ Err Done → ⊥
+unfolding dump_due
+dump_never folder moment tree e =
+    bind_never (opening_of folder tree) _ (opening_never folder tree)
+    (λ rows. counted_never (dumped_script database boot moment (map dump_row rows)) (toc_due database boot (map dump_row rows))) e
+
+second_never : (one : Exported) (second : Bytes) (tree : Tree) → second_due one second tree ≡ Err Done → ⊥
+unfolding second_due
+second_never one second tree e = bind_never (export_of second tree) _ (export_never second tree) (λ other h. ok_never _ h) e
+
+compare_never : (first second : Bytes) (tree : Tree) → compare_due first second tree ≡ Err Done → ⊥
+unfolding compare_due
+compare_never first second tree e =
+    bind_never (export_of first tree) (λ one. second_due one second tree) (export_never first tree) (λ one h. second_never one second tree h) e
+
+asked_never : (asked : Asked) (moment : Moment) (tree : Tree) → asked_due asked moment tree ≡ Err Done → ⊥
+asked_never (Psql folder script) moment tree e = psql_never folder script tree e
+asked_never (Dump folder) moment tree e = dump_never folder moment tree e
+asked_never (Compare first second) moment tree e = compare_never first second tree e
+
+built_never : (asked : Option Asked) → built asked ≡ Err Done → ⊥
+built_never None e = cc
+built_never (Some asked) e = cc
+
+command_never : (command : Result Command UsageFault) → asked_by command ≡ Err Done → ⊥
+command_never (Err fault) e = cc
+command_never (Ok command) e = built_never (asked_of command) e
+
+words_never : (words : List Bytes) → words_asked words ≡ Err Done → ⊥
+unfolding words_asked
+words_never words e = command_never (command_from words) e
+
+-- what is due of the words and the files isn't Done as a refusal
+pub due_never : (words : List Bytes) (moment : Moment) (tree : Tree) → due words moment tree ≡ Err Done → ⊥
+due_never words moment tree e = bind_never (words_asked words) (λ asked. asked_due asked moment tree) (words_never words) (λ asked h. asked_never asked moment tree h) e

@@ -1,0 +1,174 @@
+-- What a call comes to once the line of an answer was told, or couldn't be told.
+use Rattle.std.proofs.Common.{◌≡◌, ℕ, List, [], ◌∷◌, Option, Result, Err, refl, sym, ap, subst, ◌∙◌, ◌⊎◌, inl, inr}
+use Rattle.dump_ports.specs.Tree.{Tree}
+use Rattle.dump_ports.specs.Faults.{HasRisen}
+use Rattle.dump_ports.specs.declared.moment.Moment.{Moment}
+use Rattle.cat_model.specs.Values.{Bytes}
+use Rattle.tool_words.specs.declared.outcome.Outcome.{Outcome}
+use Rattle.tool_words.specs.declared.outcome.Outcome.TheVariants.{Done, Usage, ReadFault, WriteFault, Missing, BadExport, BadScript, OutOfProfile, TooLarge, Differs, Memory}
+use Rattle.tool_words.specs.declared.words.Teller.{Teller}
+use Rattle.tool_words.specs.Words.{teller_of}
+use Rattle.tool_words.specs.Answers.{IsRefusal, IsTold}
+use Rattle.tool_words.specs.Lines.{Appends, AppendsPart}
+use Rattle.tool_words.specs.Messages.{outcome_line}
+use Rattle.dump_tools.specs.Due.{Plan, IsAnswerDue, IsDifference, Counts, NoneRose, Counted, due}
+use Rattle.dump_tools.specs.Outputs.{World, world, Tells, performed, IsPart}
+use Rattle.dump_tools.specs.Runs.{told_run, MayCome, HasCut, IsEarly, HasEndedEarly, Ended, Answered}
+use Rattle.dump_tools.proofs.Putting.{told_part, told_whole}
+use Rattle.dump_tools.proofs.Counting.{none_early}
+
+-- the line of a refusal that is due
+may_refuse : (teller : Teller) (d : Result Plan Outcome) (answer : Outcome) → d ≡ Err answer → MayCome teller d (told_run teller answer)
+may_refuse teller d answer e = subst (λ r. MayCome teller r (told_run teller answer)) (sym e) refl
+
+-- the line of the key at which two catalogues differ
+may_differ : (teller : Teller) (d : Result Plan Outcome) (h : (a : Outcome) × IsDifference a d) → MayCome teller d (told_run teller h.0)
+may_differ teller d (Done, h) = elim h [ ]
+may_differ teller d (Usage word kind, h) = elim h [ ]
+may_differ teller d (ReadFault, h) = elim h [ ]
+may_differ teller d (WriteFault, h) = elim h [ ]
+may_differ teller d (Missing name, h) = elim h [ ]
+may_differ teller d (BadExport file line kind, h) = elim h [ ]
+may_differ teller d (BadScript fault, h) = elim h [ ]
+may_differ teller d (OutOfProfile what, h) = elim h [ ]
+may_differ teller d (TooLarge what most, h) = elim h [ ]
+may_differ teller d (Differs key, h) = subst (λ r. MayCome teller r (told_run teller (Differs key))) (sym h.is_due) (inr (key, h.least, refl))
+may_differ teller d (Memory, h) = elim h [ ]
+
+-- an answer that is due, by which the work didn't end on its way: its line may come
+may_tell : (teller : Teller) (d : Result Plan Outcome) (answer : Outcome) → (d ≡ Err Done → ⊥) → IsAnswerDue answer d → IsEarly answer ⊎ MayCome teller d (told_run teller answer)
+may_tell teller d answer n (inr h) = inr (may_differ teller d (answer, h))
+may_tell teller d Done n (inl e) = elim (n e) [ ]
+may_tell teller d (Usage word kind) n (inl e) = inr (may_refuse teller d (Usage word kind) e)
+may_tell teller d ReadFault n (inl e) = inl tt
+may_tell teller d WriteFault n (inl e) = inl tt
+may_tell teller d (Missing name) n (inl e) = inr (may_refuse teller d (Missing name) e)
+may_tell teller d (BadExport file line kind) n (inl e) = inr (may_refuse teller d (BadExport file line kind) e)
+may_tell teller d (BadScript fault) n (inl e) = inr (may_refuse teller d (BadScript fault) e)
+may_tell teller d (OutOfProfile what) n (inl e) = inr (may_refuse teller d (OutOfProfile what) e)
+may_tell teller d (TooLarge what most) n (inl e) = inr (may_refuse teller d (TooLarge what most) e)
+may_tell teller d (Differs key) n (inl e) = inr (may_refuse teller d (Differs key) e)
+may_tell teller d Memory n (inl e) = inl tt
+
+-- such an answer is a refusal, before which nothing was put out
+pub refuses : (d : Result Plan Outcome) (answer : Outcome) → (d ≡ Err Done → ⊥) → IsAnswerDue answer d → (IsEarly answer → ⊥) → IsRefusal answer × IsTold answer
+refuses d Done n (inl e) late = elim (n e) [ ]
+refuses d Done n (inr h) late = elim h [ ]
+refuses d (Usage word kind) n h late = (tt, tt)
+refuses d ReadFault n h late = (tt, tt)
+refuses d WriteFault n h late = elim (late tt) [ ]
+refuses d (Missing name) n h late = (tt, tt)
+refuses d (BadExport file line kind) n h late = (tt, tt)
+refuses d (BadScript fault) n h late = (tt, tt)
+refuses d (OutOfProfile what) n h late = (tt, tt)
+refuses d (TooLarge what most) n h late = (tt, tt)
+refuses d (Differs key) n h late = (tt, tt)
+refuses d Memory n h late = elim (late tt) [ ]
+
+-- by cases of the answer: what has ended, or was cut short, is what is answered
+as_answered : (answer : Outcome) (words : List Bytes) (moment : Moment) (tree : Tree) (before after : World) (lines lines_after : ℕ)
+    → (IsEarly answer → HasEndedEarly (teller_of words) (due words moment tree) answer before after lines lines_after)
+    → ((IsEarly answer → ⊥) → Ended words moment tree answer before after)
+    → Answered answer words moment tree before after lines lines_after
+as_answered Done words moment tree before after lines lines_after e w = w (λ h. h)
+as_answered (Usage word kind) words moment tree before after lines lines_after e w = w (λ h. h)
+as_answered ReadFault words moment tree before after lines lines_after e w = e tt
+as_answered WriteFault words moment tree before after lines lines_after e w = e tt
+as_answered (Missing name) words moment tree before after lines lines_after e w = w (λ h. h)
+as_answered (BadExport file line kind) words moment tree before after lines lines_after e w = w (λ h. h)
+as_answered (BadScript fault) words moment tree before after lines lines_after e w = w (λ h. h)
+as_answered (OutOfProfile what) words moment tree before after lines lines_after e w = w (λ h. h)
+as_answered (TooLarge what most) words moment tree before after lines lines_after e w = w (λ h. h)
+as_answered (Differs key) words moment tree before after lines lines_after e w = w (λ h. h)
+as_answered Memory words moment tree before after lines lines_after e w = e tt
+
+-- an answer whose line was told
+pub told_answer : (answer : Outcome) (words : List Bytes) (moment : Moment) (tree : Tree) (before : World) (files : Option Tree) (left printed told told_after : Option Bytes) (lines lines_after : ℕ)
+    → (due words moment tree ≡ Err Done → ⊥) → IsAnswerDue answer (due words moment tree)
+    → ((IsEarly answer → ⊥) → world files left printed told ≡ before)
+    → HasCut (teller_of words) (due words moment tree) before (world files left printed told)
+    → Appends (outcome_line (teller_of words) answer) told told_after
+    → Answered answer words moment tree before (world files left printed told_after) lines lines_after
+told_answer answer words moment tree before files left printed told told_after lines lines_after n d same cut line =
+    as_answered answer words moment tree before (world files left printed told_after) lines lines_after
+    (λ early. record {
+      between = world files left printed told;
+      ended = cut;
+      said = answer;
+      own = inl refl;
+      line = told_whole files left printed told told_after (outcome_line (teller_of words) answer) line;
+    })
+    (λ late. elim (may_tell (teller_of words) (due words moment tree) answer n d) [
+      | inl early ↦ elim (late early) [ ]
+      | inr may ↦ record {
+        run = told_run (teller_of words) answer;
+        may = may;
+        answers = refl;
+        put = ap (λ t. world files left printed t) line ∙ ap (λ w. performed (Tells (outcome_line (teller_of words) answer)) w) (same late);
+      }
+    ])
+
+-- an answer whose line couldn't be told
+pub untold_answer : (answer : Outcome) (words : List Bytes) (moment : Moment) (tree : Tree) (before : World) (files : Option Tree) (left printed told told_after : Option Bytes) (lines lines_after : ℕ)
+    → (due words moment tree ≡ Err Done → ⊥) → IsAnswerDue answer (due words moment tree)
+    → ((IsEarly answer → ⊥) → world files left printed told ≡ before)
+    → HasCut (teller_of words) (due words moment tree) before (world files left printed told)
+    → AppendsPart (outcome_line (teller_of words) answer) told told_after
+    → HasRisen lines lines_after
+    → Answered WriteFault words moment tree before (world files left printed told_after) lines lines_after
+untold_answer answer words moment tree before files left printed told told_after lines lines_after n d same cut line risen =
+    elim (is_early answer) [
+      | inl early ↦ record {
+        between = world files left printed told;
+        ended = cut;
+        said = answer;
+        own = inr (refl, early, risen);
+        line = told_part files left printed told told_after (outcome_line (teller_of words) answer) line;
+      }
+      | inr late ↦ elim (may_tell (teller_of words) (due words moment tree) answer n d) [
+        | inl early ↦ elim (late early) [ ]
+        | inr may ↦ record {
+          between = world files left printed told_after;
+          ended = record {
+            outputs = Tells (outcome_line (teller_of words) answer) ∷ [];
+            of_run = inr (told_run (teller_of words) answer, may, refl);
+            cut = record {
+              whole = [];
+              later = Tells (outcome_line (teller_of words) answer) ∷ [];
+              split = refl;
+              cut = subst (λ w. IsPart (Tells (outcome_line (teller_of words) answer)) w (world files left printed told_after)) (same late) (told_part files left printed told told_after (outcome_line (teller_of words) answer) line);
+            };
+          };
+          said = WriteFault;
+          own = inl refl;
+          line = inl refl;
+        }
+      ]
+    ]
+  where
+    is_early : (answer : Outcome) → IsEarly answer ⊎ (IsEarly answer → ⊥)
+    is_early Done = inr (λ h. h)
+    is_early (Usage word kind) = inr (λ h. h)
+    is_early ReadFault = inl tt
+    is_early WriteFault = inl tt
+    is_early (Missing name) = inr (λ h. h)
+    is_early (BadExport file line kind) = inr (λ h. h)
+    is_early (BadScript fault) = inr (λ h. h)
+    is_early (OutOfProfile what) = inr (λ h. h)
+    is_early (TooLarge what most) = inr (λ h. h)
+    is_early (Differs key) = inr (λ h. h)
+    is_early Memory = inl tt
+
+-- where no count rose, what is answered has ended, or there was no memory
+pub completed : (answer : Outcome) (words : List Bytes) (moment : Moment) (tree : Tree) (before after : World) (lines lines_after : ℕ) (a b : Counts) → NoneRose a b → Counted answer a b → Answered answer words moment tree before after lines lines_after → Ended words moment tree answer before after ⊎ (answer ≡ Memory)
+completed Done words moment tree before after lines lines_after a b none c h = inl h
+completed (Usage word kind) words moment tree before after lines lines_after a b none c h = inl h
+completed ReadFault words moment tree before after lines lines_after a b none c h = elim (none_early ReadFault a b none c (inl refl)) [ ]
+completed WriteFault words moment tree before after lines lines_after a b none c h = elim (none_early WriteFault a b none c (inr refl)) [ ]
+completed (Missing name) words moment tree before after lines lines_after a b none c h = inl h
+completed (BadExport file line kind) words moment tree before after lines lines_after a b none c h = inl h
+completed (BadScript fault) words moment tree before after lines lines_after a b none c h = inl h
+completed (OutOfProfile what) words moment tree before after lines lines_after a b none c h = inl h
+completed (TooLarge what most) words moment tree before after lines lines_after a b none c h = inl h
+completed (Differs key) words moment tree before after lines lines_after a b none c h = inl h
+completed Memory words moment tree before after lines lines_after a b none c h = inr refl

@@ -1,0 +1,225 @@
+-- What is due for the words of a command line and the files: the first refusal of its steps in their order, or a plan
+-- that is carried out. And what the files hold once it is.
+use Rattle.std.specs.Prelude.{◌≡◌, ℕ, ◌≤◌, List, [], ◌++◌, map, Option, option_map, Result, Ok, Err, ◌⊎◌, codes}
+use Rattle.std.specs.List.{All, IsDistinct}
+use Rattle.std.specs.List.Sorted.{IsPermutation}
+use Rattle.cat_rows.specs.declared.table.SysTable.TheVariants.{PgNamespace}
+use Rattle.cat_rows.specs.Writing.{IsWritten}
+use Rattle.std.specs.Ordering.{nat_cmp, eq_by_cmp}
+use Rattle.dump_ports.specs.Tree.{Tree}
+use Rattle.dump_ports.specs.Faults.{HasRisen, HasNotRisen}
+use Rattle.cat_model.specs.Values.{Bytes, bytes_cmp, Named}
+use Rattle.cat_model.specs.declared.key.Key.{Key}
+use Rattle.cat_naming.specs.Entries.{catalogue_named}
+use Rattle.cat_naming.specs.Texts.{rows_by_oid}
+use Rattle.cat_same.specs.Verdicts.{IsLeastDifference}
+use Rattle.schema_folders.specs.declared.schemas.SchemaRow.{SchemaRow}
+use Rattle.ddl_read.specs.declared.located.Located.{Located}
+use Rattle.tool_words.specs.declared.outcome.Limit.TheVariants.{Script, Entries}
+use Rattle.tool_words.specs.declared.outcome.Outcome.{Outcome}
+use Rattle.tool_words.specs.declared.outcome.Outcome.TheVariants.{ReadFault, WriteFault, TooLarge, Differs, Memory}
+use Rattle.tool_words.specs.Answers.{◌>>=◌, IsDue}
+use Rattle.tool_words.specs.declared.words.Asked.{Asked}
+use Rattle.tool_words.specs.declared.words.Asked.TheVariants.{Psql, Dump, Compare}
+use Rattle.tool_words.specs.Words.{words_asked}
+use Rattle.dump_ports.specs.declared.moment.Moment.{Moment}
+use Rattle.toc_entry.specs.declared.entry.Entry.{Entry}
+use Rattle.dump_schemas.specs.declared.rows.SchemaRow.{SchemaRow as DumpRow}
+use Rattle.dump_schemas.specs.declared.rows.DatabaseRow.{DatabaseRow}
+use Rattle.dump_schemas.specs.Toc.{toc_due}
+use Rattle.dump_schemas.specs.Scripts.{script_of as dumped_script}
+use Rattle.schema_folders.specs.Texts.{file_of}
+use Rattle.exports.specs.Exports.{Exported, export_of}
+use Rattle.schema_folders.specs.Statements.{script_of}
+use Rattle.dump_tools.specs.declared.tools.Work.{Work}
+use Rattle.schema_folders.specs.Folder.{opening_of, cells_of_row, schemas_alone, Holds, folder_saved}
+use Rattle.tool_words.specs.Lines.{Appends}
+use Rattle.schema_folders.specs.Naming.{boot, named}
+use Rattle.tool_words.specs.Messages.{report}
+use Rattle.schema_folders.specs.Run.{catalogue_after, refusals, IsUsers}
+
+-- a script to apply to a folder of schemas
+pub record Application : Type 0 where
+  pub folder : Bytes
+  pub statements : List Located
+  pub rows : List SchemaRow
+
+-- what a tool does once all is read
+pub data Plan : Type 0 where
+  -- psql applies a script to a folder
+  Applies : Application → Plan
+  -- pg_dump prints a text
+  Prints : Bytes → Plan
+  -- pg_catcmp compares two catalogues by names
+  Compares : Named → Named → Plan
+
+abbrev pub script_limit : ℕ
+script_limit = 268435456
+
+-- psql: the script is read, then the folder
+unfoldable pub psql_due : Bytes → Bytes → Tree → Result Plan Outcome
+psql_due folder script tree = do
+  text ← file_of Script script_limit script tree
+  statements ← script_of text
+  rows ← opening_of folder tree
+  Ok (Applies (record { folder = folder; statements = statements; rows = rows }))
+
+-- the one database of such a folder
+abbrev pub database : DatabaseRow
+database = record { name = codes "postgres"; oid = 5 }
+
+abbrev pub dump_row : SchemaRow → DumpRow
+dump_row row = record { name = row.name; oid = row.oid }
+
+-- the script of the folder's schemas, where it has no more entries than an archive can have
+abbrev pub counted : Bytes → Result (List Entry) ℕ → Result Plan Outcome
+counted script (Ok entries) = Ok (Prints script)
+counted script (Err n) = Err (TooLarge Entries n)
+
+abbrev pub script_due : Moment → List SchemaRow → Result Plan Outcome
+script_due moment rows = counted (dumped_script database boot moment (map dump_row rows)) (toc_due database boot (map dump_row rows))
+
+-- pg_dump: the folder is read
+unfoldable pub dump_due : Bytes → Moment → Tree → Result Plan Outcome
+dump_due folder moment tree = do
+  rows ← opening_of folder tree
+  script_due moment rows
+
+-- what an export stands for by names
+unfoldable pub export_named : Exported → Named
+export_named export = catalogue_named export.cat (rows_by_oid export.rows)
+
+-- once the first is read: the second folder
+unfoldable pub second_due : Exported → Bytes → Tree → Result Plan Outcome
+second_due one second tree = do
+  other ← export_of second tree
+  Ok (Compares (export_named one) (export_named other))
+
+-- pg_catcmp: the two folders are read, whole
+unfoldable pub compare_due : Bytes → Bytes → Tree → Result Plan Outcome
+compare_due first second tree = do
+  one ← export_of first tree
+  second_due one second tree
+
+abbrev pub asked_due : Asked → Moment → Tree → Result Plan Outcome
+asked_due (Psql folder script) moment tree = psql_due folder script tree
+asked_due (Dump folder) moment tree = dump_due folder moment tree
+asked_due (Compare first second) moment tree = compare_due first second tree
+
+-- what is due for the words, the moment and the files
+abbrev pub due : List Bytes → Moment → Tree → Result Plan Outcome
+due words moment tree = words_asked words >>= λ asked. asked_due asked moment tree
+
+-- the work that was read, as a script for a folder
+abbrev pub application_of : Bytes → Work → Application
+application_of folder work = record { folder = folder; statements = work.statements.items; rows = work.schemas }
+
+abbrev pub plan_of : Bytes → Work → Plan
+plan_of folder work = Applies (application_of folder work)
+
+-- ---- what stands once a plan is carried out
+
+-- What the statements of a plan come to. The rows are the schemas that were there, under their oids, and those that were
+-- made, each a user's; no two have the same oid or the same name. By names they are the catalogue that the statements make. The text is that of
+-- pg_namespace for them, by rising oid.
+pub record Comes (plan : Application) (text : Bytes) : Type 0 where
+  pub made : List SchemaRow
+  pub rows : List SchemaRow
+  pub drawn : All IsUsers made
+  pub kept : IsPermutation (plan.rows ++ made) rows
+  pub same : named rows ≡ catalogue_after boot plan.statements (named plan.rows)
+  pub oids : IsDistinct (λ a b. eq_by_cmp nat_cmp a.oid b.oid) rows
+  pub names : IsDistinct (λ a b. eq_by_cmp bytes_cmp a.name b.name) rows
+  pub written : IsWritten PgNamespace (map cells_of_row (plan.rows ++ made)) (map cells_of_row rows) [] text
+
+-- The folder was written: each of its files holds its whole text, and a folder so written holds the catalogue of the rows.
+pub record Applied (plan : Application) (before after : Option Tree) : Type 0 where
+  pub text : Bytes
+  pub result : Comes plan text
+  pub saved : after ≡ option_map (folder_saved plan.folder text) before
+  pub holds : (tree : Tree) → Holds plan.folder (folder_saved plan.folder text tree) (schemas_alone result.rows)
+
+-- the report of a script
+abbrev pub report_of : Application → List ℕ
+report_of plan = report (refusals boot plan.statements (named plan.rows))
+
+-- What stands of the files, of standard output and of standard error once a plan is carried out: a script was applied and
+-- its report was written to standard error, or a text was written to standard output, or two catalogues were the same,
+-- and nothing else changed.
+abbrev pub IsCarriedOut : Plan → Option Tree → Option Tree → Option (List ℕ) → Option (List ℕ) → Option (List ℕ) → Option (List ℕ) → Type 0
+IsCarriedOut (Applies plan) before after out_before out_after told_before told_after =
+    Applied plan before after × (out_after ≡ out_before) × Appends (report_of plan) told_before told_after
+IsCarriedOut (Prints text) before after out_before out_after told_before told_after =
+    (after ≡ before) × Appends text out_before out_after × (told_after ≡ told_before)
+IsCarriedOut (Compares a b) before after out_before out_after told_before told_after =
+    (a ≡ b) × (after ≡ before) × (out_after ≡ out_before) × (told_after ≡ told_before)
+
+-- the plan that was due was carried out
+pub record WasDue (due : Result Plan Outcome) (before after : Option Tree) (out_before out_after told_before told_after : Option (List ℕ)) : Type 0 where
+  pub plan : Plan
+  pub is_due : due ≡ Ok plan
+  pub carried : IsCarriedOut plan before after out_before out_after told_before told_after
+
+-- the catalogues that are to be compared differ, and first at this key
+pub record DiffersAt (due : Result Plan Outcome) (key : Key) : Type 0 where
+  pub a : Named
+  pub b : Named
+  pub is_due : due ≡ Ok (Compares a b)
+  pub least : IsLeastDifference a b key
+
+-- an answer by which two catalogues aren't the same: the least key at which they differ, or want of memory
+abbrev pub IsUnequal : Outcome → Named → Named → Type 0
+IsUnequal (Differs key) a b = IsLeastDifference a b key
+IsUnequal Memory a b = Unit {0}
+IsUnequal outcome a b = ⊥
+
+abbrev pub IsDifference : Outcome → Result Plan Outcome → Type 0
+IsDifference (Differs key) due = DiffersAt due key
+IsDifference outcome due = ⊥
+
+-- an answer other than Done: the refusal that is due, or the difference to which the plan that is due comes
+abbrev pub IsAnswerDue : Outcome → Result Plan Outcome → Type 0
+IsAnswerDue outcome due = IsDue outcome due ⊎ IsDifference outcome due
+
+-- ---- counts of faults
+
+-- the counts of reads of files, of writes of files, of writes to standard output and of writes to standard error that
+-- failed
+pub record Counts : Type 0 where
+  pub reads : ℕ
+  pub writes : ℕ
+  pub prints : ℕ
+  pub lines : ℕ
+
+abbrev pub counts : ℕ → ℕ → ℕ → ℕ → Counts
+counts reads writes prints lines = record { reads = reads; writes = writes; prints = prints; lines = lines }
+
+-- none of them rose
+pub record NoneRose (before after : Counts) : Type 0 where
+  pub reads : HasNotRisen before.reads after.reads
+  pub writes : HasNotRisen before.writes after.writes
+  pub prints : HasNotRisen before.prints after.prints
+  pub lines : HasNotRisen before.lines after.lines
+
+pub record NoneFell (before after : Counts) : Type 0 where
+  pub reads : before.reads ≤ after.reads
+  pub writes : before.writes ≤ after.writes
+  pub prints : before.prints ≤ after.prints
+  pub lines : before.lines ≤ after.lines
+
+-- A count of reads rose where the answer is ReadFault, one of writes where it is WriteFault, and all stayed where it is
+-- neither.
+abbrev pub Counted : Outcome → Counts → Counts → Type 0
+Counted ReadFault before after = NoneFell before after × HasRisen before.reads after.reads
+Counted WriteFault before after = NoneFell before after × (HasRisen before.writes after.writes ⊎ HasRisen before.prints after.prints ⊎ HasRisen before.lines after.lines)
+Counted _ before after = after ≡ before
+
+-- the same of a step
+abbrev pub CountsStep : {X : Type 0} → Result X Outcome → Counts → Counts → Type 0
+CountsStep (Ok x) before after = after ≡ before
+CountsStep (Err outcome) before after = Counted outcome before after
+
+-- the same of the writes alone, of files and to standard error
+abbrev pub CountsWrites : {X : Type 0} → Result X Outcome → ℕ → ℕ → ℕ → ℕ → Type 0
+CountsWrites (Err WriteFault) a b c d = (a ≤ b) × (c ≤ d) × (HasRisen a b ⊎ HasRisen c d)
+CountsWrites _ a b c d = (b ≡ a) × (d ≡ c)

@@ -1,0 +1,4 @@
+pub mod Due
+pub mod Outputs
+pub mod Runs
+pub mod Stays

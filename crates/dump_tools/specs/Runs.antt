@@ -1,0 +1,100 @@
+-- Which runs of the program may come: what it puts out, in order, and what it answers.
+-- Where nothing is free that is one run; a script that makes schemas may make them under any new oids.
+use Rattle.std.specs.Prelude.{◌≡◌, ℕ, ◌++◌, List, [], ◌∷◌, map, Result, Ok, Err, ◌⊎◌}
+use Rattle.dump_ports.specs.Tree.{Tree}
+use Rattle.dump_ports.specs.Faults.{HasRisen}
+use Rattle.dump_ports.specs.declared.moment.Moment.{Moment}
+use Rattle.cat_model.specs.Values.{Bytes, Named}
+use Rattle.cat_model.specs.declared.key.Key.{Key}
+use Rattle.cat_same.specs.Verdicts.{IsLeastDifference}
+use Rattle.schema_folders.specs.Folder.{files_written, folder_saved, schemas_alone, Holds}
+use Rattle.tool_words.specs.declared.outcome.Outcome.{Outcome}
+use Rattle.tool_words.specs.declared.outcome.Outcome.TheVariants.{Done, ReadFault, WriteFault, Memory, Differs}
+use Rattle.tool_words.specs.declared.words.Teller.{Teller}
+use Rattle.tool_words.specs.Words.{teller_of}
+use Rattle.tool_words.specs.Messages.{outcome_line}
+use Rattle.dump_tools.specs.Due.{Application, Plan, Applies, Prints, Compares, Comes, report_of, due}
+use Rattle.dump_tools.specs.Outputs.{World, Output, Writes, Tells, all_performed, IsPart, CutShort, stores}
+
+-- what is put out, in order, and the answer
+pub record Run : Type 0 where
+  pub outputs : List Output
+  pub answer : Outcome
+
+abbrev pub run_of : List Output → Outcome → Run
+run_of outputs answer = record { outputs = outputs; answer = answer }
+
+-- an answer of which nothing comes but its line
+abbrev pub told_run : Teller → Outcome → Run
+told_run teller answer = run_of (Tells (outcome_line teller answer) ∷ []) answer
+
+-- A script is applied: the folder's files are stored one after another, the marker last, and then the report is told. The
+-- folder then holds the catalogue of the schemas that the script leaves.
+pub record IsApplied (plan : Application) (run : Run) : Type 0 where
+  pub text : Bytes
+  pub comes : Comes plan text
+  pub holds : (tree : Tree) → Holds plan.folder (folder_saved plan.folder text tree) (schemas_alone comes.rows)
+  pub is : run ≡ run_of (map stores (files_written plan.folder text) ++ Tells (report_of plan) ∷ []) Done
+
+-- Two catalogues are compared: they are the same, or the least key at which they differ is told.
+abbrev pub IsCompared : Teller → Named → Named → Run → Type 0
+IsCompared teller a b run = ((a ≡ b) × (run ≡ run_of [] Done)) ⊎ ((key : Key) × IsLeastDifference a b key × (run ≡ told_run teller (Differs key)))
+
+-- the runs that may come of what is due: of a refusal its line, of a plan what it puts out
+abbrev pub MayCome : Teller → Result Plan Outcome → Run → Type 0
+MayCome teller (Err refusal) run = run ≡ told_run teller refusal
+MayCome teller (Ok (Applies plan)) run = IsApplied plan run
+MayCome teller (Ok (Prints text)) run = run ≡ run_of (Writes text ∷ []) Done
+MayCome teller (Ok (Compares a b)) run = IsCompared teller a b run
+
+-- a run that may come has ended: all its outputs were put out, in order, and its answer was given
+pub record HasEnded (teller : Teller) (due : Result Plan Outcome) (answer : Outcome) (before after : World) : Type 0 where
+  pub run : Run
+  pub may : MayCome teller due run
+  pub answers : answer ≡ run.answer
+  pub put : after ≡ all_performed run.outputs before
+
+-- the outputs of a run that may come, or none
+abbrev pub AreOfRun : Teller → Result Plan Outcome → List Output → Type 0
+AreOfRun teller due outputs = (outputs ≡ []) ⊎ ((run : Run) × MayCome teller due run × (outputs ≡ run.outputs))
+
+-- such outputs were cut short
+pub record HasCut (teller : Teller) (due : Result Plan Outcome) (before after : World) : Type 0 where
+  pub outputs : List Output
+  pub of_run : AreOfRun teller due outputs
+  pub cut : CutShort outputs before after
+
+-- by these answers the work may have ended on its way
+abbrev pub IsEarly : Outcome → Type 0
+IsEarly ReadFault = Unit {0}
+IsEarly WriteFault = Unit {0}
+IsEarly Memory = Unit {0}
+IsEarly answer = ⊥
+
+-- The line that follows is the answer's own. It is that of ReadFault or Memory where it couldn't be told, so that the
+-- answer became WriteFault.
+abbrev pub IsOwnLine : Outcome → Outcome → ℕ → ℕ → Type 0
+IsOwnLine said answer lines after = (said ≡ answer) ⊎ ((answer ≡ WriteFault) × IsEarly said × HasRisen lines after)
+
+-- A run that may come was cut short: some of its outputs are whole, the next one is cut, and a first part of a line
+-- follows. The two numbers count the writes to standard error that failed, before and after.
+pub record HasEndedEarly (teller : Teller) (due : Result Plan Outcome) (answer : Outcome) (before after : World) (lines lines_after : ℕ) : Type 0 where
+  pub between : World
+  pub ended : HasCut teller due before between
+  pub said : Outcome
+  pub own : IsOwnLine said answer lines lines_after
+  pub line : IsPart (Tells (outcome_line teller said)) between after
+
+-- what is due for the words, the moment and the files, and who tells it
+abbrev pub Ended : List Bytes → Moment → Tree → Outcome → World → World → Type 0
+Ended words moment tree answer before after = HasEnded (teller_of words) (due words moment tree) answer before after
+
+abbrev pub EndedEarly : List Bytes → Moment → Tree → Outcome → World → World → ℕ → ℕ → Type 0
+EndedEarly words moment tree answer before after lines lines_after = HasEndedEarly (teller_of words) (due words moment tree) answer before after lines lines_after
+
+-- the answer of a call: a run that may come has ended, or it was cut short
+abbrev pub Answered : Outcome → List Bytes → Moment → Tree → World → World → ℕ → ℕ → Type 0
+Answered ReadFault words moment tree before after lines lines_after = EndedEarly words moment tree ReadFault before after lines lines_after
+Answered WriteFault words moment tree before after lines lines_after = EndedEarly words moment tree WriteFault before after lines lines_after
+Answered Memory words moment tree before after lines lines_after = EndedEarly words moment tree Memory before after lines lines_after
+Answered answer words moment tree before after lines lines_after = Ended words moment tree answer before after

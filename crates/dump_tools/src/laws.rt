@@ -1,0 +1,42 @@
+//! Laws of the definitions, each the contract of a function that does nothing.
+ghost use Rattle.std.specs.Prelude.{◌≡◌, ◌++◌, ◌∷◌, [], List, map, option_map};
+ghost use Rattle.cat_model.specs.Values.{Bytes};
+ghost use Rattle.schema_folders.specs.Folder.{IsElsewhere, files_written, folder_saved};
+ghost use Rattle.tool_words.specs.Messages.{outcome_line};
+ghost use Rattle.tool_words.specs.declared.outcome.Outcome.{Outcome};
+ghost use Rattle.tool_words.specs.declared.words.Teller.{Teller};
+ghost use Rattle.dump_tools.specs.Outputs.{World, world, Output, Tells, all_performed, CutShort, stores};
+ghost use Rattle.dump_tools.specs.Due.{Application, report_of};
+ghost use Rattle.dump_tools.specs.Runs.{Run, told_run, IsApplied};
+ghost use Rattle.dump_tools.specs.Stays.{AreOthers, Keeps, AreSilent};
+
+/// However far a run came, each file that none of its outputs makes holds what it held, and standard input has what it
+/// had; standard output too, where none of its outputs is printed.
+pub fn the_rest_stays()
+    ensures files { (outputs : List Output) (before after : World) (name : Bytes) → CutShort outputs before after → AreOthers name outputs → Keeps name before after }
+    ensures input { (outputs : List Output) (before after : World) → CutShort outputs before after → after.left ≡ before.left }
+    ensures printed { (outputs : List Output) (before after : World) → CutShort outputs before after → AreSilent outputs → after.printed ≡ before.printed }
+{}
+
+/// A run of all its outputs is one that is cut behind the last of them.
+pub fn a_whole_run_is_cut_behind_its_end()
+    ensures { (outputs : List Output) (before : World) → CutShort outputs before (all_performed outputs before) }
+{}
+
+/// A script that is applied makes the files of its folder and no others, and prints nothing, whatever it reports.
+pub fn a_script_makes_its_folder_alone()
+    ensures files { (folder namespaces report name : Bytes) → IsElsewhere folder name → AreOthers name (map stores (files_written folder namespaces) ++ Tells report ∷ []) }
+    ensures printed { (folder namespaces report : Bytes) → AreSilent (map stores (files_written folder namespaces) ++ Tells report ∷ []) }
+{}
+
+/// After a refusal files, standard input and standard output are as they were, and standard error has grown by its line.
+pub fn a_refusal_leaves_its_line()
+    ensures { (teller : Teller) (refusal : Outcome) (before : World)
+        → all_performed (told_run teller refusal).outputs before ≡ world before.tree before.left before.printed (option_map (λ told. told ++ outcome_line teller refusal) before.told) }
+{}
+
+/// Once a script is applied, its folder holds the files that were written, and standard error has grown by the report.
+pub fn an_applied_script_leaves_its_folder()
+    ensures { (plan : Application) (run : Run) (before : World) (applied : IsApplied plan run)
+        → all_performed run.outputs before ≡ world (option_map (folder_saved plan.folder applied.text) before.tree) before.left before.printed (option_map (λ told. told ++ report_of plan) before.told) }
+{}

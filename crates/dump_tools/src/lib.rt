@@ -1,0 +1,8 @@
+//! The tools: what the words of a command line ask for, done over files and streams.
+#![tactic(auto)]
+
+mod dumping;
+pub mod laws;
+mod tools;
+
+pub use tools::run_tools;

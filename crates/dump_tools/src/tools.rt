@@ -1,0 +1,317 @@
+//! The tools of the command line.
+ghost use Rattle.std.specs.Prelude.{◌≡◌, ℕ, ◌≤◌, ◌++◌, ◌⊎◌, List, Option, Some, true, option_map, IfOk, IfErr, OnOk, OnErr, Result, Ok, Err};
+ghost use Rattle.tool_words.specs.declared.words.Teller.{Teller};
+ghost use Rattle.dump_ports.specs.Tree.{Tree};
+ghost use Rattle.dump_ports.specs.Faults.{CountsFault};
+ghost use Rattle.tool_words.specs.Answers.{Gives, CountsRead, IsDue, IsLate, IsRefusal, IsTold};
+ghost use Rattle.cat_model.specs.Values.{Named};
+ghost use Rattle.cat_same.specs.Verdicts.{IsVerdict, IsLeastDifference};
+ghost use Rattle.tool_words.specs.Lines.{Appends, AppendsPart};
+ghost use Rattle.tool_words.specs.Messages.{outcome_line};
+ghost use Rattle.schema_folders.specs.Statements.{are_taken};
+ghost use Rattle.dump_tools.specs.Due.{Prints, plan_of, psql_due, dump_due, export_named, second_due, compare_due, IsUnequal, due, IsAnswerDue, IsCarriedOut, WasDue, counts, NoneRose, Counted, CountsStep, CountsWrites};
+ghost use Rattle.dump_tools.specs.Outputs.{world};
+ghost use Rattle.dump_tools.specs.Runs.{HasCut, Ended, Answered};
+
+use crate::dumping::dump_text;
+use cat_model::Key;
+use cat_same::{Verdict, same};
+use copy_text::Text;
+use ddl_read::Located;
+use dump_ports::{Failed, Files, Gate, Moment, Sink, Source};
+use exports::{Export, read_export};
+use schema_folders::{
+    Schemas, namespaces_text, read_file, read_folder, read_script, run_script, write_folder,
+};
+use std::alloc::{AllocError, Global};
+use tool_words::{
+    Asked, Difference, Limit, Outcome, Teller, read_asked, tell, teller_of, write_bytes,
+};
+
+/// The most bytes of a script.
+const SCRIPT_LIMIT: u64 = 268_435_456;
+
+/// What psql carries out: the statements of a script, and the schemas of a folder.
+#[derive(Drop)]
+struct Work {
+    statements: Vec<Located>,
+    schemas: Schemas,
+}
+
+/// Reads the script, then the folder.
+#[tactic(auto, unfolding(crate::specs::Due::psql_due))]
+fn read_plan<F: Files>(
+    alloc: Global,
+    files: &mut F,
+    folder: &Text,
+    script: &Text,
+) -> Result<Work, Outcome>
+    ensures due { (tree : Tree) → F.tree files.old ≡ Some tree → Gives (plan_of folder.now) result (psql_due folder.now script.now tree) }
+    ensures taken { IfOk result (λ work. are_taken work.statements.items ≡ true) }
+    ensures kept { F.tree files.new ≡ F.tree files.old }
+    ensures read_count { CountsRead result (F.read_faults files.old) (F.read_faults files.new) }
+    ensures write_count { F.write_faults files.new ≡ F.write_faults files.old }
+{
+    let text = read_file(alloc, files, script, Limit::Script, SCRIPT_LIMIT)?;
+    let statements = read_script(alloc, &text)?;
+    let schemas = read_folder(alloc, files, folder)?;
+    Ok(Work {
+        statements,
+        schemas,
+    })
+}
+
+/// Applies the statements, writes the folder, then the report.
+fn carry_out<F: Files, E: Sink>(
+    alloc: Global,
+    files: &mut F,
+    err: &mut E,
+    folder: &Text,
+    work: Work,
+) -> Result<(), Outcome>
+    requires taken { are_taken work.statements.items ≡ true }
+    ensures ok { OnOk result ((printed : Option (List ℕ)) → IsCarriedOut (plan_of folder.now work) (F.tree files.old) (F.tree files.new) printed printed (E.written err.old) (E.written err.new)) }
+    ensures late { IfErr result IsLate }
+    ensures cut { OnErr result ((teller : Teller) (left printed : Option (List ℕ)) → HasCut teller (Ok (plan_of folder.now work)) (world (F.tree files.old) left printed (E.written err.old)) (world (F.tree files.new) left printed (E.written err.new))) }
+    ensures silent { IfErr result (λ outcome. IsTold outcome → E.written err.new ≡ E.written err.old) }
+    ensures read_count { F.read_faults files.new ≡ F.read_faults files.old }
+    ensures write_count { CountsWrites result (F.write_faults files.old) (F.write_faults files.new) (E.faults err.old) (E.faults err.new) }
+{
+    let Work {
+        statements,
+        mut schemas,
+    } = work;
+    let report = run_script(alloc, &mut schemas, &statements)?;
+    let namespaces = namespaces_text(alloc, schemas)?;
+    write_folder(alloc, files, folder, &namespaces)?;
+    write_report(err, &report)
+}
+
+/// Writes a report, or a script, to its stream.
+fn write_report<S: Sink>(stream: &mut S, report: &[u8]) -> Result<(), Outcome>
+    ensures ok { OnOk result (Appends report.now (S.written stream.old) (S.written stream.new)) }
+    ensures failed { IfErr result (λ outcome. outcome ≡ Outcome.WriteFault) }
+    ensures err { OnErr result (AppendsPart report.now (S.written stream.old) (S.written stream.new)) }
+    ensures count { CountsFault result (S.faults stream.old) (S.faults stream.new) }
+{
+    match write_bytes(stream, report) {
+        Ok(()) => Ok(()),
+        Err(Failed) => Err(Outcome::WriteFault),
+    }
+}
+
+/// Applies a script to a folder of schemas.
+fn psql<F: Files, E: Sink>(
+    alloc: Global,
+    files: &mut F,
+    err: &mut E,
+    folder: &Text,
+    script: &Text,
+) -> Result<(), Outcome>
+    ensures done { OnOk result ((tree : Tree) (printed : Option (List ℕ)) → F.tree files.old ≡ Some tree → WasDue (psql_due folder.now script.now tree) (F.tree files.old) (F.tree files.new) printed printed (E.written err.old) (E.written err.new)) }
+    ensures refused { IfErr result (λ outcome. (tree : Tree) → F.tree files.old ≡ Some tree → IsDue outcome (psql_due folder.now script.now tree)) }
+    ensures kept { IfErr result (λ outcome. IsRefusal outcome → F.tree files.new ≡ F.tree files.old) }
+    ensures cut { OnErr result ((teller : Teller) (tree : Tree) (left printed : Option (List ℕ)) → F.tree files.old ≡ Some tree → HasCut teller (psql_due folder.now script.now tree) (world (F.tree files.old) left printed (E.written err.old)) (world (F.tree files.new) left printed (E.written err.new))) }
+    ensures silent { IfErr result (λ outcome. IsTold outcome → E.written err.new ≡ E.written err.old) }
+    ensures counted { (prints : ℕ) → CountsStep result (counts (F.read_faults files.old) (F.write_faults files.old) prints (E.faults err.old)) (counts (F.read_faults files.new) (F.write_faults files.new) prints (E.faults err.new)) }
+{
+    let work = read_plan(alloc, files, folder, script)?;
+    carry_out(alloc, files, err, folder, work)
+}
+
+/// Prints the script of a folder of schemas.
+#[tactic(auto, unfolding(crate::specs::Due::dump_due))]
+fn pg_dump<F: Files, O: Sink>(
+    alloc: Global,
+    files: &mut F,
+    out: &mut O,
+    folder: &Text,
+    moment: Moment,
+) -> Result<(), Outcome>
+    ensures done { OnOk result ((tree : Tree) (told : Option (List ℕ)) → F.tree files.old ≡ Some tree → WasDue (dump_due folder.now moment tree) (F.tree files.old) (F.tree files.new) (O.written out.old) (O.written out.new) told told) }
+    ensures refused { IfErr result (λ outcome. (tree : Tree) → F.tree files.old ≡ Some tree → IsDue outcome (dump_due folder.now moment tree)) }
+    ensures kept { F.tree files.new ≡ F.tree files.old }
+    ensures quiet { IfErr result (λ outcome. IsRefusal outcome → O.written out.new ≡ O.written out.old) }
+    ensures cut { OnErr result ((teller : Teller) (tree : Tree) (left told : Option (List ℕ)) → F.tree files.old ≡ Some tree → HasCut teller (dump_due folder.now moment tree) (world (F.tree files.old) left (O.written out.old) told) (world (F.tree files.new) left (O.written out.new) told)) }
+    ensures counted { (lines : ℕ) → CountsStep result (counts (F.read_faults files.old) (F.write_faults files.old) (O.faults out.old) lines) (counts (F.read_faults files.new) (F.write_faults files.new) (O.faults out.new) lines) }
+{
+    let text = read_dump(alloc, files, folder, moment)?;
+    write_report(out, &text)
+}
+
+/// Reads a folder of schemas, and gives its script.
+#[tactic(auto, unfolding(crate::specs::Due::dump_due))]
+fn read_dump<F: Files>(
+    alloc: Global,
+    files: &mut F,
+    folder: &Text,
+    moment: Moment,
+) -> Result<Vec<u8>, Outcome>
+    ensures due { (tree : Tree) → F.tree files.old ≡ Some tree → Gives (λ text. Prints text.items) result (dump_due folder.now moment tree) }
+    ensures kept { F.tree files.new ≡ F.tree files.old }
+    ensures read_count { CountsRead result (F.read_faults files.old) (F.read_faults files.new) }
+    ensures write_count { F.write_faults files.new ≡ F.write_faults files.old }
+{
+    let schemas = read_folder(alloc, files, folder)?;
+    let text = dump_text(alloc, schemas, moment)?;
+    Ok(text)
+}
+
+/// Compares what two folders stand for by names, with the rows of their tables.
+#[tactic(auto, unfolding(crate::specs::Due::compare_due))]
+fn pg_catcmp<F: Files>(
+    alloc: Global,
+    files: &mut F,
+    first: &Text,
+    second: &Text,
+) -> Result<(), Outcome>
+    ensures done { OnOk result ((tree : Tree) (printed told : Option (List ℕ)) → F.tree files.old ≡ Some tree → WasDue (compare_due first.now second.now tree) (F.tree files.old) (F.tree files.new) printed printed told told) }
+    ensures refused { IfErr result (λ outcome. (tree : Tree) → F.tree files.old ≡ Some tree → IsAnswerDue outcome (compare_due first.now second.now tree)) }
+    ensures kept { F.tree files.new ≡ F.tree files.old }
+    ensures read_count { CountsRead result (F.read_faults files.old) (F.read_faults files.new) }
+    ensures write_count { F.write_faults files.new ≡ F.write_faults files.old }
+{
+    let one = read_export(alloc, files, first)?;
+    compare_second(alloc, files, &one, second)
+}
+
+/// Reads the second folder and compares it with what was read of the first.
+#[tactic(auto, unfolding(crate::specs::Due::second_due))]
+fn compare_second<F: Files>(
+    alloc: Global,
+    files: &mut F,
+    one: &Export,
+    second: &Text,
+) -> Result<(), Outcome>
+    ensures done { OnOk result ((tree : Tree) (printed told : Option (List ℕ)) → F.tree files.old ≡ Some tree → WasDue (second_due one.now second.now tree) (F.tree files.old) (F.tree files.new) printed printed told told) }
+    ensures refused { IfErr result (λ outcome. (tree : Tree) → F.tree files.old ≡ Some tree → IsAnswerDue outcome (second_due one.now second.now tree)) }
+    ensures kept { F.tree files.new ≡ F.tree files.old }
+    ensures read_count { CountsRead result (F.read_faults files.old) (F.read_faults files.new) }
+    ensures write_count { F.write_faults files.new ≡ F.write_faults files.old }
+{
+    let other = read_export(alloc, files, second)?;
+    compare_both(alloc, one, &other)
+}
+
+/// Compares two exports, and tells the least key at which they differ.
+fn compare_both(alloc: Global, one: &Export, other: &Export) -> Result<(), Outcome>
+    ensures done { OnOk result (export_named one.now ≡ export_named other.now) }
+    ensures unequal { IfErr result (λ outcome. IsUnequal outcome (export_named one.now) (export_named other.now)) }
+    ensures count { (n : ℕ) → CountsRead result n n }
+{
+    let verdict = compare(alloc, one, other)?;
+    told_verdict(alloc, verdict)
+}
+
+/// The answer of a comparison.
+fn told_verdict(alloc: Global, verdict: Verdict) -> Result<(), Outcome>
+    ensures done { (a b : Named) → IsVerdict a b verdict → OnOk result (a ≡ b) }
+    ensures unequal { (a b : Named) → IsVerdict a b verdict → IfErr result (λ outcome. IsUnequal outcome a b) }
+    ensures count { (n : ℕ) → CountsRead result n n }
+{
+    match verdict {
+        Verdict::Same => Ok(()),
+        Verdict::Differs(key) => Err(differs_at(alloc, key)),
+    }
+}
+
+/// That two catalogues differ at a key, or that memory ran out.
+fn differs_at(alloc: Global, key: Key) -> Outcome
+    ensures unequal { (a b : Named) → IsLeastDifference a b key → IsUnequal result a b }
+    ensures count { (n : ℕ) → CountsRead {X = Unit {0}} (Err result) n n }
+{
+    match Difference::new(alloc, key) {
+        Ok(difference) => Outcome::Differs(difference),
+        Err(_) => Outcome::Memory,
+    }
+}
+
+/// Compares what two exports stand for by names.
+fn compare(alloc: Global, one: &Export, other: &Export) -> Result<Verdict, AllocError>
+    ensures { IfOk result (λ verdict. IsVerdict (export_named one.now) (export_named other.now) verdict) }
+{
+    same(
+        alloc,
+        one.catalogue(),
+        one.rows(),
+        other.catalogue(),
+        other.rows(),
+    )
+}
+
+/// Does what the words ask for.
+fn perform<F: Files, O: Sink, E: Sink>(
+    alloc: Global,
+    words: &[Text],
+    files: &mut F,
+    out: &mut O,
+    err: &mut E,
+    moment: Moment,
+) -> Result<(), Outcome>
+    ensures done { OnOk result ((tree : Tree) → F.tree files.old ≡ Some tree → WasDue (due words.now moment tree) (F.tree files.old) (F.tree files.new) (O.written out.old) (O.written out.new) (E.written err.old) (E.written err.new)) }
+    ensures refused { IfErr result (λ outcome. (tree : Tree) → F.tree files.old ≡ Some tree → IsAnswerDue outcome (due words.now moment tree)) }
+    ensures kept { IfErr result (λ outcome. IsRefusal outcome → F.tree files.new ≡ F.tree files.old) }
+    ensures quiet { IfErr result (λ outcome. IsRefusal outcome → O.written out.new ≡ O.written out.old) }
+    ensures cut { OnErr result ((teller : Teller) (tree : Tree) (left : Option (List ℕ)) → F.tree files.old ≡ Some tree → HasCut teller (due words.now moment tree) (world (F.tree files.old) left (O.written out.old) (E.written err.old)) (world (F.tree files.new) left (O.written out.new) (E.written err.new))) }
+    ensures silent { IfErr result (λ outcome. IsTold outcome → E.written err.new ≡ E.written err.old) }
+    ensures counted { CountsStep result (counts (F.read_faults files.old) (F.write_faults files.old) (O.faults out.old) (E.faults err.old)) (counts (F.read_faults files.new) (F.write_faults files.new) (O.faults out.new) (E.faults err.new)) }
+{
+    let asked = read_asked(alloc, words)?;
+    match &asked {
+        Asked::Psql { folder, script } => psql(alloc, files, err, folder, script),
+        Asked::Dump { folder } => pg_dump(alloc, files, out, folder, moment),
+        Asked::Compare { first, second } => pg_catcmp(alloc, files, first, second),
+    }
+}
+
+/// Writes the line that tells an outcome, and gives the outcome back.
+fn tell_outcome<E: Sink>(err: &mut E, teller: Teller, outcome: Outcome) -> Result<Outcome, Failed>
+    ensures same { IfOk result (λ told. told ≡ outcome) }
+    ensures ok { OnOk result (Appends (outcome_line teller outcome) (E.written err.old) (E.written err.new)) }
+    ensures err { OnErr result (AppendsPart (outcome_line teller outcome) (E.written err.old) (E.written err.new)) }
+    ensures count { CountsFault result (E.faults err.old) (E.faults err.new) }
+{
+    match tell(err, teller, &outcome) {
+        Ok(()) => Ok(outcome),
+        Err(Failed) => {
+            drop(outcome);
+            Err(Failed)
+        }
+    }
+}
+
+/// Does what the words ask for, over these files and streams, and answers what it came to.
+///
+/// What a call puts out is a list of outputs in order: files that are made and written, texts that are printed, texts that
+/// are told on standard error. Where no count of faults rose, a run that may come of the words, the moment and the files
+/// has ended: all its outputs were put out, in order, and its answer was given; or memory ran out. Any answer but
+/// `ReadFault`, `WriteFault` and `Memory` has all its outputs put out. With those three some first outputs of such a run
+/// are whole, the next one is cut, and a first part of the answer's own line stands on standard error; that of `Memory` or
+/// `ReadFault` where this line couldn't be told, so that the answer is `WriteFault`. Standard input isn't used.
+pub fn run_tools<F: Files, I: Source, O: Sink, E: Sink, G: Gate + Sync>(
+    alloc: Global,
+    words: &[Text],
+    files: &mut F,
+    input: &mut I,
+    out: &mut O,
+    err: &mut E,
+    moment: Moment,
+    _gate: &G,
+) -> Outcome
+    ensures complete { (tree : Tree) → F.tree files.old ≡ Some tree
+        → NoneRose (counts (F.read_faults files.old) (F.write_faults files.old) (O.faults out.old) (E.faults err.old)) (counts (F.read_faults files.new) (F.write_faults files.new) (O.faults out.new) (E.faults err.new))
+        → Ended words.now moment tree result (world (F.tree files.old) (I.left input.old) (O.written out.old) (E.written err.old)) (world (F.tree files.new) (I.left input.new) (O.written out.new) (E.written err.new)) ⊎ (result ≡ Outcome.Memory) }
+    ensures answered { (tree : Tree) → F.tree files.old ≡ Some tree
+        → Answered result words.now moment tree (world (F.tree files.old) (I.left input.old) (O.written out.old) (E.written err.old)) (world (F.tree files.new) (I.left input.new) (O.written out.new) (E.written err.new)) (E.faults err.old) (E.faults err.new) }
+    ensures counted { Counted result (counts (F.read_faults files.old) (F.write_faults files.old) (O.faults out.old) (E.faults err.old)) (counts (F.read_faults files.new) (F.write_faults files.new) (O.faults out.new) (E.faults err.new)) }
+    ensures unread { input.new ≡ input.old }
+{
+    let teller = teller_of(words);
+    match perform(alloc, words, files, out, err, moment) {
+        Ok(()) => Outcome::Done,
+        Err(outcome) => match tell_outcome(err, teller, outcome) {
+            Ok(outcome) => outcome,
+            Err(Failed) => Outcome::WriteFault,
+        },
+    }
+}

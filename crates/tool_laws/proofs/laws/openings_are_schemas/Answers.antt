@@ -1,0 +1,9 @@
+use Rattle.cat_rows.specs.declared.table.SysTable.TheVariants.{PgNamespace}
+use Rattle.tool_laws.proofs.Opened.{opening_read}
+use Rattle.tool_laws.proofs.laws.openings_are_schemas.Goals as goal
+
+pub returns : goal.returns
+returns c =
+    opening_read
+    (λ cat formed. c.tables_without_faults_are_clean.ensures.schemas cat.pg_authid cat.pg_namespace ((c.well_formed_tables_are_all.ensures cat).0 formed PgNamespace))
+    (λ text rows e. c.read_rows_can_be_written.ensures PgNamespace text rows e)

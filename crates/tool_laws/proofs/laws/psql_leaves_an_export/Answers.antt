@@ -1,0 +1,16 @@
+use Rattle.tool_laws.proofs.Whole.{is_export}
+use Rattle.tool_laws.proofs.Written.{comes_schemas, comes_read, plan_read}
+use Rattle.tool_laws.proofs.laws.psql_leaves_an_export.Goals as goal
+
+-- the catalogue that is left has no fault
+pub returns-clause-formed : goal.returns-clause-formed
+returns-clause-formed c = λ folder script tree plan run applied e.
+    c.catalogues_of_schemas_are_well_formed.ensures applied.comes.rows
+    (comes_schemas plan applied.text applied.comes (plan_read c.openings_are_schemas.ensures folder script tree plan e).schemas)
+
+-- the folder is an export of it
+pub returns-clause-read : goal.returns-clause-read
+returns-clause-read c = λ folder script tree plan run applied after e within.
+    is_export c.exports_are_whole.ensures plan.folder applied.text applied.comes.rows after (comes_read plan applied.text applied.comes) within
+    (c.catalogues_of_schemas_are_well_formed.ensures applied.comes.rows
+    (comes_schemas plan applied.text applied.comes (plan_read c.openings_are_schemas.ensures folder script tree plan e).schemas))

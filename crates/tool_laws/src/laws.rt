@@ -1,0 +1,103 @@
+//! Laws of the definitions, each the contract of a function that does nothing.
+ghost use Rattle.std.specs.Prelude.{◌≡◌, ◌≤◌, List, map, length, Some, None, Ok, codes};
+ghost use Rattle.std.specs.FinMap.{empty};
+ghost use Rattle.dump_ports.specs.Tree.{Tree};
+ghost use Rattle.dump_ports.specs.declared.moment.Moment.{Moment};
+ghost use Rattle.cat_model.specs.Values.{Bytes};
+ghost use Rattle.dump_schemas.specs.declared.rows.DatabaseRow.{DatabaseRow};
+ghost use Rattle.dump_schemas.specs.Scripts.{script_of as dumped_script};
+ghost use Rattle.dump_laws.specs.Examples.{script_of_two};
+ghost use Rattle.schema_folders.specs.declared.schemas.SchemaRow.{SchemaRow};
+ghost use Rattle.dump_tools.specs.Due.{Application, Applies, dump_row, psql_due};
+ghost use Rattle.dump_tools.specs.Outputs.{World, all_performed};
+ghost use Rattle.dump_tools.specs.Runs.{Run, IsApplied, MayCome};
+ghost use Rattle.tool_words.specs.declared.outcome.Outcome.TheVariants.{Done};
+ghost use Rattle.tool_words.specs.declared.words.Teller.{Teller};
+ghost use Rattle.cat_rows.specs.declared.table.SysTable.TheVariants.{PgNamespace};
+ghost use Rattle.cat_rows.specs.Reading.{table_of};
+ghost use Rattle.cat_check.specs.Catalogues.{catalogue_fault};
+ghost use Rattle.exports.specs.Exports.{export_of};
+ghost use Rattle.folder_io.specs.Folders.{table_limit};
+ghost use Rattle.schema_folders.specs.Folder.{opening_of, cells_of_row, schemas_alone, folder_saved};
+ghost use Rattle.schema_folders.specs.Naming.{boot};
+ghost use Rattle.tool_laws.specs.Opening.{AreSchemas, WereRead};
+ghost use Rattle.tool_laws.specs.RoundTrip.{CanBeMade, Remakes, GoesBack, MakesSame, Restores, fresh_rows, public_and_a};
+
+use cat_check::laws::well_formed_tables_are_all;
+use cat_names::laws::tables_without_faults_are_clean;
+use cat_rows::laws::read_rows_can_be_written;
+use copy_text::laws::tests_are_exact;
+use dump_laws::{the_script_reads_as_its_statements, worked_example};
+use dump_tools::laws::an_applied_script_leaves_its_folder;
+use exports::laws::exports_are_whole;
+
+/// The script of schemas, read by psql and applied to a fresh folder, leaves these schemas laid over what was there,
+/// and no statement is refused.
+pub fn the_dumped_script_makes_the_schemas()
+    ensures { (database : DatabaseRow) (moment : Moment) (rows : List SchemaRow) → CanBeMade rows
+        → Remakes (dumped_script database boot moment (map dump_row rows)) rows }
+{
+    the_script_reads_as_its_statements();
+    tests_are_exact();
+}
+
+/// The schemas of a folder that is read as an opening have oids and names that aren't the system's own, no two the same,
+/// and `public` is among them.
+pub fn openings_are_schemas()
+    ensures { (folder : Bytes) (tree : Tree) (rows : List SchemaRow) → opening_of folder tree ≡ Ok rows → WereRead rows }
+{
+    well_formed_tables_are_all();
+    tables_without_faults_are_clean();
+    read_rows_can_be_written();
+}
+
+/// A catalogue whose only objects are such schemas is well-formed.
+pub fn catalogues_of_schemas_are_well_formed()
+    ensures { (rows : List SchemaRow) → AreSchemas rows → catalogue_fault (schemas_alone rows) ≡ None }
+{
+    well_formed_tables_are_all();
+}
+
+/// What psql leaves of a folder is well-formed, whatever oids were drawn; and it is read as an export, by every tool,
+/// where the file of pg_namespace is within the limit of a table's file.
+pub fn psql_leaves_an_export()
+    ensures formed { (folder script : Bytes) (tree : Tree) (plan : Application) (run : Run) (applied : IsApplied plan run)
+        → psql_due folder script tree ≡ Ok (Applies plan)
+        → catalogue_fault (schemas_alone applied.comes.rows) ≡ None }
+    ensures read { (folder script : Bytes) (tree : Tree) (plan : Application) (run : Run) (applied : IsApplied plan run) (after : Tree)
+        → psql_due folder script tree ≡ Ok (Applies plan)
+        → length applied.text ≤ table_limit
+        → export_of plan.folder (folder_saved plan.folder applied.text after) ≡ Ok (record { cat = schemas_alone applied.comes.rows; rows = empty }) }
+{
+    openings_are_schemas();
+    catalogues_of_schemas_are_well_formed();
+    exports_are_whole();
+}
+
+/// What pg_dump prints of a folder, psql applies to a folder whose one schema is public: nothing is refused, and each run
+/// that may come of it is done and leaves the folder standing for the same catalogue by names, with nothing told.
+pub fn psql_restores_what_pg_dump_prints()
+    ensures due { (source : Bytes) (moment : Moment) (first : Tree) (rows : List SchemaRow) (target script : Bytes) (second : Tree)
+        → GoesBack source moment first rows target script second
+        → MakesSame (psql_due target script second) rows }
+    ensures done { (source : Bytes) (moment : Moment) (first : Tree) (rows : List SchemaRow) (target script : Bytes) (second : Tree) (teller : Teller) (run : Run) (before : World)
+        → GoesBack source moment first rows target script second
+        → before.tree ≡ Some second
+        → MayCome teller (psql_due target script second) run
+        → (run.answer ≡ Done) × Restores target rows before (all_performed run.outputs before) }
+{
+    the_dumped_script_makes_the_schemas();
+    openings_are_schemas();
+    an_applied_script_leaves_its_folder();
+}
+
+/// The script of the schemas `a` and `public` makes the two, by the law and not by computing. And the line of
+/// `pg_namespace` in the empty export stands for the one schema of a fresh folder.
+pub fn worked_round_trip()
+    ensures two { Remakes script_of_two public_and_a }
+    ensures fresh { table_of PgNamespace (codes "2200\tpublic\t10\t\\N\n") ≡ Ok (map cells_of_row fresh_rows) }
+{
+    the_dumped_script_makes_the_schemas();
+    worked_example();
+    tests_are_exact();
+}
