@@ -1,31 +1,20 @@
 //! PostgreSQL's dump tools over exported catalogues.
 #![tactic(auto)]
 
+ghost use Rattle.std.specs.Prelude.{◌≡◌};
+ghost use Rattle.tool_words.specs.Status.{status_of};
+
 mod arguments;
-mod cluster;
-mod dumping;
-mod folder;
-mod keys;
-mod laws;
-mod namespaces;
-mod opening;
-mod outcome;
-mod run;
-mod schemas;
-mod script;
-mod tell;
-mod texts;
-mod tools;
-mod words;
+mod help;
 
 use crate::arguments::{ArgumentFault, read_arguments};
-use crate::outcome::{Outcome, UsageKind};
-use crate::tell::tell;
-use crate::tools::run_tools;
-use crate::words::Tool;
-use dump_ports::{OpenGate, Sink};
+use crate::help::screens_of;
+use command_line::UsageKind;
+use dump_ports::{Failed, OpenGate, Sink, write_all};
+use dump_tools::run_tools;
 use os_ports::{OsErr, OsFiles, OsIn, OsOut, moment_now};
 use std::process::ExitCode;
+use tool_words::{Outcome, Teller, tell};
 
 fn main(rt: HostRuntime) -> ExitCode {
     let alloc = rt.alloc();
@@ -34,14 +23,40 @@ fn main(rt: HostRuntime) -> ExitCode {
         Ok(words) => words,
         Err(fault) => return ExitCode::from(refuse(&mut err, fault)),
     };
+    let mut out = OsOut::new(rt.stdout());
+    if let Some(screens) = screens_of(&words) {
+        return ExitCode::from(print(&mut out, &mut err, screens));
+    }
     let mut files = OsFiles::new(alloc, &rt);
     let mut input = OsIn::new(rt.stdin());
-    let mut out = OsOut::new(rt.stdout());
     let moment = moment_now(&rt);
     let outcome = run_tools(
         alloc, &words, &mut files, &mut input, &mut out, &mut err, moment, &OpenGate,
     );
-    ExitCode::from(outcome.status())
+    ExitCode::from(exit_status(outcome))
+}
+
+/// The exit status of what the program came to.
+fn exit_status(outcome: Outcome) -> u8
+    ensures { result ≡ status_of outcome }
+{
+    let status = outcome.status();
+    drop(outcome);
+    status
+}
+
+/// Prints the screens, and gives the status.
+fn print<O: Sink, E: Sink>(out: &mut O, err: &mut E, screens: (&'static str, &'static str)) -> u8 {
+    let (first, second) = screens;
+    match write_both(out, first, second) {
+        Ok(()) => 0,
+        Err(Failed) => refused(err, Outcome::WriteFault),
+    }
+}
+
+fn write_both<O: Sink>(out: &mut O, first: &str, second: &str) -> Result<(), Failed> {
+    write_all(out, first.as_bytes())?;
+    write_all(out, second.as_bytes())
 }
 
 /// Tells that the words weren't read, and gives the status.
@@ -53,7 +68,12 @@ fn refuse<E: Sink>(err: &mut E, fault: ArgumentFault) -> u8 {
         },
         ArgumentFault::Memory => Outcome::Memory,
     };
-    match tell(err, Tool::Program, &outcome) {
+    refused(err, outcome)
+}
+
+/// Tells what the program itself refuses, and gives the status.
+fn refused<E: Sink>(err: &mut E, outcome: Outcome) -> u8 {
+    match tell(err, Teller::Program, &outcome) {
         Ok(()) => outcome.status(),
         Err(_) => Outcome::WriteFault.status(),
     }
