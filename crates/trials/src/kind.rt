@@ -1,0 +1,87 @@
+//! The kinds of cases.
+use text_cases::{TextKind, text_kind};
+
+/// What the cases of a block are of.
+#[derive(Clone, Copy, Debug, PartialEq, Eq)]
+pub(crate) enum Kind {
+    /// No kind that there is.
+    Unknown,
+    /// A text.
+    Text(TextKind),
+    /// Words of a command line.
+    Words,
+    /// A pattern.
+    Pattern,
+    /// Texts of system tables: the first fault of these tables.
+    Check(Checked),
+    /// A change to a folder: the first fault of its tables.
+    Change,
+    /// Texts of system tables: the least key at which the catalogue with them differs.
+    Same,
+    /// A script: what psql answers and writes.
+    Psql,
+    /// A script: what pg_dump prints once it was applied.
+    PgDump,
+    /// A file and its text: what pg_catcmp tells of the folder with it.
+    PgCatcmp,
+    /// Words: what the program tells.
+    Run,
+}
+
+/// The tables that are checked together.
+#[derive(Clone, Copy, Debug, PartialEq, Eq)]
+pub(crate) enum Checked {
+    /// Roles, memberships, databases and schemas.
+    Cluster,
+    /// Types.
+    Types,
+    /// Columns and their defaults.
+    Columns,
+    /// Constraints.
+    Constraints,
+    /// Indexes that stand for no constraint.
+    Indexes,
+    /// Sequences.
+    Sequences,
+    /// Views.
+    Views,
+    /// All fifteen tables.
+    All,
+}
+
+fn checked_of(name: &str) -> Option<Checked> {
+    let checked = match name {
+        "cluster" => Checked::Cluster,
+        "types" => Checked::Types,
+        "columns" => Checked::Columns,
+        "constraints" => Checked::Constraints,
+        "indexes" => Checked::Indexes,
+        "sequences" => Checked::Sequences,
+        "views" => Checked::Views,
+        "all" => Checked::All,
+        _ => return None,
+    };
+    Some(checked)
+}
+
+fn other_of(name: &str) -> Kind {
+    match name {
+        "words" => Kind::Words,
+        "pattern" => Kind::Pattern,
+        "change" => Kind::Change,
+        "same" => Kind::Same,
+        "psql" => Kind::Psql,
+        "pg_dump" => Kind::PgDump,
+        "pg_catcmp" => Kind::PgCatcmp,
+        "run" => Kind::Run,
+        _ => text_kind(name).map_or(Kind::Unknown, Kind::Text),
+    }
+}
+
+/// The kind of a name.
+pub(crate) fn kind_of(name: &str) -> Kind {
+    match name.split_once(' ') {
+        Some(("check", tables)) => checked_of(tables).map_or(Kind::Unknown, Kind::Check),
+        _ => other_of(name),
+    }
+}
