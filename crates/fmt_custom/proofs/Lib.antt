@@ -2,3 +2,8 @@ pub mod BlockLaws
 pub mod Found
 pub mod Firsts
 pub mod Customs
+pub mod BlockFits
+pub mod Ids
+pub mod Rereading
+pub mod Written
+pub mod Placed

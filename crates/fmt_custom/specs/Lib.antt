@@ -3,3 +3,4 @@ pub mod Customs
 pub mod Indexes
 pub mod Readers
 pub mod Writing
+pub mod Stored

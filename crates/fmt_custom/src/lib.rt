@@ -3,6 +3,7 @@
 
 mod blocks;
 mod fault;
+pub mod laws;
 mod pieces;
 mod reader;
 mod writer;
