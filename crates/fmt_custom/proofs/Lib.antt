@@ -7,3 +7,6 @@ pub mod Ids
 pub mod Rereading
 pub mod Written
 pub mod Placed
+pub mod Growing
+pub mod Telling
+pub mod WorkedLaws

@@ -4,3 +4,4 @@ pub mod Indexes
 pub mod Readers
 pub mod Writing
 pub mod Stored
+pub mod Worked

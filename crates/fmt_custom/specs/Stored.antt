@@ -1,6 +1,6 @@
 -- A whole custom archive as it is written: the head and the entries, and behind them the blocks of the entries with rows,
 -- in the order of the entries.
-use Rattle.std.specs.Prelude.{◌≡◌, ℕ, ◌+◌, ◌<◌, ◌^◌, Bool, true, false, List, [], ◌∷◌, ◌++◌, length, map, Option, Some, None}
+use Rattle.std.specs.Prelude.{◌≡◌, ℕ, zero, suc, ◌+◌, ◌<◌, ◌^◌, Bool, true, false, List, [], ◌∷◌, ◌++◌, length, map, Option, Some, None}
 use Rattle.std.specs.List.{AllByRecursion}
 use Rattle.toc_entry.specs.declared.entry.Entry.{Entry}
 use Rattle.toc_entry.specs.declared.entry.Extra.{Extra}
@@ -9,7 +9,7 @@ use Rattle.toc_layout.specs.Heads.{HeadFields}
 use Rattle.toc_layout.specs.Values.{IsHead}
 use Rattle.toc_layout.specs.Writable.{HeadCanBeWritten}
 use Rattle.toc_table.specs.Writing.{TocFits}
-use Rattle.fmt_custom.specs.Blocks.{pieces}
+use Rattle.fmt_custom.specs.Blocks.{piece, pieces}
 use Rattle.fmt_custom.specs.Customs.{Found, Custom}
 use Rattle.fmt_custom.specs.Writing.{front_text, start_text}
 
@@ -25,6 +25,14 @@ entries_of ss = map (λ s. s.entry) ss
 abbrev pub block_by : Bool → ℕ → List (List ℕ) → List ℕ
 block_by false id ps = []
 block_by true id ps = start_text id ++ pieces.write ps
+
+-- what stands of a block once some pieces are out, and its end isn't
+abbrev pub pieces_out : List (List ℕ) → List ℕ
+pieces_out [] = []
+pieces_out (p ∷ ps) = piece.write (Some p) ++ pieces_out ps
+
+abbrev pub open_block : ℕ → List (List ℕ) → List ℕ
+open_block id ps = start_text id ++ pieces_out ps
 
 abbrev pub block_text : Stored → List ℕ
 block_text s = block_by s.entry.has_rows s.entry.dump_id s.pieces
@@ -106,3 +114,15 @@ placed_at at (s ∷ ss) = placed at s ∷ placed_at (place_behind at s) ss
 
 abbrev pub all_placed : HeadFields → List Stored → List Stored
 all_placed h ss = placed_at (first_place h ss) ss
+
+-- the first so many of them tell it
+abbrev pub first_placed : ℕ → ℕ → List Stored → List Stored
+first_placed zero at ss = ss
+first_placed (suc k) at [] = []
+first_placed (suc k) at (s ∷ ss) = placed at s ∷ first_placed k (place_behind at s) ss
+
+-- where the block of the entry of an index stands
+abbrev pub place_of : ℕ → ℕ → List Stored → ℕ
+place_of zero at ss = at
+place_of (suc k) at [] = at
+place_of (suc k) at (s ∷ ss) = place_of k (place_behind at s) ss
