@@ -1,26 +1,25 @@
 ghost use Rattle.std.specs.Prelude.{◌≡◌, None};
 ghost use Rattle.dump_ports.specs.Faults.{CountsFault};
 
-use crate::faults::counted;
-use crate::kept::KeptFile;
-use crate::steps::write_whole;
+use crate::disk::Disk;
+use crate::faults::{FileFault, named, noted};
+use crate::holds::{Hold, Holdable};
 use dump_ports::{Failed, Files};
 use std::alloc::Global;
-use std::fs::OpenOptions;
-use std::io::{ErrorKind, Seek, SeekFrom};
 use std::marker::Model;
-use std::path::Path;
-use std::{fs, io, rt};
+use std::rt;
 
-/// The files of the operating system by their paths.
+/// The files of the operating system by their paths, as one run of a tool sees and writes them.
 ///
-/// A directory is no file: each call on one fails. `make` makes the folders that are missing on the way to a file.
+/// A directory is no file: each call on one fails. A name below a file is absent. `make` makes the folders that are
+/// missing on the way to a file. What is written stands beside its target, under a name of its own, until `commit`; the
+/// same object reads it under its target's name. Devices, pipes and links that lead nowhere are written at once.
 /// Contracts see the two counts of failed calls, which stop at 2^64 - 1.
 #[derive(Drop)]
 pub struct OsFiles<R: rt::Files> {
     alloc: Global,
-    rt: R,
-    kept: KeptFile<R>,
+    disk: Disk<R>,
+    first: Option<FileFault>,
     read_faults: u64,
     write_faults: u64,
 }
@@ -40,44 +39,56 @@ impl<R: rt::Files> OsFiles<R> {
     {
         OsFiles {
             alloc,
-            rt,
-            kept: KeptFile::new(),
+            disk: Disk::new(alloc, rt),
+            first: None,
             read_faults: 0,
             write_faults: 0,
         }
     }
-}
 
-/// The length of a file, `None` where it is absent.
-fn file_size(rt: &impl rt::Files, name: &str) -> io::Result<Option<u64>> {
-    match fs::metadata(rt, name) {
-        Ok(found) if found.is_dir() => Err(io::Error::from(ErrorKind::IsADirectory)),
-        Ok(found) => Ok(Some(found.len())),
-        Err(error) if error.kind() == ErrorKind::NotFound => Ok(None),
-        Err(error) => Err(error),
+    /// Puts all that was written in place: each file is flushed to its device, then they are renamed in the order of
+    /// writing, then their folders are flushed.
+    ///
+    /// After an error no file has changed, or the first ones in the order of writing hold what was written and the
+    /// others what they held; what isn't in place is removed.
+    pub fn commit(&mut self) -> Result<(), Failed>
+        ensures read_count { self.new.read ≡ self.old.read }
+        ensures write_count { CountsFault result self.old.write self.new.write }
+    {
+        let answer = self.disk.put_in_place();
+        noted(answer, &mut self.first, &mut self.write_faults)
+    }
+
+    /// Removes all that was written and isn't in place.
+    pub fn discard(&mut self)
+        ensures { self.new ≡ self.old }
+    {
+        self.disk.discard();
+    }
+
+    /// The first call that failed since this was asked last, where one did.
+    pub fn take_fault(&mut self) -> Option<FileFault>
+        ensures { self.new ≡ self.old }
+    {
+        self.first.take()
     }
 }
 
-/// Makes an empty file, and the folders on the way to it.
-fn make_file(rt: &impl rt::Files, name: &str) -> io::Result<()> {
-    if let Some(folder) = Path::new(name).parent() {
-        fs::create_dir_all(rt, folder)?;
+impl<R: rt::Files> OsFiles<R>
+where
+    R::File: Holdable,
+{
+    /// Holds a folder against other runs, until this object is dropped or the process ends. Nothing waits: where others
+    /// hold it so that this can't be, that is an error.
+    ///
+    /// What is no folder, may not be opened, or stands on a file system that can't hold it, is left.
+    pub fn hold(&mut self, folder: &str, hold: Hold) -> Result<(), Failed>
+        ensures read_count { CountsFault result self.old.read self.new.read }
+        ensures write_count { self.new.write ≡ self.old.write }
+    {
+        let answer = named(self.alloc, folder, self.disk.hold(folder, hold));
+        noted(answer, &mut self.first, &mut self.read_faults)
     }
-    fs::create(rt, name)?;
-    Ok(())
-}
-
-/// Adds bytes at the end of a file, which is made where it is absent.
-fn append_to_file(rt: &impl rt::Files, name: &str, bytes: &[u8]) -> io::Result<()> {
-    let mut file = OpenOptions::new().append(true).create(true).open(rt, name)?;
-    write_whole(&mut file, bytes)
-}
-
-/// Writes bytes over those of a file from a place on.
-fn patch_file(rt: &impl rt::Files, name: &str, at: u64, bytes: &[u8]) -> io::Result<()> {
-    let mut file = OpenOptions::new().write(true).open(rt, name)?;
-    file.seek(SeekFrom::Start(at))?;
-    write_whole(&mut file, bytes)
 }
 
 impl<R: rt::Files> Files for OsFiles<R> {
@@ -88,29 +99,27 @@ impl<R: rt::Files> Files for OsFiles<R> {
     ghost write_faults = { λ f. f.write };
 
     fn size(&mut self, name: &str) -> Result<Option<u64>, Failed> {
-        counted(file_size(&self.rt, name), &mut self.read_faults)
+        let answer = named(self.alloc, name, self.disk.size(name));
+        noted(answer, &mut self.first, &mut self.read_faults)
     }
 
     fn read_at(&mut self, name: &str, at: u64, buffer: &mut [u8]) -> Result<usize, Failed> {
-        let answer = self.kept.read_at(self.alloc, &self.rt, name, at, buffer);
-        counted(answer, &mut self.read_faults)
+        let answer = named(self.alloc, name, self.disk.read_at(name, at, buffer));
+        noted(answer, &mut self.first, &mut self.read_faults)
     }
 
     fn make(&mut self, name: &str) -> Result<(), Failed> {
-        counted(make_file(&self.rt, name), &mut self.write_faults)
+        let answer = named(self.alloc, name, self.disk.make(name));
+        noted(answer, &mut self.first, &mut self.write_faults)
     }
 
     fn append(&mut self, name: &str, bytes: &[u8]) -> Result<(), Failed> {
-        counted(
-            append_to_file(&self.rt, name, bytes),
-            &mut self.write_faults,
-        )
+        let answer = named(self.alloc, name, self.disk.append(name, bytes));
+        noted(answer, &mut self.first, &mut self.write_faults)
     }
 
     fn patch(&mut self, name: &str, at: u64, bytes: &[u8]) -> Result<(), Failed> {
-        counted(
-            patch_file(&self.rt, name, at, bytes),
-            &mut self.write_faults,
-        )
+        let answer = named(self.alloc, name, self.disk.patch(name, at, bytes));
+        noted(answer, &mut self.first, &mut self.write_faults)
     }
 }

@@ -3,12 +3,18 @@
 #![tactic(auto)]
 
 mod clock;
+mod disk;
 mod faults;
 mod files;
+mod holds;
 mod kept;
+mod staging;
 mod steps;
 mod streams;
+mod targets;
 
 pub use clock::moment_now;
+pub use faults::FileFault;
 pub use files::OsFiles;
+pub use holds::{Hold, Holdable};
 pub use streams::{OsErr, OsIn, OsOut};

@@ -1,7 +1,12 @@
 ghost use Rattle.std.specs.Prelude.{◌<◌, ◌≤◌, length, IfOk};
 
 use std::io;
-use std::io::{ErrorKind, Read, Seek, SeekFrom, Write};
+use std::io::{ErrorKind, Read, Write};
+
+/// Whether an error says that nothing has the name: it isn't there, or it stands below a file.
+pub(crate) fn is_absence(kind: ErrorKind) -> bool {
+    matches!(kind, ErrorKind::NotFound | ErrorKind::NotADirectory)
+}
 
 /// Reads once, and again where a signal cuts the call short.
 pub(crate) fn read_once<R: Read>(reader: &mut R, buffer: &mut [u8]) -> io::Result<usize>
@@ -14,18 +19,6 @@ pub(crate) fn read_once<R: Read>(reader: &mut R, buffer: &mut [u8]) -> io::Resul
         }
     }
     Err(io::Error::from(ErrorKind::Interrupted))
-}
-
-/// Reads once from a place on.
-pub(crate) fn read_from<R: Read + Seek>(
-    reader: &mut R,
-    at: u64,
-    buffer: &mut [u8],
-) -> io::Result<usize>
-    ensures { IfOk result (λ n. n ≤ length buffer.new) }
-{
-    reader.seek(SeekFrom::Start(at))?;
-    read_once(reader, buffer)
 }
 
 /// Writes once, and again where a signal cuts the call short.

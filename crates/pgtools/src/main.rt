@@ -5,16 +5,18 @@ ghost use Rattle.std.specs.Prelude.{◌≡◌};
 ghost use Rattle.tool_words.specs.Status.{status_of};
 
 mod arguments;
+mod ending;
 mod help;
 
 use crate::arguments::{ArgumentFault, read_arguments};
+use crate::ending::{hold_folders, settle, tell_detail, told};
 use crate::help::screens_of;
 use command_line::UsageKind;
 use dump_ports::{Failed, OpenGate, Sink, write_all};
 use dump_tools::run_tools;
 use os_ports::{OsErr, OsFiles, OsIn, OsOut, moment_now};
 use std::process::ExitCode;
-use tool_words::{Outcome, Teller, tell};
+use tool_words::{Outcome, Teller, tell, teller_of};
 
 fn main(rt: HostRuntime) -> ExitCode {
     let alloc = rt.alloc();
@@ -30,9 +32,15 @@ fn main(rt: HostRuntime) -> ExitCode {
     let mut files = OsFiles::new(alloc, &rt);
     let mut input = OsIn::new(rt.stdin());
     let moment = moment_now(&rt);
-    let outcome = run_tools(
-        alloc, &words, &mut files, &mut input, &mut out, &mut err, moment, &OpenGate,
-    );
+    let teller = teller_of(&words);
+    let outcome = match hold_folders(alloc, &mut files, &words) {
+        Ok(()) => run_tools(
+            alloc, &words, &mut files, &mut input, &mut out, &mut err, moment, &OpenGate,
+        ),
+        Err(Failed) => told(&mut err, teller, Outcome::ReadFault),
+    };
+    let outcome = settle(&mut files, &mut err, teller, outcome);
+    tell_detail(alloc, &mut err, teller, &outcome, files.take_fault());
     ExitCode::from(exit_status(outcome))
 }
 
@@ -73,10 +81,7 @@ fn refuse<E: Sink>(err: &mut E, fault: ArgumentFault) -> u8 {
 
 /// Tells what the program itself refuses, and gives the status.
 fn refused<E: Sink>(err: &mut E, outcome: Outcome) -> u8 {
-    match tell(err, Teller::Program, &outcome) {
-        Ok(()) => outcome.status(),
-        Err(_) => Outcome::WriteFault.status(),
-    }
+    exit_status(told(err, Teller::Program, outcome))
 }
 
 #[cfg(test)]

@@ -1,6 +1,11 @@
-use dump_ports::{Failed, Files, Sink, Source};
+mod cut;
+mod psql;
+mod staged;
+
+use dump_ports::{Failed, Files, Sink, Source, read_whole};
 use os_ports::*;
 use std::io::{ErrorKind, Read, Write};
+use std::os::fd::AsRawFd;
 use std::rt::Clock;
 use std::test::Fail;
 use std::time::Duration;
@@ -54,9 +59,13 @@ fn what_is_no_file_fails(rt: HostRuntime) -> Result<(), Fail> {
     fs::create_dir(&rt, FOLDER)?;
     let mut files = OsFiles::new(rt.alloc(), &rt);
     assert_eq!(rt; files.make("os_ports_folder/file"), Ok(()));
-    for name in [FOLDER, BELOW_A_FILE, "a\0b"] {
+    for name in [FOLDER, "a\0b"] {
         assert_eq!(rt; files.size(name), Err(Failed), "{name}");
         assert_eq!(rt; files.read_at(name, 0, &mut [0; 8]), Err(Failed), "{name}");
+    }
+    assert_eq!(rt; files.size(BELOW_A_FILE), Ok(None));
+    assert_eq!(rt; files.read_at(BELOW_A_FILE, 0, &mut [0; 8]), Ok(0));
+    for name in [FOLDER, BELOW_A_FILE, "a\0b"] {
         assert_eq!(rt; files.make(name), Err(Failed), "{name}");
         assert_eq!(rt; files.append(name, b"a"), Err(Failed), "{name}");
         assert_eq!(rt; files.patch(name, 0, b"a"), Err(Failed), "{name}");
@@ -65,6 +74,21 @@ fn what_is_no_file_fails(rt: HostRuntime) -> Result<(), Fail> {
     assert_eq!(rt; files.patch("os_ports_folder/absent", 0, b"a"), Err(Failed));
     assert_eq!(rt; files.size("os_ports_folder/absent"), Ok(None));
     fs::remove_dir_all(&rt, FOLDER)?;
+    Ok(())
+}
+
+#[test]
+fn a_pipe_is_read_to_its_end(rt: HostRuntime) -> Result<(), Fail> {
+    let (reader, mut writer) = io::pipe(&rt)?;
+    let text = vec![in rt.alloc(); b'a'; 50_000]?;
+    let name = format!(in rt.alloc(); "/proc/self/fd/{}", reader.as_raw_fd())?;
+    writer.write_all(&text)?;
+    drop(writer);
+    let mut files = OsFiles::new(rt.alloc(), &rt);
+    match read_whole(rt.alloc(), &mut files, name.as_str(), 100_000) {
+        Ok(Some(found)) => assert!(rt; found.as_slice() == text.as_slice()),
+        _ => assert!(rt; false, "not read"),
+    }
     Ok(())
 }
 
