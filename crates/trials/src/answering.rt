@@ -49,6 +49,7 @@ fn of_texts(alloc: Global, block: &Block, line: &str, out: &mut Vec<u8>) -> Resu
 fn answer(alloc: Global, block: &Block, line: &str, out: &mut Vec<u8>) -> Result<(), AllocError> {
     match block.kind {
         Kind::Text(kind) => text_cases::answer(alloc, kind, line, out),
+        Kind::Archive(kind) => archive_cases::answer(alloc, kind, line, out),
         Kind::Check(_) | Kind::Same => of_texts(alloc, block, line, out),
         Kind::Change => changes::with_line(alloc, &block.base, line, out),
         Kind::PgCatcmp => tools::pg_catcmp(alloc, &block.base, line, out),

@@ -1,4 +1,5 @@
 //! The kinds of cases.
+use archive_cases::ArchiveKind;
 use text_cases::{TextKind, text_kind};
 
 /// What the cases of a block are of.
@@ -8,6 +9,8 @@ pub(crate) enum Kind {
     Unknown,
     /// A text.
     Text(TextKind),
+    /// An archive, or a part of one.
+    Archive(ArchiveKind),
     /// Words of a command line.
     Words,
     /// A pattern.
@@ -66,6 +69,8 @@ fn checked_of(name: &str) -> Option<Checked> {
 
 fn other_of(name: &str) -> Kind {
     match name {
+        "archive" => Kind::Archive(ArchiveKind::Archive),
+        "entry" => Kind::Archive(ArchiveKind::Entry),
         "words" => Kind::Words,
         "pattern" => Kind::Pattern,
         "change" => Kind::Change,
