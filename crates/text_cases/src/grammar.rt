@@ -93,10 +93,7 @@ fn number_read(
 }
 
 // Keeps a statement that was read, and gives where reading ended.
-fn keep(
-    read: Result<(Stmt, usize), ReadError>,
-    found: &mut Vec<Stmt>,
-) -> Result<usize, ReadError> {
+fn keep(read: Result<(Stmt, usize), ReadError>, found: &mut Vec<Stmt>) -> Result<usize, ReadError> {
     let (stmt, count) = read?;
     found.push(stmt)?;
     Ok(count)
