@@ -124,18 +124,19 @@ impl<R: rt::Files> Disk<R> {
         patch_file(&self.rt, self.staging.path_of(name), at, bytes)
     }
 
-    /// Puts all that was written in place. Where that fails, what isn't in place is removed.
+    /// Puts all that was written in place. Where that fails, what isn't in place is removed, or left to the next run.
     pub(crate) fn put_in_place(&mut self) -> Result<(), FileFault> {
         self.close();
-        let answer = self.staging.put_in_place(&self.rt);
-        self.staging.clear(&self.rt);
+        let alone = self.holds.alone();
+        let answer = self.staging.put_in_place(&self.rt, alone);
+        self.staging.clear(&self.rt, alone);
         answer
     }
 
     /// Removes all that was written.
     pub(crate) fn discard(&mut self) {
         self.close();
-        self.staging.clear(&self.rt);
+        self.staging.clear(&self.rt, self.holds.alone());
     }
 
     /// Closes what is open.

@@ -50,7 +50,8 @@ impl<R: rt::Files> OsFiles<R> {
     /// writing, then their folders are flushed.
     ///
     /// After an error no file has changed, or the first ones in the order of writing hold what was written and the
-    /// others what they held; what isn't in place is removed.
+    /// others what they held. What isn't in place is removed; but where a first file is in place, in a folder that this
+    /// run holds alone, the next run that holds the folder puts the others in place.
     pub fn commit(&mut self) -> Result<(), Failed>
         ensures read_count { self.new.read ≡ self.old.read }
         ensures write_count { CountsFault result self.old.write self.new.write }
@@ -79,7 +80,8 @@ where
     R::File: Holdable,
 {
     /// Holds a folder against other runs, until this object is dropped or the process ends. Nothing waits: where others
-    /// hold it so that this can't be, that is an error.
+    /// hold it so that this can't be, that is an error. Where a run was cut off while it put files in place, that is
+    /// brought to its end first.
     ///
     /// What is no folder, may not be opened, or stands on a file system that can't hold it, is left.
     pub fn hold(&mut self, folder: &str, hold: Hold) -> Result<(), Failed>

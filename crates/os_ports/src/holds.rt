@@ -1,3 +1,4 @@
+use crate::renames::{finish_list, has_list, path_below};
 use std::alloc::Global;
 use std::fs::{File, TryLockError};
 use std::io::ErrorKind;
@@ -61,11 +62,22 @@ impl<F> Holds<F> {
     /// Whether a path lies in a folder that nobody else uses.
     pub(crate) fn has_alone(&self, path: &str) -> bool {
         for folder in &self.folders {
-            if folder.hold == Hold::Alone && is_below(path, folder.name.as_str()) {
+            let is_below = path_below(path, folder.name.as_str()).is_some();
+            if folder.hold == Hold::Alone && is_below {
                 return true;
             }
         }
         false
+    }
+
+    /// The first folder that nobody else uses.
+    pub(crate) fn alone(&self) -> Option<&str> {
+        for folder in &self.folders {
+            if folder.hold == Hold::Alone {
+                return Some(folder.name.as_str());
+            }
+        }
+        None
     }
 
     /// Whether a folder is held so, or alone, under any of its names.
@@ -76,14 +88,6 @@ impl<F> Holds<F> {
             }
         }
         false
-    }
-}
-
-/// Whether a path goes on behind a folder's.
-fn is_below(path: &str, folder: &str) -> bool {
-    match path.strip_prefix(folder) {
-        Some(rest) => rest.starts_with('/'),
-        None => false,
     }
 }
 
@@ -103,21 +107,28 @@ impl<F: Holdable + Drop> Holds<F> {
             return Ok(());
         }
         match fs::open(rt, name) {
-            Ok(open) => self.add_open(name, path, hold, open),
+            Ok(open) => self.add_open(rt, name, path, hold, open),
             Err(error) if error.kind() == ErrorKind::PermissionDenied => Ok(()),
             Err(error) => Err(error),
         }
     }
 
     /// Holds a folder that is open.
-    fn add_open(&mut self, name: &str, path: String, hold: Hold, open: F) -> io::Result<()> {
+    fn add_open<R: rt::Files<File = F>>(
+        &mut self,
+        rt: &R,
+        name: &str,
+        path: String,
+        hold: Hold,
+        open: F,
+    ) -> io::Result<()> {
         match open.try_hold(hold) {
             Ok(true) => {}
-            Ok(false) => return Err(io::Error::new(
-                ErrorKind::ResourceBusy,
-                "in use by another run",
-            )),
+            Ok(false) => return Err(in_use()),
             Err(_) => return Ok(()),
+        }
+        if has_list(self.alloc, rt, name)? {
+            self.finish(rt, name, hold, &open)?;
         }
         let name = String::from_str(self.alloc, name)?;
         self.folders.push(HeldFolder {
@@ -128,4 +139,30 @@ impl<F: Holdable + Drop> Holds<F> {
         })?;
         Ok(())
     }
+
+    /// Goes on with the renames of a run that was cut off among them, while nobody else uses the folder.
+    fn finish<R: rt::Files<File = F>>(
+        &self,
+        rt: &R,
+        name: &str,
+        hold: Hold,
+        open: &F,
+    ) -> io::Result<()> {
+        must_hold(open, Hold::Alone)?;
+        finish_list(self.alloc, rt, name)?;
+        must_hold(open, hold)
+    }
+}
+
+/// Holds what is open, or fails.
+fn must_hold<F: Holdable>(open: &F, hold: Hold) -> io::Result<()> {
+    if open.try_hold(hold)? {
+        return Ok(());
+    }
+    Err(in_use())
+}
+
+/// The error of what others hold.
+fn in_use() -> io::Error {
+    io::Error::new(ErrorKind::ResourceBusy, "in use by another run")
 }

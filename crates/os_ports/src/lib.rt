@@ -8,6 +8,7 @@ mod faults;
 mod files;
 mod holds;
 mod kept;
+mod renames;
 mod staging;
 mod steps;
 mod streams;

@@ -1,4 +1,7 @@
 use crate::faults::{FileFault, named};
+use crate::renames::{
+    flush_folder, is_listable, path_below, remove_list, removed_at_error, staged_beside, write_list,
+};
 use crate::targets::{FileTarget, Target, folder_of, take_after, target_of};
 use std::alloc::Global;
 use std::collections::BTreeMap;
@@ -17,11 +20,13 @@ pub(crate) struct Staging {
     folders: Vec<String>,
     folder: String,
     number: u64,
+    is_listed: bool,
 }
 
 /// A file that was written, in the order of writing.
 #[derive(Drop)]
 struct StagedFile {
+    number: u64,
     path: String,
     target: String,
     is_in_place: bool,
@@ -30,6 +35,7 @@ struct StagedFile {
 /// A file that was made, and its path.
 #[derive(Drop)]
 struct NewFile<F> {
+    number: u64,
     path: String,
     file: F,
 }
@@ -53,6 +59,7 @@ impl Staging {
             folders: Vec::new(alloc),
             folder: String::new(alloc),
             number: 0,
+            is_listed: false,
         }
     }
 
@@ -108,10 +115,10 @@ impl Staging {
         name: &str,
         is_alone: bool,
     ) -> io::Result<R::File> {
-        let NewFile { path, file } = self.create_beside(rt, name, 0o666, is_alone)?;
-        let answer = self.note_file(name, path.as_str(), name);
-        removed_at_error(rt, path.as_str(), answer)?;
-        Ok(file)
+        let new = self.create_beside(rt, name, 0o666, is_alone)?;
+        let answer = self.note_file(name, &new, name);
+        removed_at_error(rt, new.path.as_str(), answer)?;
+        Ok(new.file)
     }
 
     /// Stages a name that has a file.
@@ -143,7 +150,7 @@ impl Staging {
             fs::copy(rt, found.path.as_str(), new.path.as_str())?;
         }
         take_after(rt, new.path.as_str(), &new.file, found)?;
-        self.note_file(name, new.path.as_str(), found.path.as_str())
+        self.note_file(name, new, found.path.as_str())
     }
 
     /// Makes an empty file beside a path, under a name that nothing has.
@@ -155,9 +162,17 @@ impl Staging {
         is_alone: bool,
     ) -> io::Result<NewFile<R::File>> {
         for _ in 0..u64::MAX {
-            let beside = self.next_beside(path)?;
+            let number = self.number;
+            self.number = number.saturating_add(1);
+            let beside = staged_beside(self.alloc, path, number)?;
             match create_new(rt, beside.as_str(), mode, is_alone) {
-                Ok(file) => return Ok(NewFile { path: beside, file }),
+                Ok(file) => {
+                    return Ok(NewFile {
+                        number,
+                        path: beside,
+                        file,
+                    });
+                }
                 Err(error) if error.kind() == ErrorKind::AlreadyExists => {}
                 Err(error) => return Err(error),
             }
@@ -165,22 +180,15 @@ impl Staging {
         Err(io::Error::from(ErrorKind::AlreadyExists))
     }
 
-    /// The next name of a file's own, beside a path.
-    fn next_beside(&mut self, path: &str) -> io::Result<String> {
-        let name = format!(in self.alloc; ".pgtools-{}", self.number)?;
-        self.number = self.number.saturating_add(1);
-        let beside = Path::new(path).with_file_name(self.alloc, name.as_str())?;
-        Ok(beside.into_string())
-    }
-
     /// Notes a file that was made, and the path of its name.
-    fn note_file(&mut self, name: &str, path: &str, target: &str) -> io::Result<()> {
+    fn note_file<F>(&mut self, name: &str, new: &NewFile<F>, target: &str) -> io::Result<()> {
         self.files.push(StagedFile {
-            path: String::from_str(self.alloc, path)?,
+            number: new.number,
+            path: new.path.clone()?,
             target: String::from_str(self.alloc, target)?,
             is_in_place: false,
         })?;
-        self.note_path(name, path)
+        self.note_path(name, new.path.as_str())
     }
 
     /// Notes the path of a name.
@@ -231,11 +239,64 @@ impl Staging {
 
     /// Puts all files in place: each is flushed to its device, then they are renamed in the order of writing, then
     /// their folders are flushed. Where a step fails, the later ones aren't done.
-    pub(crate) fn put_in_place(&mut self, rt: &impl rt::Files) -> Result<(), FileFault> {
+    ///
+    /// In a folder that nobody else uses, the renames are listed before the first one and until the last one is flushed.
+    pub(crate) fn put_in_place(
+        &mut self,
+        rt: &impl rt::Files,
+        alone: Option<&str>,
+    ) -> Result<(), FileFault> {
         self.flush_files(rt)?;
+        self.list(rt, alone)?;
         self.rename_files(rt)?;
         self.flush_their_folders(rt)?;
-        self.flush_new_folders(rt)
+        self.flush_new_folders(rt)?;
+        self.unlist(rt, alone)
+    }
+
+    /// Lists the renames in a folder, where there are several.
+    fn list(&mut self, rt: &impl rt::Files, alone: Option<&str>) -> Result<(), FileFault> {
+        match alone {
+            Some(folder) if self.files.len() > 1 => {
+                let answer = self.write_lines(rt, folder);
+                named(self.alloc, folder, answer)
+            }
+            _ => Ok(()),
+        }
+    }
+
+    fn write_lines(&mut self, rt: &impl rt::Files, folder: &str) -> io::Result<()> {
+        let lines = self.lines(folder)?;
+        if lines.is_empty() {
+            return Ok(());
+        }
+        self.is_listed = true;
+        write_list(self.alloc, rt, folder, lines.as_str())
+    }
+
+    /// The lines of the renames below a folder.
+    fn lines(&self, folder: &str) -> io::Result<String> {
+        let mut lines = String::new(self.alloc);
+        for file in &self.files {
+            if let Some(name) = path_below(file.target.as_str(), folder)
+                && is_listable(name)
+            {
+                writeln!(lines, "{} {name}", file.number)?;
+            }
+        }
+        Ok(lines)
+    }
+
+    /// Removes the list.
+    fn unlist(&mut self, rt: &impl rt::Files, alone: Option<&str>) -> Result<(), FileFault> {
+        match alone {
+            Some(folder) if self.is_listed => {
+                named(self.alloc, folder, remove_list(self.alloc, rt, folder))?;
+                self.is_listed = false;
+                Ok(())
+            }
+            _ => Ok(()),
+        }
     }
 
     fn flush_files(&self, rt: &impl rt::Files) -> Result<(), FileFault> {
@@ -277,26 +338,40 @@ impl Staging {
         Ok(())
     }
 
-    /// Removes the files that aren't in place, and the folders that were made and are empty, and forgets all.
-    pub(crate) fn clear(&mut self, rt: &impl rt::Files) {
+    /// Forgets all. The files that aren't in place are removed, and the folders that were made and are empty; but where
+    /// a first file is in place and the renames are listed, the rest is left to the next run.
+    pub(crate) fn clear(&mut self, rt: &impl rt::Files, alone: Option<&str>) {
+        if !self.is_listed || !self.has_begun() {
+            let _ = self.unlist(rt, alone);
+            self.remove_files(rt);
+            self.remove_folders(rt);
+        }
+        *self = Staging::new(self.alloc);
+    }
+
+    /// Whether a file is in place.
+    fn has_begun(&self) -> bool {
+        for file in &self.files {
+            if file.is_in_place {
+                return true;
+            }
+        }
+        false
+    }
+
+    fn remove_files(&self, rt: &impl rt::Files) {
         for file in &self.files {
             if !file.is_in_place {
                 let _ = fs::remove_file(rt, file.path.as_str());
             }
         }
+    }
+
+    fn remove_folders(&self, rt: &impl rt::Files) {
         for folder in self.folders.iter().rev() {
             let _ = fs::remove_dir(rt, folder.as_str());
         }
-        *self = Staging::new(self.alloc);
     }
-}
-
-/// The answer of a step on a new file, which is removed where that failed.
-fn removed_at_error(rt: &impl rt::Files, path: &str, answer: io::Result<()>) -> io::Result<()> {
-    if answer.is_err() {
-        let _ = fs::remove_file(rt, path);
-    }
-    answer
 }
 
 /// Makes an empty file under a name that nothing has. Where nobody else makes such files, one that has it is removed.
@@ -315,17 +390,4 @@ fn create_new<R: rt::Files>(rt: &R, path: &str, mode: u32, is_alone: bool) -> io
 /// Waits until a file has reached its device.
 fn flush(rt: &impl rt::Files, path: &str) -> io::Result<()> {
     fs::open(rt, path)?.sync_all()
-}
-
-/// Waits until a folder's names have reached their device. A folder that can't be opened or flushed at all, as on some
-/// file systems, is left.
-fn flush_folder(rt: &impl rt::Files, folder: &str) -> io::Result<()> {
-    match fs::open(rt, folder) {
-        Ok(open) => match open.sync_all() {
-            Err(error) if error.kind() == ErrorKind::InvalidInput => Ok(()),
-            answer => answer,
-        },
-        Err(error) if error.kind() == ErrorKind::PermissionDenied => Ok(()),
-        Err(error) => Err(error),
-    }
 }

@@ -2,7 +2,7 @@
 use super::cut::{Calls, Cut, CutFiles};
 use super::reads;
 use dump_ports::{Failed, Files};
-use os_ports::{Hold, OsFiles};
+use os_ports::{Hold, Holdable, OsFiles};
 use std::alloc::Global;
 use std::fs::{File, Permissions};
 use std::os::unix::fs::{MetadataExt, PermissionsExt, symlink};
@@ -50,8 +50,12 @@ fn write_files<R: rt::Files>(files: &mut OsFiles<R>) -> Result<(), Failed> {
     files.patch(WRITTEN[3].0, 0, b"new")
 }
 
-/// A run over the files of a system, and its end.
-fn run<R: rt::Files>(files: &mut OsFiles<R>) -> Result<(), Failed> {
+/// A run over the files of a system, from holding its folder to its end.
+fn run<R: rt::Files>(files: &mut OsFiles<R>) -> Result<(), Failed>
+where
+    R::File: Holdable,
+{
+    files.hold("os_ports_cut", Hold::Alone)?;
     let answer = write_files(files);
     if answer.is_err() {
         files.discard();
@@ -107,7 +111,7 @@ fn is_cut(rt: &HostRuntime, left: u64, cut: Cut) -> Result<bool, Fail> {
         left,
         cut,
     )?;
-    if cut == Cut::One {
+    if cut == Cut::One && (written == 0 || written == WRITTEN.len()) {
         ensure(!has_staged(rt)?, "not removed", left, cut)?;
         ensure(
             written > 0 || !fs::exists(rt, "os_ports_cut/a")?,
@@ -119,12 +123,16 @@ fn is_cut(rt: &HostRuntime, left: u64, cut: Cut) -> Result<bool, Fail> {
     Ok(calls.has_failed())
 }
 
-/// A run in the same folder of which no call fails.
+/// A run in the same folder of which no call fails. As soon as it holds the folder that is the old or the new one.
 fn repair(rt: &HostRuntime, left: u64, cut: Cut) -> Result<(), Fail> {
     let mut files = OsFiles::new(rt.alloc(), rt);
     files.hold("os_ports_cut", Hold::Alone)?;
+    let written = first_ones(rt);
+    let is_whole = written == Some(0) || written == Some(WRITTEN.len());
+    ensure(is_whole, "neither the old nor the new one", left, cut)?;
     run(&mut files)?;
-    ensure(!has_staged(rt)?, "still there", left, cut)?;
+    let is_listed = fs::exists(rt, "os_ports_cut/.pgtools-list")?;
+    ensure(!is_listed && !has_staged(rt)?, "still there", left, cut)?;
     for (number, (name, _, new)) in WRITTEN.into_iter().enumerate() {
         let twice = number == 2 && holds(rt, name, Some(b"old three three"));
         ensure(
