@@ -5,3 +5,4 @@ pub mod Formed
 pub mod Whole
 pub mod Written
 pub mod ToolTrips
+pub mod Unified

@@ -8,7 +8,7 @@ ghost use Rattle.dump_schemas.specs.declared.rows.DatabaseRow.{DatabaseRow};
 ghost use Rattle.dump_schemas.specs.Scripts.{script_of as dumped_script};
 ghost use Rattle.dump_laws.specs.Examples.{script_of_two};
 ghost use Rattle.schema_folders.specs.declared.schemas.SchemaRow.{SchemaRow};
-ghost use Rattle.dump_tools.specs.Due.{Application, Applies, dump_row, psql_due};
+ghost use Rattle.dump_tools.specs.Due.{Application, Applies, dump_row, export_named, psql_due};
 ghost use Rattle.dump_tools.specs.Outputs.{World, all_performed};
 ghost use Rattle.dump_tools.specs.Runs.{Run, IsApplied, MayCome};
 ghost use Rattle.tool_words.specs.declared.outcome.Outcome.TheVariants.{Done};
@@ -19,7 +19,8 @@ ghost use Rattle.cat_check.specs.Catalogues.{catalogue_fault};
 ghost use Rattle.exports.specs.Exports.{export_of};
 ghost use Rattle.folder_io.specs.Folders.{table_limit};
 ghost use Rattle.schema_folders.specs.Folder.{opening_of, cells_of_row, schemas_alone, folder_saved};
-ghost use Rattle.schema_folders.specs.Naming.{boot};
+ghost use Rattle.schema_folders.specs.Naming.{boot, named};
+ghost use Rattle.schema_folders.specs.Run.{catalogue_after};
 ghost use Rattle.tool_laws.specs.Opening.{AreSchemas, WereRead};
 ghost use Rattle.tool_laws.specs.RoundTrip.{CanBeMade, Remakes, GoesBack, MakesSame, Restores, fresh_rows, public_and_a};
 
@@ -58,12 +59,21 @@ pub fn catalogues_of_schemas_are_well_formed()
     well_formed_tables_are_all();
 }
 
-/// What psql leaves of a folder is well-formed, whatever oids were drawn; and it is read as an export, by every tool,
-/// where the file of pg_namespace is within the limit of a table's file.
+/// What pg_catcmp takes a folder of schemas to stand for, by all its tables, is what psql and pg_dump take its schemas to
+/// stand for.
+pub fn folders_of_schemas_have_one_meaning()
+    ensures { (rows : List SchemaRow) → export_named (record { cat = schemas_alone rows; rows = empty }) ≡ named rows }
+{}
+
+/// What psql leaves of a folder is well-formed, whatever oids were drawn, and stands for what the statements make of the
+/// catalogue by names; and it is read as an export, by every tool, where the file of pg_namespace is within the limit of
+/// a table's file.
 pub fn psql_leaves_an_export()
     ensures formed { (folder script : Bytes) (tree : Tree) (plan : Application) (run : Run) (applied : IsApplied plan run)
         → psql_due folder script tree ≡ Ok (Applies plan)
         → catalogue_fault (schemas_alone applied.comes.rows) ≡ None }
+    ensures named { (plan : Application) (run : Run) (applied : IsApplied plan run)
+        → export_named (record { cat = schemas_alone applied.comes.rows; rows = empty }) ≡ catalogue_after boot plan.statements (named plan.rows) }
     ensures read { (folder script : Bytes) (tree : Tree) (plan : Application) (run : Run) (applied : IsApplied plan run) (after : Tree)
         → psql_due folder script tree ≡ Ok (Applies plan)
         → length applied.text ≤ table_limit
@@ -71,6 +81,7 @@ pub fn psql_leaves_an_export()
 {
     openings_are_schemas();
     catalogues_of_schemas_are_well_formed();
+    folders_of_schemas_have_one_meaning();
     exports_are_whole();
 }
 

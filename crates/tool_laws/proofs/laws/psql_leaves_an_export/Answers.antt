@@ -1,3 +1,4 @@
+use Rattle.std.proofs.Common.{◌∙◌}
 use Rattle.tool_laws.proofs.Whole.{is_export}
 use Rattle.tool_laws.proofs.Written.{comes_schemas, comes_read, plan_read}
 use Rattle.tool_laws.proofs.laws.psql_leaves_an_export.Goals as goal
@@ -7,6 +8,10 @@ pub returns-clause-formed : goal.returns-clause-formed
 returns-clause-formed c = λ folder script tree plan run applied e.
     c.catalogues_of_schemas_are_well_formed.ensures applied.comes.rows
     (comes_schemas plan applied.text applied.comes (plan_read c.openings_are_schemas.ensures folder script tree plan e).schemas)
+
+-- by names it is what the statements make
+pub returns-clause-named : goal.returns-clause-named
+returns-clause-named c = λ plan run applied. c.folders_of_schemas_have_one_meaning.ensures applied.comes.rows ∙ applied.comes.same
 
 -- the folder is an export of it
 pub returns-clause-read : goal.returns-clause-read
