@@ -6,3 +6,5 @@ pub mod Whole
 pub mod Written
 pub mod ToolTrips
 pub mod Unified
+pub mod Bare
+pub mod Again

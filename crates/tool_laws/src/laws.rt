@@ -1,5 +1,5 @@
 //! Laws of the definitions, each the contract of a function that does nothing.
-ghost use Rattle.std.specs.Prelude.{◌≡◌, ◌≤◌, List, map, length, Some, None, Ok, codes};
+ghost use Rattle.std.specs.Prelude.{◌≡◌, ◌≤◌, List, map, length, [], Some, None, Ok, codes};
 ghost use Rattle.std.specs.FinMap.{empty};
 ghost use Rattle.dump_ports.specs.Tree.{Tree};
 ghost use Rattle.dump_ports.specs.declared.moment.Moment.{Moment};
@@ -8,9 +8,9 @@ ghost use Rattle.dump_schemas.specs.declared.rows.DatabaseRow.{DatabaseRow};
 ghost use Rattle.dump_schemas.specs.Scripts.{script_of as dumped_script};
 ghost use Rattle.dump_laws.specs.Examples.{script_of_two};
 ghost use Rattle.schema_folders.specs.declared.schemas.SchemaRow.{SchemaRow};
-ghost use Rattle.dump_tools.specs.Due.{Application, Applies, dump_row, export_named, psql_due};
+ghost use Rattle.dump_tools.specs.Due.{Application, Applies, dump_row, export_named, psql_due, compare_due};
 ghost use Rattle.dump_tools.specs.Outputs.{World, all_performed};
-ghost use Rattle.dump_tools.specs.Runs.{Run, IsApplied, MayCome};
+ghost use Rattle.dump_tools.specs.Runs.{Run, run_of, IsApplied, MayCome};
 ghost use Rattle.tool_words.specs.declared.outcome.Outcome.TheVariants.{Done};
 ghost use Rattle.tool_words.specs.declared.words.Teller.{Teller};
 ghost use Rattle.cat_rows.specs.declared.table.SysTable.TheVariants.{PgNamespace};
@@ -66,8 +66,8 @@ pub fn folders_of_schemas_have_one_meaning()
 {}
 
 /// What psql leaves of a folder is well-formed, whatever oids were drawn, and stands for what the statements make of the
-/// catalogue by names; and it is read as an export, by every tool, where the file of pg_namespace is within the limit of
-/// a table's file.
+/// catalogue by names; and it is read as an export, by every tool, and as an opening by psql and pg_dump, where the file
+/// of pg_namespace is within the limit of a table's file.
 pub fn psql_leaves_an_export()
     ensures formed { (folder script : Bytes) (tree : Tree) (plan : Application) (run : Run) (applied : IsApplied plan run)
         → psql_due folder script tree ≡ Ok (Applies plan)
@@ -78,12 +78,23 @@ pub fn psql_leaves_an_export()
         → psql_due folder script tree ≡ Ok (Applies plan)
         → length applied.text ≤ table_limit
         → export_of plan.folder (folder_saved plan.folder applied.text after) ≡ Ok (record { cat = schemas_alone applied.comes.rows; rows = empty }) }
+    ensures opened { (folder script : Bytes) (tree : Tree) (plan : Application) (run : Run) (applied : IsApplied plan run) (after : Tree)
+        → psql_due folder script tree ≡ Ok (Applies plan)
+        → length applied.text ≤ table_limit
+        → opening_of plan.folder (folder_saved plan.folder applied.text after) ≡ Ok applied.comes.rows }
 {
     openings_are_schemas();
     catalogues_of_schemas_are_well_formed();
     folders_of_schemas_have_one_meaning();
     exports_are_whole();
 }
+
+/// Two folders whose schemas are the same by names are the same to pg_catcmp: each run that may come is done and puts out
+/// nothing.
+pub fn pg_catcmp_finds_the_same_schemas_the_same()
+    ensures { (source target : Bytes) (tree : Tree) (rows others : List SchemaRow) → opening_of source tree ≡ Ok rows → opening_of target tree ≡ Ok others → named others ≡ named rows
+        → (teller : Teller) (run : Run) → MayCome teller (compare_due source target tree) run → run ≡ run_of [] Done }
+{}
 
 /// What pg_dump prints of a folder, psql applies to a folder whose one schema is public: nothing is refused, and each run
 /// that may come of it is done and leaves the folder standing for the same catalogue by names, with nothing told.
