@@ -163,7 +163,7 @@ fn with_changes(
 }
 
 /// The answer to a line of whole archives.
-pub fn answer(alloc: Global, line: &str, out: &mut Vec<u8>) -> Result<(), AllocError> {
+pub(crate) fn answer(alloc: Global, line: &str, out: &mut Vec<u8>) -> Result<(), AllocError> {
     let (archive, changes) = match line.split_once(BETWEEN) {
         Some((archive, changes)) => (archive, Some(changes)),
         None => (line, None),

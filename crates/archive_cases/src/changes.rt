@@ -34,7 +34,11 @@ fn with_more(alloc: Global, bytes: &[u8], digits: &str) -> Result<Option<Vec<u8>
 }
 
 /// The bytes with a change; `None` where it is none.
-pub fn changed(alloc: Global, bytes: &[u8], change: &str) -> Result<Option<Vec<u8>>, AllocError> {
+pub(crate) fn changed(
+    alloc: Global,
+    bytes: &[u8],
+    change: &str,
+) -> Result<Option<Vec<u8>>, AllocError> {
     match change.split_once(' ') {
         Some(("cut", count)) => cut(alloc, bytes, count),
         Some(("byte", said)) => with_byte(alloc, bytes, said),

@@ -62,7 +62,7 @@ fn read(alloc: Global, word: &str, bytes: &[u8], out: &mut Vec<u8>) -> Result<()
 }
 
 /// The answer to a line of parts.
-pub fn answer(alloc: Global, line: &str, out: &mut Vec<u8>) -> Result<(), AllocError> {
+pub(crate) fn answer(alloc: Global, line: &str, out: &mut Vec<u8>) -> Result<(), AllocError> {
     let Some((word, rest)) = line.split_once(' ') else {
         return out.extend_from_slice(b"?");
     };

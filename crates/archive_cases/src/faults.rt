@@ -4,7 +4,7 @@ use std::alloc::{AllocError, Global};
 use toc_layout::{EntryFault, HeadFault, ReadArchiveError, ReadEntryError, ReadHeadError};
 
 /// Appends why an archive can't be read.
-pub fn put_archive_error(
+pub(crate) fn put_archive_error(
     alloc: Global,
     error: ReadArchiveError,
     out: &mut Vec<u8>,
@@ -18,7 +18,7 @@ pub fn put_archive_error(
 }
 
 /// Appends why a directory can't be read.
-pub fn put_directory_fault(
+pub(crate) fn put_directory_fault(
     alloc: Global,
     fault: DirFault,
     out: &mut Vec<u8>,
@@ -39,7 +39,7 @@ fn put_head_fault(alloc: Global, fault: HeadFault, out: &mut Vec<u8>) -> Result<
 }
 
 /// Appends what is wrong with an entry.
-pub fn put_entry_fault(
+pub(crate) fn put_entry_fault(
     alloc: Global,
     fault: EntryFault,
     out: &mut Vec<u8>,
@@ -48,7 +48,7 @@ pub fn put_entry_fault(
 }
 
 /// Appends why a head can't be read.
-pub fn put_head_error(
+pub(crate) fn put_head_error(
     alloc: Global,
     error: ReadHeadError,
     out: &mut Vec<u8>,
@@ -60,7 +60,7 @@ pub fn put_head_error(
 }
 
 /// Appends why an entry can't be read.
-pub fn put_entry_error(
+pub(crate) fn put_entry_error(
     alloc: Global,
     error: ReadEntryError,
     out: &mut Vec<u8>,

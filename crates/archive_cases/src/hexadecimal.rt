@@ -3,7 +3,7 @@ use hex::{FromHexError, decode, encode};
 use std::alloc::{AllocError, Global};
 
 /// The bytes of a text in hexadecimal; `None` where it is none.
-pub fn bytes_of(alloc: Global, digits: &str) -> Result<Option<Vec<u8>>, AllocError> {
+pub(crate) fn bytes_of(alloc: Global, digits: &str) -> Result<Option<Vec<u8>>, AllocError> {
     match decode(alloc, digits) {
         Ok(bytes) => Ok(Some(bytes)),
         Err(FromHexError::OutOfMemory) => Err(AllocError),
@@ -12,6 +12,6 @@ pub fn bytes_of(alloc: Global, digits: &str) -> Result<Option<Vec<u8>>, AllocErr
 }
 
 /// Appends bytes in hexadecimal.
-pub fn put_bytes(alloc: Global, bytes: &[u8], out: &mut Vec<u8>) -> Result<(), AllocError> {
+pub(crate) fn put_bytes(alloc: Global, bytes: &[u8], out: &mut Vec<u8>) -> Result<(), AllocError> {
     out.extend_from_slice(encode(alloc, bytes)?.as_bytes())
 }

@@ -4,7 +4,7 @@ use std::alloc::{AllocError, Global};
 use toc_entry::{Entry, Extra, Head};
 
 /// Appends a text in quotes, or `null`.
-pub fn put_text(text: &Option<Text>, out: &mut Vec<u8>) -> Result<(), AllocError> {
+pub(crate) fn put_text(text: &Option<Text>, out: &mut Vec<u8>) -> Result<(), AllocError> {
     match text {
         Some(text) => {
             out.push(b'\'')?;
@@ -39,7 +39,7 @@ fn put_names(alloc: Global, head: &Head, out: &mut Vec<u8>) -> Result<(), AllocE
 }
 
 /// Appends a head.
-pub fn put_head(alloc: Global, head: &Head, out: &mut Vec<u8>) -> Result<(), AllocError> {
+pub(crate) fn put_head(alloc: Global, head: &Head, out: &mut Vec<u8>) -> Result<(), AllocError> {
     let (revision, format) = (head.revision, head.format);
     let shown = format!(in alloc; "head revision {revision} format {format} ")?;
     out.extend_from_slice(shown.as_bytes())?;
@@ -93,7 +93,7 @@ fn put_extra(alloc: Global, extra: &Extra, out: &mut Vec<u8>) -> Result<(), Allo
 }
 
 /// Appends an entry.
-pub fn put_entry(alloc: Global, entry: &Entry, out: &mut Vec<u8>) -> Result<(), AllocError> {
+pub(crate) fn put_entry(alloc: Global, entry: &Entry, out: &mut Vec<u8>) -> Result<(), AllocError> {
     put_identity(alloc, entry, out)?;
     put_labels(alloc, entry, out)?;
     put_statements(entry, out)?;

@@ -27,7 +27,7 @@ impl From<AllocError> for ArgumentFault {
 }
 
 /// The words behind the program's name.
-pub fn read_arguments<R: Env>(alloc: Global, env: &R) -> Result<Vec<Text>, ArgumentFault> {
+pub(crate) fn read_arguments<R: Env>(alloc: Global, env: &R) -> Result<Vec<Text>, ArgumentFault> {
     let mut words = Vec::new(alloc);
     for word in 0..usize::MAX {
         let Some(bytes) = read_argument(alloc, env, word + 1)? else {
