@@ -1,0 +1,4 @@
+pub mod AllTokens
+pub mod Wholes
+pub mod PartLaws
+pub mod Distincts
