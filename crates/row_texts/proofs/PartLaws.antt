@@ -1,5 +1,5 @@
 -- The texts of indexes, of sequences' types and of views have the laws of a part.
-use Rattle.std.proofs.Common.{true, false, refl, codes, [], ◌∷◌}
+use Rattle.std.proofs.Common.{Bool, true, false, refl, codes, [], ◌∷◌}
 use Rattle.cat_model.specs.declared.object.QName.{QName}
 use Rattle.cat_model.specs.declared.constraint.SequenceKind.TheVariants.{SmallInt, Integer, BigInt}
 use Rattle.cat_model.specs.Values.{Bytes}
@@ -15,7 +15,7 @@ use Rattle.ddl_parts.proofs.Choice.{choose_apart}
 use Rattle.ddl_parts.proofs.Leads.{name_laws, qualified_laws, word_laws, ended_laws, words_apart}
 use Rattle.ddl_parts.proofs.RunLaws.{expression_laws, expression_ends}
 use Rattle.ddl_parts.proofs.Tables.{one_of_laws}
-use Rattle.row_texts.specs.IndexTexts.{Named, named_index, index_of, with_unique, without_unique, index_text}
+use Rattle.row_texts.specs.IndexTexts.{Named, named_index, index_of, index_part, index_text}
 use Rattle.row_texts.specs.SequenceTypes.{type_word, sequence_type}
 use Rattle.row_texts.specs.ViewTexts.{view_text}
 
@@ -55,14 +55,17 @@ named_index_begins : Begins (is_word (codes "index")) named_index
 unfolding named_index
 named_index_begins = lead_begins (is_word (codes "index")) name_end
 
+index_part_laws : (unique : Bool) → Lawful (index_part unique)
+index_part_laws unique = seen_laws (index_of unique) named_index named_index_laws
+
 pub index_text_laws : Lawful index_text
 unfolding index_text
 index_text_laws =
-    let unique = is_word (codes "unique") ▸ named_index in
-    word_laws (codes "create") (choose (is_word (codes "unique")) with_unique without_unique)
-    (choose_apart (is_word (codes "unique")) (is_word (codes "index")) with_unique without_unique
-    (seen_laws (index_of true) unique (word_laws (codes "unique") named_index named_index_laws))
-    (seen_laws (index_of false) named_index named_index_laws)
-    (seen_begins (is_word (codes "unique")) (index_of true) unique (lead_begins (is_word (codes "unique")) named_index))
+    let behind_unique = is_word (codes "unique") ▸ index_part true in
+    word_laws (codes "create") (choose (is_word (codes "unique")) behind_unique (index_part false))
+    (choose_apart (is_word (codes "unique")) (is_word (codes "index")) behind_unique (index_part false)
+    (word_laws (codes "unique") (index_part true) (index_part_laws true))
+    (index_part_laws false)
+    (lead_begins (is_word (codes "unique")) (index_part true))
     (seen_begins (is_word (codes "index")) (index_of false) named_index named_index_begins)
     (words_apart (codes "index") (codes "unique") refl))

@@ -1,5 +1,5 @@
--- What the text of a default says, of a column or of a domain: an expression that NOT NULL doesn't follow.
--- It is kept from its first token to its last.
+-- What the text of a default says, of a column or of a domain: one expression, kept from its first token to its last.
+-- Outside brackets it has no comma, no DEFAULT, no CONSTRAINT and no NOT NULL.
 use Rattle.std.specs.Prelude.{Bool, Option, is_some}
 use Rattle.cat_model.specs.Values.{Bytes}
 use Rattle.ddl_parts.specs.Expressions.{default_text}

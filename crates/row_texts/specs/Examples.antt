@@ -21,6 +21,8 @@ pub record Types : Type 0 where
   pub words : type_named (codes " character varying(20) -- b") ≡ Some (Words (codes "character varying(20)"))
   pub array : type_named (codes "/* a */ integer [ ]\n") ≡ Some (Words (codes "integer [ ]"))
   pub as_a_path : type_named (codes "\"public\".E") ≡ Some (Path (path (codes "e")))
+  pub of_the_system : type_named (codes "pg_catalog.int4") ≡ Some (Path (record { schema = codes "pg_catalog"; name = codes "int4" }))
+  pub quoted : type_named (codes "\"integer\"") ≡ None
   pub open_bracket : type_named (codes "numeric(10") ≡ None
   pub not_null : type_named (codes "integer NOT NULL") ≡ None
   pub semicolon : type_named (codes "integer;") ≡ None
@@ -36,6 +38,8 @@ pub record Defaults : Type 0 where
   pub inner_comment : default_said (codes "1 /* a; */ + 2") ≡ Some (codes "1 /* a; */ + 2")
   pub not_null : default_said (codes "1 NOT NULL") ≡ None
   pub is_none : is_default (codes "1 NOT NULL") ≡ false
+  pub is_not_null : default_said (codes "a IS NOT NULL") ≡ None
+  pub null_in_brackets : default_said (codes "(a IS NOT NULL)") ≡ Some (codes "(a IS NOT NULL)")
   pub two : default_said (codes "1, 2") ≡ None
   pub in_brackets : default_said (codes "(1, 2)") ≡ Some (codes "(1, 2)")
   pub open_bracket : default_said (codes "(1") ≡ None

@@ -22,15 +22,13 @@ named_index = is_word (codes "index") ▸ (name then (is_word (codes "on") ▸ (
 abbrev pub index_of : Bool → Named → IndexText
 index_of unique x = record { unique = unique; name = x.0; table = x.1.0; method = x.1.1.0; rest = x.1.1.1 }
 
-abbrev pub with_unique : Part IndexText
-with_unique = seen (index_of true) (is_word (codes "unique") ▸ named_index)
-
-abbrev pub without_unique : Part IndexText
-without_unique = seen (index_of false) named_index
+-- the same as an index, which is unique or not
+abbrev pub index_part : Bool → Part IndexText
+index_part unique = seen (index_of unique) named_index
 
 -- CREATE UNIQUE INDEX .., or CREATE INDEX ..
 unfoldable pub index_text : Part IndexText
-index_text = is_word (codes "create") ▸ choose (is_word (codes "unique")) with_unique without_unique
+index_text = is_word (codes "create") ▸ choose (is_word (codes "unique")) (is_word (codes "unique") ▸ index_part true) (index_part false)
 
 -- the text begins with an opening bracket
 abbrev pub is_bracketed : Bytes → Bool

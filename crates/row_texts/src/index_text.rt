@@ -2,7 +2,7 @@
 ghost use Rattle.std.specs.Prelude.{◌≡◌, drop, IfOk};
 ghost use Rattle.ddl_parts.specs.Pieces.{GivesPart};
 ghost use Rattle.row_texts.specs.Texts.{whole};
-ghost use Rattle.row_texts.specs.IndexTexts.{named_index, index_text, is_bracketed, if_bracketed, index_said};
+ghost use Rattle.row_texts.specs.IndexTexts.{index_part, index_text, is_bracketed, if_bracketed, index_said};
 
 use crate::tokens::{all_read, all_tokens};
 use cat_model::QName;
@@ -27,12 +27,13 @@ pub struct IndexText {
 
 // An index's name, its table, its method and what follows them.
 #[tactic(auto, unfolding(crate::specs::IndexTexts::named_index))]
-fn named_index(
+fn index_part(
     alloc: Global,
     pieces: &Pieces<'_>,
     at: usize,
-) -> Result<((Name, QName, Name, Text), usize), ReadError>
-    ensures { GivesPart pieces.now (λ x. (x.0, (x.1, (x.2, x.3)))) result (named_index.read (drop at pieces.now)) }
+    unique: bool,
+) -> Result<(IndexText, usize), ReadError>
+    ensures { GivesPart pieces.now (λ x. x) result ((index_part unique).read (drop at pieces.now)) }
 {
     let at = pieces.word(at, "index")?;
     let (name, at) = pieces.name(alloc, at)?;
@@ -41,7 +42,14 @@ fn named_index(
     let at = pieces.word(at, "using")?;
     let (method, at) = pieces.name(alloc, at)?;
     let (rest, at) = pieces.expression(alloc, at)?;
-    Ok(((name, table, method, rest), at))
+    let said = IndexText {
+        unique,
+        name,
+        table,
+        method,
+        rest,
+    };
+    Ok((said, at))
 }
 
 // CREATE INDEX, or CREATE UNIQUE INDEX.
@@ -56,29 +64,9 @@ fn index_text(
     let at = pieces.word(at, "create")?;
     if pieces.is_word(at, "unique") {
         let at = pieces.word(at, "unique")?;
-        let ((name, table, method, rest), at) = named_index(alloc, pieces, at)?;
-        return Ok((
-            IndexText {
-                unique: true,
-                name,
-                table,
-                method,
-                rest,
-            },
-            at,
-        ));
+        return index_part(alloc, pieces, at, true);
     }
-    let ((name, table, method, rest), at) = named_index(alloc, pieces, at)?;
-    Ok((
-        IndexText {
-            unique: false,
-            name,
-            table,
-            method,
-            rest,
-        },
-        at,
-    ))
+    index_part(alloc, pieces, at, false)
 }
 
 // Whether a text begins with an opening bracket.

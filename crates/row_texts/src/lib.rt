@@ -14,5 +14,6 @@ pub use default_text::{default_said, is_default};
 pub use distinct::are_distinct;
 pub use index_text::{IndexText, index_said};
 pub use sequence_type::sequence_kind;
+pub use tokens::{all_read, all_tokens};
 pub use type_text::type_named;
 pub use view_text::view_body;

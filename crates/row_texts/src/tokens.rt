@@ -1,5 +1,6 @@
 //! All tokens of a text, and what was read of them as a whole.
-ghost use Rattle.std.specs.Prelude.{◌≡◌, ◌≤◌, length, IfOk};
+ghost use Rattle.std.specs.Prelude.{◌≡◌, ◌≤◌, length, Err, IfOk, OnErr};
+ghost use Rattle.ddl_parts.specs.declared.fault.ReadError.TheVariants as errors;
 ghost use Rattle.ddl_parts.specs.Parts.{Reading};
 ghost use Rattle.ddl_parts.specs.Pieces.{GivesPart};
 ghost use Rattle.row_texts.specs.Tokens.{is_end, all_tokens};
@@ -18,10 +19,7 @@ fn is_end(text: &[u8], at: usize) -> bool
 }
 
 /// All tokens of a text; `None` where it has a fault, or a token behind its first semicolon.
-pub(crate) fn all_tokens<'a>(
-    alloc: Global,
-    text: &'a [u8],
-) -> Result<Option<Pieces<'a>>, AllocError>
+pub fn all_tokens<'a>(alloc: Global, text: &'a [u8]) -> Result<Option<Pieces<'a>>, AllocError>
     ensures { IfOk result (λ pieces. pieces ≡ all_tokens text.now) }
 {
     let Run { pieces, end, .. } = collect(alloc, text, 0)?;
@@ -31,12 +29,13 @@ pub(crate) fn all_tokens<'a>(
     Ok(Some(Pieces::new(text, pieces)))
 }
 
-/// What was read of tokens from the first on, where none is left behind it.
-pub(crate) fn all_read<T: Drop>(
+/// What was read of these tokens from the first on; `None` where nothing was, or where a token is left behind it.
+pub fn all_read<T: Drop>(
     pieces: &Pieces<'_>,
     reading: Result<(T, usize), ReadError>,
 ) -> Result<Option<T>, AllocError>
-    ensures { (due : Reading T) → GivesPart pieces.now (λ v. v) reading due → IfOk result (λ value. value ≡ all_read due) }
+    ensures exact { (due : Reading T) → GivesPart pieces.now (λ v. v) reading due → IfOk result (λ value. value ≡ all_read due) }
+    ensures memory { OnErr result (reading ≡ Err errors.Memory) }
 {
     match reading {
         Ok((value, end)) => Ok((end >= pieces.len()).then_some(value)),

@@ -3,8 +3,8 @@ use Rattle.std.specs.Bool.{then_some}
 use Rattle.row_texts.proofs.Wholes.{all_read_at}
 use Rattle.row_texts.proofs.tokens.all_read.Goals as goal
 
-pub returns-in-Ok : goal.returns-in-Ok
-returns-in-Ok g c = λ due gives.
+pub returns-in-Ok-clause-exact : goal.returns-in-Ok-clause-exact
+returns-in-Ok-clause-exact g c = λ due gives.
     c.then_some.ensures
     ∙ ap (λ n. then_some (leb n c.in-Ok.end) c.in-Ok.value) c.len.ensures
     ∙ sym (all_read_at c.args.pieces.now c.args.reading due c.in-Ok.value c.in-Ok.end gives c.in-Ok.is)
