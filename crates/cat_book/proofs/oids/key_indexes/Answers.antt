@@ -1,0 +1,13 @@
+use Rattle.std.proofs.Common.{map, ap, sym, ◌∙◌, Bor}
+use Rattle.std.proofs.lemmas.Simd.{map-map}
+use Rattle.std.specs.List.{filter}
+use Rattle.cat_rows.specs.declared.constraints.ConstraintRow.{ConstraintRow}
+use Rattle.cat_book.specs.Leads.{is_key}
+use Rattle.cat_book.proofs.oids.key_indexes.Goals as goal
+
+pub returns : goal.returns
+returns c =
+    c.in_ok-oids.ensures
+    ∙ ap (map (λ (k : Bor ConstraintRow). k.now.conindid)) c.deref.ensures.value
+    ∙ sym (map-map (λ (k : ConstraintRow). k.conindid) (λ (k : Bor ConstraintRow). k.now) c.in_ok-keys.keys.items)
+    ∙ ap (map (λ (k : ConstraintRow). k.conindid)) (c.in_ok-keys.ensures ∙ ap (filter is_key) c.as_slice.ensures)

@@ -1,0 +1,4 @@
+pub mod Said
+pub mod Keys
+pub mod KeySets
+pub mod Table

@@ -1,0 +1,6 @@
+pub mod Agreeing
+pub mod Types
+pub mod Columns
+pub mod Indexes
+pub mod Sequences
+pub mod Views

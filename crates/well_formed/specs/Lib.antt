@@ -1,0 +1,3 @@
+pub mod Catalogues
+pub mod Firsts
+pub mod Formed
