@@ -1,12 +1,14 @@
 -- Worked examples: columns and defaults of the small catalogue, and what is wrong with them after one change.
 use Rattle.std.specs.Prelude.{◌≡◌, pos, negsuc, List, [], ◌∷◌, Option, None, codes}
 use Rattle.cat_rows.specs.declared.table.SysTable.TheVariants.{PgAttribute, PgAttrdef}
+use Rattle.cat_rows.specs.declared.catalogue.Catalogue.{Catalogue}
 use Rattle.cat_rows.specs.declared.relations.AttributeRow.{AttributeRow}
 use Rattle.cat_rows.specs.declared.relations.AttrdefRow.{AttrdefRow}
 use Rattle.cat_model.specs.declared.words.What.TheVariants as what
+use Rattle.cat_names.specs.declared.fault.CatFault.{CatFault}
 use Rattle.cat_names.specs.declared.fault.LineFault.{LineFault}
 use Rattle.cat_names.specs.declared.fault.FaultKind.TheVariants as kind
-use Rattle.well_formed.specs.Catalogues.{table_fault, first_in, columns}
+use Rattle.well_formed.specs.Catalogues.{table_fault, first_in}
 use Rattle.table_laws.specs.Small.{at, fault, a, column, of_a, small}
 
 -- public.t is the table 16500, public.v the view 16502, public.s the sequence 16503, public.e the enum 20000
@@ -50,5 +52,9 @@ pub record Defaults : Type 0 where
   pub no_sequence : in_defaults (of_a (codes "nextval('public.x'::regclass)") ∷ []) ≡ at 1 kind.BadText
   pub no_such_type : in_defaults (of_a (codes "'x'::public.f") ∷ []) ≡ at 1 kind.BadText
 
+-- the first fault of the two tables
+abbrev pub in_both : Catalogue → Option CatFault
+in_both cat = first_in cat (PgAttribute ∷ PgAttrdef ∷ [])
+
 pub record Both : Type 0 where
-  pub columns_first : first_in (record small { pg_attribute = a ∷ a ∷ []; pg_attrdef = record (of_a []) { oid = 0 } ∷ [] }) columns ≡ fault PgAttribute 2 kind.RepeatedName
+  pub columns_first : in_both (record small { pg_attribute = a ∷ a ∷ []; pg_attrdef = record (of_a []) { oid = 0 } ∷ [] }) ≡ fault PgAttribute 2 kind.RepeatedName

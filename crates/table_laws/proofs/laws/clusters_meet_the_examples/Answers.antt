@@ -2,11 +2,11 @@ use Rattle.std.proofs.Common.{refl}
 use Rattle.cat_names.specs.Findings.{first_from}
 use Rattle.cat_names.specs.Lookups.{role_name}
 use Rattle.cat_names.specs.Rights.{has_bad_item}
-use Rattle.well_formed.specs.Catalogues.{first_in}
+use Rattle.well_formed.specs.Catalogues.{table_fault, first_in}
 use Rattle.table_laws.proofs.laws.clusters_meet_the_examples.Goals as goal
 
 pub returns-clause-schemas : goal.returns-clause-schemas
-unfolding first_from role_name has_bad_item first_in
+unfolding first_from role_name has_bad_item first_in table_fault
 returns-clause-schemas c = record {
   empty = refl;
   none = refl;
@@ -25,7 +25,7 @@ returns-clause-schemas c = record {
 }
 
 pub returns-clause-roles : goal.returns-clause-roles
-unfolding first_from role_name has_bad_item first_in
+unfolding first_from role_name has_bad_item first_in table_fault
 returns-clause-roles c = record {
   no_boot = refl;
   none = refl;
@@ -34,7 +34,7 @@ returns-clause-roles c = record {
 }
 
 pub returns-clause-members : goal.returns-clause-members
-unfolding first_from role_name has_bad_item first_in
+unfolding first_from role_name has_bad_item first_in table_fault
 returns-clause-members c = record {
   one = refl;
   twice = refl;
@@ -43,7 +43,7 @@ returns-clause-members c = record {
 }
 
 pub returns-clause-databases : goal.returns-clause-databases
-unfolding first_from role_name has_bad_item first_in
+unfolding first_from role_name has_bad_item first_in table_fault
 returns-clause-databases c = record {
   another_encoding = refl;
   none_current = refl;

@@ -17,11 +17,11 @@ use Rattle.ddl_parts.specs.Types.{type_step, type_done, type_long, is_type_word,
 use Rattle.row_texts.specs.Tokens.{all_tokens}
 use Rattle.row_texts.specs.TypeTexts.{type_named}
 use Rattle.row_texts.specs.DefaultTexts.{default_said, is_default}
-use Rattle.well_formed.specs.Catalogues.{first_in}
+use Rattle.well_formed.specs.Catalogues.{table_fault, first_in}
 use Rattle.table_laws.proofs.laws.columns_meet_the_examples.Goals as goal
 
 pub returns-clause-columns : goal.returns-clause-columns
-unfolding is_utf8 chars encode is_blank is_digit begins_word in_word is_sign marks_escapes in_line next_is run_end quote_end escape_end comment_end fraction_end number_end begins_line closed begun in_utf8 piece_at next_within next_token_of tokens_within tokens_of inside undoubled name_of literal_of is_keyword_of spelling first_from is_word sign_of name_in name_value scan ends_run nest_step nest_done type_step type_done type_long is_type_word is_number type_of type_part all_tokens type_named
+unfolding is_utf8 chars encode is_blank is_digit begins_word in_word is_sign marks_escapes in_line next_is run_end quote_end escape_end comment_end fraction_end number_end begins_line closed begun in_utf8 piece_at next_within next_token_of tokens_within tokens_of inside undoubled name_of literal_of is_keyword_of spelling first_from is_word sign_of name_in name_value scan ends_run nest_step nest_done type_step type_done type_long is_type_word is_number type_of type_part all_tokens type_named table_fault
 returns-clause-columns c = record {
   none = refl;
   with_a_gap = refl;
@@ -40,7 +40,7 @@ returns-clause-columns c = record {
 }
 
 pub returns-clause-defaults : goal.returns-clause-defaults
-unfolding is_utf8 chars encode is_blank is_digit begins_word in_word is_sign marks_escapes in_line next_is run_end quote_end escape_end comment_end fraction_end number_end begins_line closed begun in_utf8 piece_at next_within next_token_of tokens_within tokens_of inside undoubled name_of literal_of is_keyword_of spelling lexemes expression_references first_from is_word sign_of name_in name_value scan ends_run nest_step nest_done default_text all_tokens default_said is_default
+unfolding is_utf8 chars encode is_blank is_digit begins_word in_word is_sign marks_escapes in_line next_is run_end quote_end escape_end comment_end fraction_end number_end begins_line closed begun in_utf8 piece_at next_within next_token_of tokens_within tokens_of inside undoubled name_of literal_of is_keyword_of spelling lexemes expression_references first_from is_word sign_of name_in name_value scan ends_run nest_step nest_done default_text all_tokens default_said is_default table_fault
 returns-clause-defaults c = record {
   expression = refl;
   second_oid = refl;
@@ -60,7 +60,7 @@ returns-clause-defaults c = record {
 }
 
 pub returns-clause-both : goal.returns-clause-both
-unfolding is_utf8 chars encode is_blank is_digit begins_word in_word is_sign marks_escapes in_line next_is run_end quote_end escape_end comment_end fraction_end number_end begins_line closed begun in_utf8 piece_at next_within next_token_of tokens_within tokens_of inside undoubled name_of literal_of is_keyword_of spelling lexemes expression_references first_from is_word sign_of name_in name_value scan ends_run nest_step nest_done default_text type_step type_done type_long is_type_word is_number type_of type_part all_tokens type_named default_said is_default first_in
+unfolding is_utf8 chars encode is_blank is_digit begins_word in_word is_sign marks_escapes in_line next_is run_end quote_end escape_end comment_end fraction_end number_end begins_line closed begun in_utf8 piece_at next_within next_token_of tokens_within tokens_of inside undoubled name_of literal_of is_keyword_of spelling lexemes expression_references first_from is_word sign_of name_in name_value scan ends_run nest_step nest_done default_text type_step type_done type_long is_type_word is_number type_of type_part all_tokens type_named default_said is_default first_in table_fault
 returns-clause-both c = record {
   columns_first = refl;
 }

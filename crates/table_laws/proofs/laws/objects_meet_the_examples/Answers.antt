@@ -2,10 +2,11 @@ use Rattle.std.proofs.Common.{refl}
 use Rattle.cat_names.specs.Findings.{first_from}
 use Rattle.cat_names.specs.Lookups.{role_name}
 use Rattle.cat_names.specs.Rights.{has_bad_item}
+use Rattle.well_formed.specs.Catalogues.{table_fault}
 use Rattle.table_laws.proofs.laws.objects_meet_the_examples.Goals as goal
 
 pub returns-clause-labels : goal.returns-clause-labels
-unfolding first_from
+unfolding first_from table_fault
 returns-clause-labels c = record {
   two = refl;
   falling = refl;
@@ -18,7 +19,7 @@ returns-clause-labels c = record {
 }
 
 pub returns-clause-relations : goal.returns-clause-relations
-unfolding first_from role_name has_bad_item
+unfolding first_from role_name has_bad_item table_fault
 returns-clause-relations c = record {
   tables = refl;
   name_twice = refl;
@@ -34,7 +35,7 @@ returns-clause-relations c = record {
 }
 
 pub returns-clause-comments : goal.returns-clause-comments
-unfolding first_from
+unfolding first_from table_fault
 returns-clause-comments c = record {
   on_each = refl;
   twice = refl;
@@ -49,7 +50,7 @@ returns-clause-comments c = record {
 }
 
 pub returns-clause-depends : goal.returns-clause-depends
-unfolding first_from
+unfolding first_from table_fault
 returns-clause-depends c = record {
   identity = refl;
   serial = refl;

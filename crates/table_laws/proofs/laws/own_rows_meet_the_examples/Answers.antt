@@ -18,10 +18,11 @@ use Rattle.row_texts.specs.Tokens.{all_tokens}
 use Rattle.row_texts.specs.IndexTexts.{named_index, index_text, index_said}
 use Rattle.row_texts.specs.SequenceTypes.{sequence_type, sequence_kind}
 use Rattle.row_texts.specs.ViewTexts.{view_text, view_body}
+use Rattle.well_formed.specs.Catalogues.{table_fault}
 use Rattle.table_laws.proofs.laws.own_rows_meet_the_examples.Goals as goal
 
 pub returns-clause-indexes : goal.returns-clause-indexes
-unfolding is_utf8 chars encode is_blank is_digit begins_word in_word is_sign marks_escapes in_line next_is run_end quote_end escape_end comment_end fraction_end number_end begins_line closed begun in_utf8 piece_at next_within next_token_of tokens_within tokens_of inside undoubled name_of literal_of is_keyword_of spelling lexemes plain_columns first_from is_word sign_of name_in name_value scan ends_run nest_step nest_done expression all_tokens named_index index_text index_said
+unfolding is_utf8 chars encode is_blank is_digit begins_word in_word is_sign marks_escapes in_line next_is run_end quote_end escape_end comment_end fraction_end number_end begins_line closed begun in_utf8 piece_at next_within next_token_of tokens_within tokens_of inside undoubled name_of literal_of is_keyword_of spelling lexemes plain_columns first_from is_word sign_of name_in name_value scan ends_run nest_step nest_done expression all_tokens named_index index_text index_said table_fault
 returns-clause-indexes c = record {
   none = refl;
   one = refl;
@@ -47,7 +48,7 @@ returns-clause-indexes c = record {
 }
 
 pub returns-clause-sequences : goal.returns-clause-sequences
-unfolding is_utf8 chars encode is_blank is_digit begins_word in_word is_sign marks_escapes in_line next_is run_end quote_end escape_end comment_end fraction_end number_end begins_line closed begun in_utf8 piece_at next_within next_token_of tokens_within tokens_of inside undoubled name_of literal_of is_keyword_of spelling first_from is_word sign_of name_in name_value scan ends_run nest_step nest_done all_tokens sequence_type sequence_kind
+unfolding is_utf8 chars encode is_blank is_digit begins_word in_word is_sign marks_escapes in_line next_is run_end quote_end escape_end comment_end fraction_end number_end begins_line closed begun in_utf8 piece_at next_within next_token_of tokens_within tokens_of inside undoubled name_of literal_of is_keyword_of spelling first_from is_word sign_of name_in name_value scan ends_run nest_step nest_done all_tokens sequence_type sequence_kind table_fault
 returns-clause-sequences c = record {
   one = refl;
   owned = refl;
@@ -66,7 +67,7 @@ returns-clause-sequences c = record {
 }
 
 pub returns-clause-views : goal.returns-clause-views
-unfolding is_utf8 chars encode is_blank is_digit begins_word in_word is_sign marks_escapes in_line next_is run_end quote_end escape_end comment_end fraction_end number_end begins_line closed begun in_utf8 piece_at next_within next_token_of tokens_within tokens_of inside undoubled name_of literal_of is_keyword_of spelling lexemes view_references first_from is_word sign_of name_in name_value scan ends_run nest_step nest_done expression all_tokens view_text view_body
+unfolding is_utf8 chars encode is_blank is_digit begins_word in_word is_sign marks_escapes in_line next_is run_end quote_end escape_end comment_end fraction_end number_end begins_line closed begun in_utf8 piece_at next_within next_token_of tokens_within tokens_of inside undoubled name_of literal_of is_keyword_of spelling lexemes view_references first_from is_word sign_of name_in name_value scan ends_run nest_step nest_done expression all_tokens view_text view_body table_fault
 returns-clause-views c = record {
   one = refl;
   comment_behind = refl;

@@ -20,10 +20,11 @@ use Rattle.ddl_parts.specs.Types.{type_step, type_done, type_long, is_type_word,
 use Rattle.row_texts.specs.Tokens.{all_tokens}
 use Rattle.row_texts.specs.TypeTexts.{type_named}
 use Rattle.row_texts.specs.DefaultTexts.{default_said, is_default}
+use Rattle.well_formed.specs.Catalogues.{table_fault}
 use Rattle.table_laws.proofs.laws.types_meet_the_examples.Goals as goal
 
 pub returns-clause-rows : goal.returns-clause-rows
-unfolding is_utf8 chars encode is_blank is_digit begins_word in_word is_sign marks_escapes in_line next_is run_end quote_end escape_end comment_end fraction_end number_end begins_line closed begun in_utf8 piece_at next_within next_token_of tokens_within tokens_of inside undoubled name_of literal_of is_keyword_of spelling first_from role_name has_bad_item ends_within is_word sign_of name_in name_value scan ends_run nest_step nest_done type_step type_done type_long is_type_word is_number type_of type_part all_tokens type_named
+unfolding is_utf8 chars encode is_blank is_digit begins_word in_word is_sign marks_escapes in_line next_is run_end quote_end escape_end comment_end fraction_end number_end begins_line closed begun in_utf8 piece_at next_within next_token_of tokens_within tokens_of inside undoubled name_of literal_of is_keyword_of spelling first_from role_name has_bad_item ends_within is_word sign_of name_in name_value scan ends_run nest_step nest_done type_step type_done type_long is_type_word is_number type_of type_part all_tokens type_named table_fault
 returns-clause-rows c = record {
   none = refl;
   enum_and_domain = refl;
@@ -43,7 +44,7 @@ returns-clause-rows c = record {
 }
 
 pub returns-clause-bases : goal.returns-clause-bases
-unfolding is_utf8 chars encode is_blank is_digit begins_word in_word is_sign marks_escapes in_line next_is run_end quote_end escape_end comment_end fraction_end number_end begins_line closed begun in_utf8 piece_at next_within next_token_of tokens_within tokens_of inside undoubled name_of literal_of is_keyword_of spelling first_from role_name has_bad_item ends_within is_word sign_of name_in name_value scan ends_run nest_step nest_done type_step type_done type_long is_type_word is_number type_of type_part all_tokens type_named
+unfolding is_utf8 chars encode is_blank is_digit begins_word in_word is_sign marks_escapes in_line next_is run_end quote_end escape_end comment_end fraction_end number_end begins_line closed begun in_utf8 piece_at next_within next_token_of tokens_within tokens_of inside undoubled name_of literal_of is_keyword_of spelling first_from role_name has_bad_item ends_within is_word sign_of name_in name_value scan ends_run nest_step nest_done type_step type_done type_long is_type_word is_number type_of type_part all_tokens type_named table_fault
 returns-clause-bases c = record {
   words = refl;
   open_bracket = refl;
@@ -58,7 +59,7 @@ returns-clause-bases c = record {
 }
 
 pub returns-clause-chains : goal.returns-clause-chains
-unfolding is_utf8 chars encode is_blank is_digit begins_word in_word is_sign marks_escapes in_line next_is run_end quote_end escape_end comment_end fraction_end number_end begins_line closed begun in_utf8 piece_at next_within next_token_of tokens_within tokens_of inside undoubled name_of literal_of is_keyword_of spelling first_from role_name has_bad_item ends_within is_word sign_of name_in name_value scan ends_run nest_step nest_done type_step type_done type_long is_type_word is_number type_of type_part all_tokens type_named
+unfolding is_utf8 chars encode is_blank is_digit begins_word in_word is_sign marks_escapes in_line next_is run_end quote_end escape_end comment_end fraction_end number_end begins_line closed begun in_utf8 piece_at next_within next_token_of tokens_within tokens_of inside undoubled name_of literal_of is_keyword_of spelling first_from role_name has_bad_item ends_within is_word sign_of name_in name_value scan ends_run nest_step nest_done type_step type_done type_long is_type_word is_number type_of type_part all_tokens type_named table_fault
 returns-clause-chains c = record {
   later = refl;
   itself = refl;
@@ -67,7 +68,7 @@ returns-clause-chains c = record {
 }
 
 pub returns-clause-defaults : goal.returns-clause-defaults
-unfolding is_utf8 chars encode is_blank is_digit begins_word in_word is_sign marks_escapes in_line next_is run_end quote_end escape_end comment_end fraction_end number_end begins_line closed begun in_utf8 piece_at next_within next_token_of tokens_within tokens_of inside undoubled name_of literal_of is_keyword_of spelling lexemes expression_references first_from role_name has_bad_item ends_within is_word sign_of name_in name_value scan ends_run nest_step nest_done default_text type_step type_done type_long is_type_word is_number type_of type_part all_tokens type_named default_said is_default
+unfolding is_utf8 chars encode is_blank is_digit begins_word in_word is_sign marks_escapes in_line next_is run_end quote_end escape_end comment_end fraction_end number_end begins_line closed begun in_utf8 piece_at next_within next_token_of tokens_within tokens_of inside undoubled name_of literal_of is_keyword_of spelling lexemes expression_references first_from role_name has_bad_item ends_within is_word sign_of name_in name_value scan ends_run nest_step nest_done default_text type_step type_done type_long is_type_word is_number type_of type_part all_tokens type_named default_said is_default table_fault
 returns-clause-defaults c = record {
   expression = refl;
   not_null = refl;
