@@ -12,7 +12,7 @@ use Rattle.ddl_admin.specs.Comments.{remark, remark_end, name_remarked, path_rem
 use Rattle.ddl_admin.specs.Roles.{create_role, role_changes, alter_role}
 use Rattle.ddl_admin.specs.Databases.{options, create_database}
 use Rattle.ddl_read.specs.Clauses.{semicolon}
-use Rattle.ddl_read.proofs.Closing.{Closes, then_closes, seen_closes, lead_closes, end_closes, one_of_closes}
+use Rattle.ddl_forms.proofs.Closing.{Closes, then_closes, seen_closes, lead_closes, end_closes, one_of_closes}
 
 -- ---- COMMENT ON
 

@@ -14,8 +14,8 @@ use Rattle.ddl_admin.specs.Roles.{create_role, alter_role}
 use Rattle.ddl_admin.specs.Databases.{create_database}
 use Rattle.ddl_read.specs.Grammar.{created, altered, command, statement}
 use Rattle.ddl_laws.specs.Respelling.{IsCommented, IsGivenText, AreChanges}
-use Rattle.ddl_laws.proofs.Tokens.{Gap, space}
-use Rattle.ddl_laws.proofs.Putting.{IsPut, put_as, word_lead}
+use Rattle.ddl_forms.proofs.Tokens.{Gap, space}
+use Rattle.ddl_forms.proofs.Putting.{IsPut, put_as, word_lead}
 use Rattle.ddl_laws.proofs.Layouts.{IsLaidOut, laid_out, database_key, create_put, alter_put}
 use Rattle.ddl_laws.proofs.AdminLayouts.{comment_key, role_key, comment_end, comment_put, comment_opens, comment_whole, role_end, role_put, role_whole, changes_end, changes_put, changes_whole, database_end, database_put, database_whole}
 

@@ -29,10 +29,10 @@ use Rattle.ddl_admin.specs.Roles.{LaterFlags, Flags, Settings, create_role, late
 use Rattle.ddl_admin.specs.Databases.{furthers, utf8_in, utf8_value, utf8, encoded, goes_on, maybe_encoded, options, create_database}
 use Rattle.ddl_read.specs.Clauses.{semicolon}
 use Rattle.ddl_laws.specs.Respelling.{IsPath, IsInt, IsCommented, IsGivenText, IsLimit, AreChanges}
-use Rattle.ddl_laws.proofs.Standing.{is_safe_byte}
-use Rattle.ddl_laws.proofs.Tokens.{Gap, none, space}
-use Rattle.ddl_laws.proofs.Putting.{begins_by, parts_words, Follows, IsPut, IsKey, IsWrittenSign, behind, begun, begun_whole, safe_parts, put_as, word_put, name_put, literal_put, then_put, seen_put, close_put, nothing_put, word_lead, sign_lead, name_lead, path_lead}
-use Rattle.ddl_laws.proofs.SequenceNumbers.{number_put}
+use Rattle.ddl_forms.proofs.Standing.{is_safe_byte}
+use Rattle.ddl_forms.proofs.Tokens.{Gap, none, space}
+use Rattle.ddl_forms.proofs.Putting.{begins_by, parts_words, Follows, IsPut, IsKey, IsWrittenSign, behind, begun, begun_whole, safe_parts, put_as, word_put, name_put, literal_put, then_put, seen_put, close_put, nothing_put, word_lead, sign_lead, name_lead, path_lead}
+use Rattle.ddl_forms.proofs.Numbers.{number_put}
 use Rattle.ddl_laws.proofs.Layouts.{schema_key, type_key, domain_key, table_key, sequence_key, view_key, constraint_key, dot_sign, ended}
 
 -- ---- key words

@@ -15,10 +15,10 @@ use Rattle.ddl_numbers.specs.Numbers.{whole_number}
 use Rattle.ddl_admin.specs.Comments.{remark, remark_end, name_remarked, path_remarked, column_remarked, constraint_remarked, on_path, on_schema, on_column, on_constraint, on_others, commented_object, comment_on}
 use Rattle.ddl_admin.specs.Roles.{Settings, create_role, role_flags, role_settings, role_changes, alter_role}
 use Rattle.ddl_admin.specs.Databases.{options, create_database}
-use Rattle.ddl_laws.proofs.NumberMade.{whole_number_yields}
+use Rattle.ddl_forms.proofs.Numbers.{whole_number_yields}
 use Rattle.ddl_read.specs.Clauses.{semicolon}
 use Rattle.ddl_laws.specs.Respelling.{IsPath, IsInt, IsCommented, IsGivenText, IsLimit, AreChanges, IsWritable}
-use Rattle.ddl_laws.proofs.Yielding.{Yields, then_yields, seen_yields, any_yields, lead_yields, end_yields, choose_yields, one_of_yields, name_yields, literal_yields, qualified_yields}
+use Rattle.ddl_forms.proofs.Yielding.{Yields, then_yields, seen_yields, any_yields, lead_yields, end_yields, choose_yields, one_of_yields, name_yields, literal_yields, qualified_yields}
 
 -- ---- COMMENT ON
 

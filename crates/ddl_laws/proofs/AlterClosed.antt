@@ -7,7 +7,7 @@ use Rattle.ddl_parts.specs.Expressions.{default_text}
 use Rattle.ddl_read.specs.declared.alters.TableChange.TheVariants.{Owner}
 use Rattle.ddl_read.specs.Clauses.{semicolon, new_owner}
 use Rattle.ddl_read.specs.AlterGrammar.{constraint_body, added_of, added, default_of, new_default, own_change, table_change, table_changed, only_name, other_path, in_schema, key_word, behind_only, only_changed, altered_table}
-use Rattle.ddl_read.proofs.Closing.{Closes, then_closes, seen_closes, choose_closes, lead_closes, end_closes, one_of_closes}
+use Rattle.ddl_forms.proofs.Closing.{Closes, then_closes, seen_closes, choose_closes, lead_closes, end_closes, one_of_closes}
 
 pub new_owner_closes : Closes semicolon new_owner
 unfolding new_owner

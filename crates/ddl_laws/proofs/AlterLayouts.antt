@@ -21,9 +21,9 @@ use Rattle.ddl_read.specs.declared.alters.TableChange.TheVariants.{Default, Adde
 use Rattle.ddl_read.specs.Clauses.{semicolon}
 use Rattle.ddl_read.specs.AlterGrammar.{check_body, constraint_body, added_of, added, default_of, new_default, own_change, altered_table}
 use Rattle.ddl_laws.specs.Respelling.{IsPath, IsExpressionText, IsDefaultText}
-use Rattle.ddl_laws.proofs.Standing.{is_safe_byte}
-use Rattle.ddl_laws.proofs.Tokens.{Gap, none, space, indented, indent}
-use Rattle.ddl_laws.proofs.Putting.{begins_by, parts_words, IsPut, IsKey, behind, begun, put_as, sign_put, seen_put, close_put, word_lead, sign_lead, name_lead, expression_put}
+use Rattle.ddl_forms.proofs.Standing.{is_safe_byte}
+use Rattle.ddl_forms.proofs.Tokens.{Gap, none, space, indented, indent}
+use Rattle.ddl_forms.proofs.Putting.{begins_by, parts_words, IsPut, IsKey, behind, begun, put_as, sign_put, seen_put, close_put, word_lead, sign_lead, name_lead, expression_put}
 use Rattle.ddl_laws.proofs.Layouts.{IsLaidOut, laid_out, alter_key, add_key, set_key, constraint_key, check_key, opening_sign, closing_sign, ended, table_put}
 use Rattle.ddl_laws.proofs.TableLayouts.{default_key, default_put}
 use Rattle.ddl_laws.proofs.AlterPuts.{only_put}

@@ -20,8 +20,8 @@ use Rattle.ddl_read.specs.Columns.{more_names, further, names_of, columns}
 use Rattle.ddl_read.specs.Rests.{key_rest, foreign_rest}
 use Rattle.ddl_laws.proofs.RestTexts.{key_rest_yields, foreign_rest_yields}
 use Rattle.ddl_laws.proofs.AlterLaws.{only_is, other_is}
-use Rattle.ddl_laws.proofs.Defaults.{default_is_read}
-use Rattle.ddl_laws.proofs.Yielding.{Yields, then_yields, seen_yields, lead_yields, end_yields, choose_yields, one_of_yields, name_yields, expression_yields, qualified_yields, many_yields}
+use Rattle.ddl_forms.proofs.Defaults.{default_is_read}
+use Rattle.ddl_forms.proofs.Yielding.{Yields, then_yields, seen_yields, lead_yields, end_yields, choose_yields, one_of_yields, name_yields, expression_yields, qualified_yields, many_yields}
 
 pub new_owner_yields : Yields IsName new_owner
 unfolding new_owner

@@ -17,9 +17,9 @@ use Rattle.ddl_read.specs.declared.alters.TableChange.{TableChange}
 use Rattle.ddl_read.specs.Clauses.{semicolon}
 use Rattle.ddl_read.specs.AlterGrammar.{own_change, table_change, table_changed, only_value, only_name, other_value, other_name, path_of, other_path, BehindOnly, key_word, behind_only, altered_table}
 use Rattle.ddl_laws.specs.Respelling.{IsPath}
-use Rattle.ddl_laws.proofs.Standing.{Stands}
-use Rattle.ddl_laws.proofs.Tokens.{Gap, none, space, word_token, name_token, a_word, a_name, name_means, name_no_sign, name_no_word}
-use Rattle.ddl_laws.proofs.Putting.{begins_by, parts_words, parted, Follows, IsPut, sign_46, behind, begun, put_as, one_put, name_put, then_put, seen_put, sign_lead, path_lead}
+use Rattle.ddl_forms.proofs.Standing.{Stands}
+use Rattle.ddl_forms.proofs.Tokens.{Gap, none, space, word_token, name_token, a_word, a_name, name_means, name_no_sign, name_no_word}
+use Rattle.ddl_forms.proofs.Putting.{begins_by, parts_words, parted, Follows, IsPut, sign_46, behind, begun, put_as, one_put, name_put, then_put, seen_put, sign_lead, path_lead}
 
 -- ---- without ONLY
 

@@ -6,12 +6,12 @@ use Rattle.ddl_parts.specs.Collecting.{collected}
 use Rattle.ddl_parts.specs.Expressions.{nested, expression}
 use Rattle.ddl_read.specs.RelationGrammar.{bracketed}
 use Rattle.ddl_laws.specs.Respelling.{IsBracketText}
-use Rattle.ddl_laws.proofs.Standing.{is_safe_byte, placed}
-use Rattle.ddl_laws.proofs.RunTexts.{kinds, run_kept, run_read, plain_last}
-use Rattle.ddl_laws.proofs.Expressions.{nested_plain}
-use Rattle.ddl_laws.proofs.Tokens.{Gap}
-use Rattle.ddl_laws.proofs.Putting.{begins_by, safe_behind, Follows, IsPut}
-use Rattle.ddl_laws.proofs.Yielding.{Yields}
+use Rattle.ddl_forms.proofs.Standing.{is_safe_byte, placed}
+use Rattle.ddl_forms.proofs.RunTexts.{kinds, run_kept, run_read, plain_last}
+use Rattle.ddl_forms.proofs.Expressions.{nested_plain}
+use Rattle.ddl_forms.proofs.Tokens.{Gap}
+use Rattle.ddl_forms.proofs.Putting.{begins_by, safe_behind, Follows, IsPut}
+use Rattle.ddl_forms.proofs.Yielding.{Yields}
 
 -- the kind alone says whether a token is a sign
 same_start : (b : ℕ) (a c : List Lexeme) → kinds a ≡ kinds c → starts (is_sign b) c ≡ true → starts (is_sign b) a ≡ true

@@ -1,6 +1,6 @@
 -- A statement takes all of its tokens: it ends with a semicolon, and no semicolon stands before the last token.
-use Rattle.std.proofs.Common.{◌≡◌, ℕ, zero, suc, ◌+◌, Bool, true, false, not, cond, ◌&&◌, List, [], ◌∷◌, ◌++◌, Option, Some, None, Result, Ok, Err, refl, sym, ap, ◌∙◌, codes, length}
-use Rattle.std.proofs.lemmas.Bool.{and_parts, and_from}
+use Rattle.std.proofs.Common.{◌≡◌, ℕ, zero, suc, ◌+◌, Bool, true, false, not, cond, List, [], ◌∷◌, ◌++◌, Option, Some, None, Result, Ok, Err, refl, sym, ap, ◌∙◌, codes, length}
+use Rattle.std.proofs.lemmas.Bool.{and_from}
 use Rattle.sql_lex.specs.declared.token.Token.{Token}
 use Rattle.sql_lex.specs.declared.fault.LexFault.{LexFault}
 use Rattle.sql_lex.specs.Next.{next_token_of}
@@ -33,7 +33,7 @@ use Rattle.ddl_laws.proofs.AdminClosed.{comment_on_closes, create_role_closes, a
 use Rattle.ddl_read.specs.AlterGrammar.{altered_table}
 use Rattle.ddl_laws.proofs.AlterClosed.{new_owner_closes, altered_table_closes}
 use Rattle.ddl_read.specs.Grammar.{semicolon, create_schema, created, new_owner, new_check, its_owner, one_more_check, domain_changed, domain_change, altered_domain, name_and_owner, path_and_owner, owned_name, owned_path, altered, set_config, catalog_calls, selected, equals_or_to, setting, more_commands, command, statement}
-pub use Rattle.ddl_read.proofs.Closing.{ends_with, ends_cons, ends_append, Closes, passes_by, passed, mark_closes, then_closes, seen_closes, choose_closes, lead_closes, end_closes, AllClose, one_of_closes}
+use Rattle.ddl_forms.proofs.Closing.{Closes, mark_closes, then_closes, seen_closes, choose_closes, lead_closes, end_closes, one_of_closes, only_last, nothing_left}
 
 -- ---- the kinds
 
@@ -167,21 +167,6 @@ statement_closes =
     (seen_closes semicolon Some command command_closes)
 
 -- ---- the tokens that are collected
-
-abbrev pub only_last : (Lexeme → Bool) → List Lexeme → Bool
-only_last test [] = true
-only_last test (t ∷ []) = true
-only_last test (t ∷ u ∷ ts) = not (test t) && only_last test (u ∷ ts)
-
-not_both : (a b : Bool) → a ≡ true → (not a && b) ≡ true → ⊥
-not_both true b e h = absurd cc
-not_both false b e h = absurd cc
-
-pub nothing_left : (test : Lexeme → Bool) (front rest : List Lexeme) → only_last test (front ++ rest) ≡ true → ends_with test front ≡ true → rest ≡ []
-nothing_left test [] rest last ends = absurd cc
-nothing_left test (t ∷ []) [] last ends = refl
-nothing_left test (t ∷ []) (r ∷ rest) last ends = absurd (not_both (test t) (only_last test (r ∷ rest)) ends last)
-nothing_left test (t ∷ u ∷ front) rest last ends = nothing_left test (u ∷ front) rest (and_parts (not (test t)) (only_last test (u ∷ (front ++ rest))) last).1 ends
 
 abbrev piece_of : ℕ → Token → Piece
 piece_of at t = record { from = at; token = t }

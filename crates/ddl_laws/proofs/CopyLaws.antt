@@ -14,7 +14,7 @@ use Rattle.ddl_read.specs.Clauses.{semicolon}
 use Rattle.ddl_read.specs.Columns.{further, names_of, columns}
 use Rattle.ddl_read.specs.CopyGrammar.{some_columns, copy_from}
 use Rattle.ddl_read.proofs.ColumnLaws.{columns_laws, columns_free}
-use Rattle.ddl_read.proofs.Closing.{Closes, then_closes, end_closes}
+use Rattle.ddl_forms.proofs.Closing.{Closes, then_closes, end_closes}
 
 free : (test : Lexeme → Bool) → Apart test never
 free test t e = refl

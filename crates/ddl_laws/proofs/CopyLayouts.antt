@@ -19,8 +19,8 @@ use Rattle.ddl_read.specs.Columns.{columns}
 use Rattle.ddl_read.specs.CopyGrammar.{some_columns, copy_from}
 use Rattle.ddl_read.specs.Grammar.{command, statement}
 use Rattle.ddl_laws.specs.Respelling.{IsPath}
-use Rattle.ddl_laws.proofs.Tokens.{Gap, space}
-use Rattle.ddl_laws.proofs.Putting.{parts_words, begins_by, Follows, IsPut, IsKey, behind, begun, put_as, seen_put, nothing_put, close_put, word_put, word_lead, path_lead}
+use Rattle.ddl_forms.proofs.Tokens.{Gap, space}
+use Rattle.ddl_forms.proofs.Putting.{parts_words, begins_by, Follows, IsPut, IsKey, behind, begun, put_as, seen_put, nothing_put, close_put, word_put, word_lead, path_lead}
 use Rattle.ddl_laws.proofs.KeyLayouts.{columns_put}
 use Rattle.ddl_laws.proofs.Layouts.{IsLaidOut, laid_out, ended}
 

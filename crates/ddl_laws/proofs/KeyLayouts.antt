@@ -25,9 +25,9 @@ use Rattle.ddl_read.specs.Columns.{more_names, further, names_of, columns}
 use Rattle.ddl_read.specs.Rests.{key_rest, foreign_rest}
 use Rattle.ddl_read.specs.AlterGrammar.{Keyed, primary_of, primary_body, unique_of, unique_body, Linked, foreign_of, foreign_body, constraint_body, altered_table}
 use Rattle.ddl_laws.specs.Respelling.{IsPath, AreColumns, IsRest}
-use Rattle.ddl_laws.proofs.Standing.{is_safe_byte}
-use Rattle.ddl_laws.proofs.Tokens.{Gap, none, space, indent}
-use Rattle.ddl_laws.proofs.Putting.{begins_by, parts_words, safe_parts, Follows, IsPut, IsKey, behind, begun, begun_whole, same_text, put_as, name_put, sign_put, then_put, seen_put, close_put, word_lead, sign_lead, path_lead, written, CanPut, AllCanPut, items_put}
+use Rattle.ddl_forms.proofs.Standing.{is_safe_byte}
+use Rattle.ddl_forms.proofs.Tokens.{Gap, none, space, indent}
+use Rattle.ddl_forms.proofs.Putting.{begins_by, parts_words, safe_parts, Follows, IsPut, IsKey, behind, begun, begun_whole, same_text, put_as, name_put, sign_put, then_put, seen_put, close_put, word_lead, sign_lead, path_lead, written, CanPut, AllCanPut, items_put}
 use Rattle.ddl_laws.proofs.Layouts.{IsLaidOut, laid_out, opening_sign, closing_sign, comma_sign, ended, table_put}
 use Rattle.ddl_laws.proofs.RestTexts.{rest_put, foreign_rest_put}
 use Rattle.ddl_laws.proofs.AlterPuts.{only_put}

@@ -25,10 +25,10 @@ use Rattle.ddl_read.specs.AlterGrammar.{table_change, altered_table}
 use Rattle.ddl_laws.proofs.AlterPuts.{bare_put}
 use Rattle.ddl_read.specs.RelationGrammar.{its_role, sequence_change, altered_sequence}
 use Rattle.ddl_laws.specs.Respelling.{IsPath, IsOwnedName, IsExpressionText}
-use Rattle.ddl_laws.proofs.Closed.{only_last}
-use Rattle.ddl_laws.proofs.Standing.{is_safe_byte, Stood, placed}
-use Rattle.ddl_laws.proofs.Tokens.{Gap, none, space, indented, indent}
-use Rattle.ddl_laws.proofs.Putting.{begins_by, parts_words, Follows, IsPut, IsKey, IsWrittenSign, behind, begun, same_text, put_as, sign_put, name_put, literal_put, word_put, then_put, seen_put, close_put, word_lead, sign_lead, name_lead, path_lead, expression_put}
+use Rattle.ddl_forms.proofs.Closing.{only_last}
+use Rattle.ddl_forms.proofs.Standing.{is_safe_byte, Stood, placed}
+use Rattle.ddl_forms.proofs.Tokens.{Gap, none, space, indented, indent}
+use Rattle.ddl_forms.proofs.Putting.{begins_by, parts_words, Follows, IsPut, IsKey, IsWrittenSign, behind, begun, same_text, put_as, sign_put, name_put, literal_put, word_put, then_put, seen_put, close_put, word_lead, sign_lead, name_lead, path_lead, expression_put}
 
 -- how a statement is written, behind a gap
 pub record IsLaidOut (g : List ℕ) (s : Stmt) (text : List ℕ) : Type 0 where

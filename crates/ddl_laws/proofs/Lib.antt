@@ -6,19 +6,10 @@ pub mod RelationLaws
 pub mod AdminClosed
 pub mod Closed
 pub mod ReadingLaws
-pub mod Standing
-pub mod Tokens
-pub mod Kept
-pub mod RunTexts
-pub mod Expressions
-pub mod Types
-pub mod Defaults
-pub mod Putting
 pub mod AlterPuts
 pub mod Layouts
 pub mod TableLayouts
 pub mod AlterLayouts
-pub mod Yielding
 pub mod Bracketed
 pub mod RelationLayouts
 pub mod SequenceNumbers
@@ -34,7 +25,6 @@ pub mod AlterMade
 pub mod SequenceMade
 pub mod RelationMade
 pub mod ValueMade
-pub mod NumberMade
 pub mod AdminMade
 pub mod Made
 pub mod CopyLaws

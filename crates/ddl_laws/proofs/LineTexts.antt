@@ -19,8 +19,8 @@ use Rattle.ddl_parts.specs.Pieces.{lexeme_of}
 use Rattle.ddl_parts.specs.Collecting.{Collected, collected, collected_within, collected_by, nothing_more, preceded}
 use Rattle.ddl_laws.specs.Readings.{IsLine}
 use Rattle.ddl_laws.proofs.ReadingLaws.{collected_first}
-use Rattle.ddl_laws.proofs.Kept.{came_token}
-use Rattle.ddl_laws.proofs.Tokens.{Gap, space, Begun, gap_stands, name_begun, name_no_sign, name_means}
+use Rattle.ddl_forms.proofs.Kept.{came_token}
+use Rattle.ddl_forms.proofs.Tokens.{Gap, space, Begun, gap_stands, name_begun, name_no_sign, name_means}
 use Rattle.std.proofs.Common.{◌≡◌, ℕ, suc, ◌+◌, Bool, true, false, cond, not, ◌&&◌, ◌-◌, List, [], ◌∷◌, ◌++◌, length, length-append, append_assoc, append-nil, Option, Some, None, Result, Ok, Err, refl, sym, ap, subst, ◌∙◌, arith, ◌⊎◌, inl, inr, codes}
 use Rattle.std.specs.Prelude.{◌==◌, slice_index}
 use Rattle.std.specs.List.{list_all}

@@ -45,12 +45,12 @@ use Rattle.ddl_read.specs.ValueGrammar.{set_value}
 use Rattle.ddl_laws.proofs.ValueMade.{set_value_yields}
 use Rattle.ddl_read.specs.TableGrammar.{create_enum, create_domain, create_table}
 use Rattle.ddl_laws.specs.Respelling.{AreColumns, IsPath, IsOwnedName, IsExpressionText, IsCheck, IsWritable, AllWritable, joined, spellings, said}
-use Rattle.ddl_laws.proofs.Kept.{AllCame, have_come, came_token}
+use Rattle.ddl_forms.proofs.Kept.{AllCame, have_come, came_token}
 use Rattle.ddl_laws.proofs.ReadingLaws.{found, ends_past, line_past}
-use Rattle.ddl_laws.proofs.Tokens.{none}
+use Rattle.ddl_forms.proofs.Tokens.{none}
 use Rattle.ddl_laws.proofs.Respelled.{can_be_written, joined_read}
-use Rattle.ddl_laws.proofs.Yielding.{named_check_yields, Yields, then_yields, seen_yields, any_yields, lead_yields, end_yields, choose_yields, one_of_yields, name_yields, literal_yields, expression_yields, qualified_yields}
-use Rattle.ddl_laws.proofs.TableMade.{create_enum_yields, create_domain_yields, create_table_yields}
+use Rattle.ddl_forms.proofs.Yielding.{Yields, then_yields, seen_yields, any_yields, lead_yields, end_yields, choose_yields, one_of_yields, name_yields, literal_yields, expression_yields, qualified_yields}
+use Rattle.ddl_laws.proofs.TableMade.{named_check_yields, create_enum_yields, create_domain_yields, create_table_yields}
 
 -- ---- the kinds
 

@@ -24,7 +24,7 @@ use Rattle.ddl_laws.proofs.AlterLaws.{new_owner_laws}
 use Rattle.ddl_laws.proofs.AlterClosed.{new_owner_closes}
 use Rattle.ddl_laws.proofs.SequenceLaws.{create_sequence_laws, create_sequence_closes}
 use Rattle.ddl_read.proofs.Telling.{free}
-use Rattle.ddl_read.proofs.Closing.{Closes, then_closes, seen_closes, choose_closes, lead_closes, end_closes, AllClose}
+use Rattle.ddl_forms.proofs.Closing.{Closes, then_closes, seen_closes, choose_closes, lead_closes, end_closes, AllClose}
 
 -- ---- ALTER SEQUENCE
 

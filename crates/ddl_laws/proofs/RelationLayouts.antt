@@ -20,9 +20,9 @@ use Rattle.ddl_read.specs.Clauses.{semicolon}
 use Rattle.ddl_read.specs.RelationGrammar.{owned_by, its_column, sequence_changed, sequence_change, altered_sequence, view_and_body, create_view, replace_view, bracketed, index_parts, index_of, unique_index_of, create_index, create_unique_index}
 use Rattle.ddl_read.specs.Grammar.{altered, created}
 use Rattle.ddl_laws.specs.Respelling.{IsPath, IsExpressionText, IsBracketText}
-use Rattle.ddl_laws.proofs.Standing.{is_safe_byte}
-use Rattle.ddl_laws.proofs.Tokens.{Gap, none, space, newline, spaced}
-use Rattle.ddl_laws.proofs.Putting.{parts_words, IsPut, IsKey, behind, begun, put_as, name_put, seen_put, close_put, word_lead, sign_lead, name_lead, path_lead, expression_put}
+use Rattle.ddl_forms.proofs.Standing.{is_safe_byte}
+use Rattle.ddl_forms.proofs.Tokens.{Gap, none, space, newline, spaced}
+use Rattle.ddl_forms.proofs.Putting.{parts_words, IsPut, IsKey, behind, begun, put_as, name_put, seen_put, close_put, word_lead, sign_lead, name_lead, path_lead, expression_put}
 use Rattle.ddl_laws.proofs.Bracketed.{bracket_put}
 use Rattle.ddl_laws.proofs.Layouts.{IsLaidOut, laid_out, sequence_key, view_key, dot_sign, ended, create_put, alter_put}
 use Rattle.ddl_laws.proofs.TableLayouts.{as_key}

@@ -14,7 +14,7 @@ use Rattle.ddl_laws.specs.Respelling.{IsPath, IsExpressionText, IsBracketText, I
 use Rattle.ddl_laws.proofs.Bracketed.{bracketed_yields}
 use Rattle.ddl_laws.proofs.AlterMade.{new_owner_yields}
 use Rattle.ddl_laws.proofs.SequenceMade.{create_sequence_yields}
-use Rattle.ddl_laws.proofs.Yielding.{Yields, then_yields, seen_yields, lead_yields, end_yields, choose_yields, AllYield, name_yields, expression_yields, qualified_yields}
+use Rattle.ddl_forms.proofs.Yielding.{Yields, then_yields, seen_yields, lead_yields, end_yields, choose_yields, AllYield, name_yields, expression_yields, qualified_yields}
 
 -- ---- ALTER SEQUENCE
 

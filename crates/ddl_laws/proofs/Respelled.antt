@@ -27,10 +27,11 @@ use Rattle.ddl_laws.proofs.CopyLayouts.{copy_head, copy_laid_out, copy_is}
 use Rattle.ddl_laws.proofs.LineTexts.{IsFresh, connect_line, connect_is, line_stands}
 use Rattle.ddl_laws.specs.Readings.{IsLine, Reads, all_read, one_read, line_read}
 use Rattle.ddl_laws.specs.Respelling.{IsWritable, AllWritable, joined, spellings, said}
-use Rattle.ddl_laws.proofs.Closed.{ends_with, only_last, statement_closes}
+use Rattle.ddl_forms.proofs.Closing.{ends_with, only_last}
+use Rattle.ddl_laws.proofs.Closed.{statement_closes}
 use Rattle.ddl_laws.proofs.ReadingLaws.{only}
-use Rattle.ddl_laws.proofs.Standing.{Stood, placed, collects}
-use Rattle.ddl_laws.proofs.Tokens.{Gap, none, space, newline, spaced, indented, tabbed, indent}
+use Rattle.ddl_forms.proofs.Standing.{Stood, placed, collects}
+use Rattle.ddl_forms.proofs.Tokens.{Gap, none, space, newline, spaced, indented, tabbed, indent}
 use Rattle.ddl_laws.proofs.RelationLayouts.{owned_by_laid_out, view_laid_out, replaced_laid_out, index_laid_out, unique_index_laid_out}
 use Rattle.ddl_laws.proofs.SequenceLayouts.{sequence_laid_out}
 use Rattle.ddl_laws.proofs.ValueLayouts.{value_laid_out}

@@ -12,11 +12,11 @@ use Rattle.ddl_read.specs.declared.rests.RestSpot.TheVariants.{Begin, Deferrable
 use Rattle.ddl_read.specs.Grammar.{semicolon}
 use Rattle.ddl_read.specs.Rests.{rest_step, rest_done, resting, key_rest, begins_foreign, foreign_rest}
 use Rattle.ddl_laws.specs.Respelling.{IsRunText, IsRest}
-use Rattle.ddl_laws.proofs.Standing.{is_safe_byte, placed}
-use Rattle.ddl_laws.proofs.Tokens.{space}
-use Rattle.ddl_laws.proofs.RunTexts.{IsPlainMachine, not_some, run_kept, run_read, plain_last}
-use Rattle.ddl_laws.proofs.Putting.{begins_by, safe_behind, Follows, IsPut, put_as, nothing_put}
-use Rattle.ddl_laws.proofs.Yielding.{Yields}
+use Rattle.ddl_forms.proofs.Standing.{is_safe_byte, placed}
+use Rattle.ddl_forms.proofs.Tokens.{space}
+use Rattle.ddl_forms.proofs.RunTexts.{IsPlainMachine, not_some, run_kept, run_read, plain_last}
+use Rattle.ddl_forms.proofs.Putting.{begins_by, safe_behind, Follows, IsPut, put_as, nothing_put}
+use Rattle.ddl_forms.proofs.Yielding.{Yields}
 
 -- ---- the machine
 

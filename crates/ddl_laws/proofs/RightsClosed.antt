@@ -11,7 +11,7 @@ use Rattle.ddl_rights.specs.RightsGrammar.{wanted, rights_and_object, grantee}
 use Rattle.ddl_rights.specs.Memberships.{with_options, granted_by, member, member_of, membership}
 use Rattle.ddl_rights.specs.Grants.{grant_option, to_grantee, from_grantee, grant_rights, revoke_rights, first, behind_first, granted, revoked}
 use Rattle.ddl_read.specs.Clauses.{semicolon}
-use Rattle.ddl_read.proofs.Closing.{ends_with, ends_append, Closes, mark_closes, then_closes, seen_closes, choose_closes, lead_closes, end_closes}
+use Rattle.ddl_forms.proofs.Closing.{ends_with, ends_append, Closes, mark_closes, then_closes, seen_closes, choose_closes, lead_closes, end_closes}
 
 pub thenby_closes : {A B : Type 0} (test : Lexeme → Bool) (p : Part A) (f : A → Part B) → ((v : A) → Closes test (f v)) → Closes test (p thenby f)
 thenby_closes test p f closes w ts spells = ap (ends_with test) spells.3 ∙ ends_append test spells.1 spells.2 (closes spells.0 w spells.2 spells.5)

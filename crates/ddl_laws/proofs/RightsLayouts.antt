@@ -40,12 +40,12 @@ use Rattle.ddl_rights.proofs.RightsLaws.{object_on, right_word, kind_word}
 use Rattle.ddl_rights.proofs.RightSets.{all_is, listed_is, some_listed, written_word, words_are, AllGo, all_go}
 use Rattle.ddl_read.specs.Clauses.{semicolon}
 use Rattle.ddl_read.specs.Grammar.{command, statement}
-use Rattle.ddl_laws.proofs.Closed.{only_last}
-use Rattle.ddl_laws.proofs.Kept.{spelled-append}
-use Rattle.ddl_laws.proofs.RunTexts.{placed-append}
-use Rattle.ddl_laws.proofs.Standing.{is_safe_byte, Stands, Stood, placed}
-use Rattle.ddl_laws.proofs.Tokens.{word_token, name_token, Gap, none, space, a_word, a_name, name_means, name_no_sign}
-use Rattle.ddl_laws.proofs.Putting.{begins_by, parts_words, parted, safe_parts, Follows, IsPut, IsKey, behind, begun, put_as, one_put, name_put, then_put, seen_put, close_put, word_lead, sign_lead, name_lead, path_put, written, CanPut, AllCanPut, items_put}
+use Rattle.ddl_forms.proofs.Closing.{only_last}
+use Rattle.ddl_forms.proofs.Kept.{spelled-append}
+use Rattle.ddl_forms.proofs.RunTexts.{placed-append}
+use Rattle.ddl_forms.proofs.Standing.{is_safe_byte, Stands, Stood, placed}
+use Rattle.ddl_forms.proofs.Tokens.{word_token, name_token, Gap, none, space, a_word, a_name, name_means, name_no_sign}
+use Rattle.ddl_forms.proofs.Putting.{begins_by, parts_words, parted, safe_parts, Follows, IsPut, IsKey, behind, begun, put_as, one_put, name_put, then_put, seen_put, close_put, word_lead, sign_lead, name_lead, path_put, written, CanPut, AllCanPut, items_put}
 use Rattle.ddl_laws.proofs.Layouts.{IsLaidOut, laid_out, comma_sign, ended}
 
 -- ---- key words

@@ -25,10 +25,10 @@ use Rattle.ddl_rights.specs.Writable.{kind_of, IsObject, AreRights, IsGrantee, I
 use Rattle.ddl_rights.proofs.RightsLaws.{object_on}
 use Rattle.ddl_rights.proofs.RightSets.{has_some, has_it, kind_some, kind_whole}
 use Rattle.ddl_laws.specs.Respelling.{IsWritable}
-use Rattle.ddl_laws.proofs.Kept.{AllCame, came_front, came_behind}
-use Rattle.ddl_laws.proofs.Types.{name_in_is}
+use Rattle.ddl_forms.proofs.Kept.{AllCame, came_front, came_behind}
+use Rattle.ddl_forms.proofs.Types.{name_in_is}
 use Rattle.sql_lex.specs.Meaning.{name_of}
-use Rattle.ddl_laws.proofs.Yielding.{Yields, then_yields, seen_yields, any_yields, lead_yields, end_yields, choose_yields, name_yields, qualified_yields}
+use Rattle.ddl_forms.proofs.Yielding.{Yields, then_yields, seen_yields, any_yields, lead_yields, end_yields, choose_yields, name_yields, qualified_yields}
 
 -- what a value decides has a property where the value has another
 pub thenby_yields : {A B : Type 0} (P : A → Type 0) (Q : B → Type 0) (p : Part A) (f : A → Part B) → Yields P p → ((v : A) → P v → Yields Q (f v)) → Yields Q (p thenby f)

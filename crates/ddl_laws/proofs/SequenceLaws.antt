@@ -24,7 +24,7 @@ use Rattle.ddl_read.specs.declared.sequences.Clauses.{Clauses}
 use Rattle.ddl_read.specs.Clauses.{semicolon}
 use Rattle.ddl_read.specs.SequenceGrammar.{with_number, reached, clause_first, kind_first, usual_first, step_first, is_between, begins_clause, first_reached, clausing, clauses_of, sequence_clauses, sequence_of, create_sequence}
 use Rattle.ddl_read.proofs.Telling.{sign_no_word}
-use Rattle.ddl_read.proofs.Closing.{Closes, then_closes, seen_closes, end_closes}
+use Rattle.ddl_forms.proofs.Closing.{Closes, then_closes, seen_closes, end_closes}
 
 -- ---- each state can be brought to an end
 

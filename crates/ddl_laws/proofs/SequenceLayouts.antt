@@ -31,10 +31,11 @@ use Rattle.ddl_read.specs.Clauses.{semicolon}
 use Rattle.ddl_read.specs.Grammar.{created}
 use Rattle.ddl_read.specs.SequenceGrammar.{no_clauses, with_number, reached, clause_first, kind_first, usual_first, step_first, first_reached, clausing, clauses_of, sequence_clauses, given_or, bound_or, sequence_of, create_sequence}
 use Rattle.ddl_laws.specs.Respelling.{IsPath, IsInt}
-use Rattle.ddl_laws.proofs.Standing.{is_safe_byte, Stands}
-use Rattle.ddl_laws.proofs.Tokens.{Gap, space, indented, indent, word_token, a_word}
-use Rattle.ddl_laws.proofs.Putting.{begins_by, parts_words, parted, Follows, IsPut, behind, begun, begins-append, safe_parts, put_as, one_put, then_put, seen_put, close_put, word_lead, path_lead}
-use Rattle.ddl_laws.proofs.SequenceNumbers.{number_put, number_runs}
+use Rattle.ddl_forms.proofs.Standing.{is_safe_byte, Stands}
+use Rattle.ddl_forms.proofs.Tokens.{Gap, space, indented, indent, word_token, a_word}
+use Rattle.ddl_forms.proofs.Putting.{begins_by, parts_words, parted, Follows, IsPut, behind, begun, begins-append, safe_parts, put_as, one_put, then_put, seen_put, close_put, word_lead, path_lead}
+use Rattle.ddl_forms.proofs.Numbers.{number_put}
+use Rattle.ddl_laws.proofs.SequenceNumbers.{number_runs}
 use Rattle.ddl_laws.proofs.Layouts.{IsLaidOut, laid_out, sequence_key, ended, create_put}
 
 -- ---- from one state to another

@@ -1,5 +1,5 @@
 -- What is read of CREATE SEQUENCE can be written: its numbers have 64 bits.
-use Rattle.std.proofs.Common.{◌≡◌, ℕ, zero, suc, ◌+◌, ◌<◌, ◌^◌, ℤ, pos, negsuc, Bool, true, false, cond, List, [], ◌∷◌, Option, Some, None, refl, sym, subst, arith, option_and_then, codes}
+use Rattle.std.proofs.Common.{◌≡◌, ℕ, ◌+◌, ◌<◌, ◌^◌, ℤ, pos, negsuc, Bool, true, false, cond, List, [], ◌∷◌, Option, Some, None, refl, sym, subst, arith, option_and_then, codes}
 use Rattle.std.specs.Prelude.{◌&&◌, not, is_some, nat_lt}
 use Rattle.std.specs.List.{list_all}
 use Rattle.std.specs.Str.Parse.{digits_value}
@@ -25,7 +25,8 @@ use Rattle.ddl_read.specs.declared.sequences.Reached.{Reached}
 use Rattle.ddl_read.specs.Clauses.{semicolon}
 use Rattle.ddl_read.specs.SequenceGrammar.{no_clauses, is_unsaid, with_number, reached, only_if, behind_no, clause_first, kind_first, lower, upper, usual_first, numbered, step_first, clausing, first_reached, clauses_of, sequence_clauses, given_or, bound_or, usual_start, sequence_of, create_sequence}
 use Rattle.ddl_laws.specs.Respelling.{IsPath, IsInt, IsWritable}
-use Rattle.ddl_laws.proofs.Yielding.{Yields, then_yields, end_yields, qualified_yields}
+use Rattle.ddl_forms.proofs.Numbers.{positive_is, opposite_is}
+use Rattle.ddl_forms.proofs.Yielding.{Yields, then_yields, end_yields, qualified_yields}
 
 -- ---- the numbers so far
 
@@ -130,13 +131,6 @@ count_below limit ts = by (number_first ts)
 number_keeps : (f : Field) (sign : ℕ → ℤ) (limit : ℕ) (c : Clauses) (o : Option ℕ) → ((n : ℕ) → n < limit → IsInt (sign n)) → AreInts c → IsBelow limit o → Keeps (numbered f sign c o)
 number_keeps f sign limit c None ints k below = nothing
 number_keeps f sign limit c (Some n) ints k below = keeps (reached (with_number f (sign n) c) Between) (with_given f (sign n) c (ints n below) k)
-
-pub positive_is : (n : ℕ) → n < 2 ^ 63 → IsInt (pos n)
-positive_is n small = lt-ltb n (2 ^ 63) small
-
-pub opposite_is : (n : ℕ) → n < 2 ^ 63 + 1 → IsInt (opposite n)
-opposite_is zero small = lt-ltb 0 (2 ^ 63) (omega arith)
-opposite_is (suc n) small = lt-ltb n (2 ^ 63) (omega arith)
 
 lower_keeps : (c : Clauses) (ts : List Lexeme) → AreInts c → Keeps (lower c ts)
 lower_keeps c ts k = only_keeps (starts (is_word (codes "minvalue")) ts) (reached (record c { least = Usual }) Between) (with_lower c k)

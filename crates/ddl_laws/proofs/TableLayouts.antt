@@ -30,14 +30,14 @@ use Rattle.ddl_read.specs.Clauses.{semicolon, named_check}
 use Rattle.ddl_read.specs.Grammar.{created}
 use Rattle.ddl_read.specs.TableGrammar.{create_enum, enum_of, more_attributes, Attributes, not_null, given, null_first, default_first, attributes, typed, checking, domain_of, create_domain, column_name_value, column_name, column_of, column, element, last_element, spot_behind, elements, columns_of, checks_of, more_elements, table_elements, table_of, create_table}
 use Rattle.ddl_laws.specs.Respelling.{IsPath, IsType, IsDefaultText, IsDefault, IsCheck, IsColumn}
-use Rattle.ddl_laws.proofs.Closed.{only_last}
-use Rattle.ddl_laws.proofs.Kept.{spelled-append}
-use Rattle.ddl_laws.proofs.RunTexts.{plain_last}
-use Rattle.ddl_laws.proofs.Types.{type_bytes, type_kept}
-use Rattle.ddl_laws.proofs.Defaults.{not_null as null_words, not_null_safe, not_null_plain, not_null_stood, default_kept}
-use Rattle.ddl_laws.proofs.Standing.{is_safe_byte, Stands, Stood}
-use Rattle.ddl_laws.proofs.Tokens.{Gap, none, space, newline, indented, tabbed, indent, name_token, a_name, name_means, name_no_sign, name_no_word}
-use Rattle.ddl_laws.proofs.Putting.{begins_by, parts_words, parted as parted_bytes, safe_behind, safe_parts, Follows, IsPut, IsKey, behind, begun, begun_whole, same_text, put_as, one_put, sign_put, literal_put, word_put, nothing_put, then_put, seen_put, lead_put, close_put, word_lead, sign_lead, path_lead, written, CanPut, AllCanPut, items_put}
+use Rattle.ddl_forms.proofs.Closing.{only_last}
+use Rattle.ddl_forms.proofs.Kept.{spelled-append}
+use Rattle.ddl_forms.proofs.RunTexts.{plain_last}
+use Rattle.ddl_forms.proofs.Types.{type_bytes, type_kept}
+use Rattle.ddl_forms.proofs.Defaults.{not_null as null_words, not_null_safe, not_null_plain, not_null_stood, default_kept}
+use Rattle.ddl_forms.proofs.Standing.{is_safe_byte, Stands, Stood}
+use Rattle.ddl_forms.proofs.Tokens.{Gap, none, space, newline, indented, tabbed, indent, name_token, a_name, name_means, name_no_sign, name_no_word}
+use Rattle.ddl_forms.proofs.Putting.{begins_by, parts_words, parted as parted_bytes, safe_behind, safe_parts, Follows, IsPut, IsKey, behind, begun, begun_whole, same_text, put_as, one_put, sign_put, literal_put, word_put, nothing_put, then_put, seen_put, lead_put, close_put, word_lead, sign_lead, path_lead, written, CanPut, AllCanPut, items_put}
 use Rattle.ddl_laws.proofs.Layouts.{IsLaidOut, laid_out, type_key, domain_key, table_key, closing_sign, opening_sign, comma_sign, ended, create_put, named_check_put}
 
 -- ---- key words

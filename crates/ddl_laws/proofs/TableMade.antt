@@ -10,8 +10,8 @@ use Rattle.cat_model.specs.declared.table.ColumnDef.{ColumnDef}
 use Rattle.cat_model.specs.declared.table.CheckDef.{CheckDef}
 use Rattle.ddl_parts.specs.Lists.{comma, item_of, listing, listed}
 use Rattle.ddl_parts.specs.Types.{type_part}
-use Rattle.ddl_parts.specs.Leaves.{literal, is_literal, qualified}
-use Rattle.ddl_parts.specs.Expressions.{default_text, default_and_null}
+use Rattle.ddl_parts.specs.Leaves.{name, literal, is_literal, qualified}
+use Rattle.ddl_parts.specs.Expressions.{expression, default_text, default_and_null}
 use Rattle.ddl_read.specs.Grammar.{semicolon}
 use Rattle.ddl_read.specs.declared.tables.TableElement.{TableElement}
 use Rattle.ddl_read.specs.declared.tables.TableElement.TheVariants.{Column, Check}
@@ -20,10 +20,30 @@ use Rattle.ddl_read.specs.declared.tables.Spot.TheVariants.{Opening, BehindColum
 use Rattle.ddl_read.specs.Clauses.{named_check}
 use Rattle.ddl_read.specs.TableGrammar.{create_enum, more_attributes, Attributes, null_first, default_first, attributes, typed, checking, create_domain, column_name, column, element, last_element, element_at, elements, columns_of, checks_of, more_elements, table_elements, create_table}
 use Rattle.ddl_read.proofs.TableLaws.{column_name_is}
-use Rattle.ddl_laws.proofs.Types.{type_is_read}
-use Rattle.ddl_laws.proofs.Defaults.{default_is_read, default_and_null_is_read}
-use Rattle.ddl_laws.specs.Respelling.{IsPath, IsDefaultText, IsDefault, IsType, IsCheck, IsColumn, IsWritable}
-use Rattle.ddl_laws.proofs.Yielding.{named_check_yields, Yields, then_yields, seen_yields, lead_yields, end_yields, choose_yields, name_yields, literal_yields, qualified_yields, many_yields}
+use Rattle.ddl_forms.proofs.Types.{type_is_read}
+use Rattle.ddl_forms.proofs.Defaults.{default_is_read, default_and_null_is_read}
+use Rattle.ddl_laws.specs.Respelling.{IsPath, IsExpressionText, IsDefaultText, IsDefault, IsType, IsCheck, IsColumn, IsWritable}
+use Rattle.ddl_forms.proofs.Yielding.{Yields, then_yields, seen_yields, lead_yields, end_yields, choose_yields, name_yields, expression_yields, literal_yields, qualified_yields, many_yields}
+
+-- ---- checks
+
+abbrev closing : Part (List ℕ)
+closing = expression ◂ is_sign 41
+
+abbrev checked : Part (List ℕ)
+checked = is_word (codes "check") ▸ (is_sign 40 ▸ closing)
+
+abbrev IsNamed : List ℕ × List ℕ → Type 0
+IsNamed x = IsName x.0 × IsExpressionText x.1
+
+pub named_check_yields : Yields IsCheck named_check
+unfolding named_check
+named_check_yields v ts r came spells =
+    let all = lead_yields IsNamed (is_word (codes "constraint")) (name then checked)
+    (then_yields IsName IsExpressionText name checked name_yields
+    (lead_yields IsExpressionText (is_word (codes "check")) (is_sign 40 ▸ closing)
+    (lead_yields IsExpressionText (is_sign 40) closing (end_yields IsExpressionText (is_sign 41) expression expression_yields)))) in
+    subst IsCheck (sym spells.1) (all spells.0 ts r came spells.2)
 
 pub labels_yield : (b : Bool) → Yields IsUtf8 (item_of literal b)
 labels_yield true = lead_yields IsUtf8 comma literal literal_yields

@@ -29,11 +29,11 @@ use Rattle.ddl_read.specs.Clauses.{semicolon}
 use Rattle.ddl_read.specs.Grammar.{catalog_calls}
 use Rattle.ddl_read.specs.ValueGrammar.{path_in, path_of, path_value, literal_path, truth, value_of_sequence, set_value}
 use Rattle.ddl_laws.specs.Respelling.{IsPath, IsInt}
-use Rattle.ddl_laws.proofs.RunTexts.{safe_name}
-use Rattle.ddl_laws.proofs.Standing.{is_safe_byte, Stands, Stood, placed, NoSemicolon, collects_all}
-use Rattle.ddl_laws.proofs.Tokens.{name_token, sign_token, literal_token, Gap, none, space, a_name, a_sign, a_literal, name_means, literal_means, name_no_sign}
-use Rattle.ddl_laws.proofs.Putting.{begins_by, parts_words, parted, Follows, IsPut, IsKey, behind, begun, put_as, one_put, word_put, sign_put, then_put, seen_put, close_put, word_lead, sign_lead, sign_46}
-use Rattle.ddl_laws.proofs.SequenceNumbers.{number_put}
+use Rattle.ddl_forms.proofs.RunTexts.{safe_name}
+use Rattle.ddl_forms.proofs.Standing.{is_safe_byte, Stands, Stood, placed, NoSemicolon, collects_all}
+use Rattle.ddl_forms.proofs.Tokens.{name_token, sign_token, literal_token, Gap, none, space, a_name, a_sign, a_literal, name_means, literal_means, name_no_sign}
+use Rattle.ddl_forms.proofs.Putting.{begins_by, parts_words, parted, Follows, IsPut, IsKey, behind, begun, put_as, one_put, word_put, sign_put, then_put, seen_put, close_put, word_lead, sign_lead, sign_46}
+use Rattle.ddl_forms.proofs.Numbers.{number_put}
 use Rattle.ddl_read.proofs.ValueLaws.{path_only, truth_end, number_and_truth}
 use Rattle.ddl_laws.proofs.Layouts.{IsLaidOut, laid_out, comma_sign, opening_sign, closing_sign, ended, select_put}
 

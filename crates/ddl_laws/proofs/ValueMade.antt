@@ -9,10 +9,10 @@ use Rattle.ddl_parts.specs.Collecting.{collected}
 use Rattle.ddl_numbers.specs.Numbers.{whole_number}
 use Rattle.ddl_read.specs.ValueGrammar.{path_in, path_of, path_value, literal_path, set_value}
 use Rattle.ddl_laws.specs.Respelling.{IsPath, IsInt, IsWritable}
-use Rattle.ddl_laws.proofs.Kept.{have_come}
-use Rattle.ddl_laws.proofs.NumberMade.{whole_number_yields}
+use Rattle.ddl_forms.proofs.Kept.{have_come}
+use Rattle.ddl_forms.proofs.Numbers.{whole_number_yields}
 use Rattle.ddl_read.proofs.ValueLaws.{path_found, truth_end, number_and_truth}
-use Rattle.ddl_laws.proofs.Yielding.{Yields, then_yields, any_yields, lead_yields, qualified_yields}
+use Rattle.ddl_forms.proofs.Yielding.{Yields, then_yields, any_yields, lead_yields, qualified_yields}
 
 -- ---- the path
 

@@ -1,9 +1,8 @@
 -- Statements that can be written, and the spellings of several joined.
-use Rattle.std.specs.Prelude.{◌≡◌, ℕ, ◌^◌, ℤ, pos, negsuc, Bool, nat_lt, true, false, List, [], ◌∷◌, ◌++◌, map, length, Option, Some, None}
+use Rattle.std.specs.Prelude.{◌≡◌, ℕ, ℤ, true, List, [], ◌∷◌, ◌++◌, map, Option, Some, None}
 use Rattle.copy_text.specs.Texts.{IsName, IsText}
 use Rattle.std.specs.List.{AllByRecursion, list_all}
 use Rattle.sql_lex.specs.Bytes.{in_line}
-use Rattle.cat_model.specs.declared.object.QName.{QName}
 use Rattle.cat_model.specs.declared.table.ColumnDef.{ColumnDef}
 use Rattle.cat_model.specs.declared.table.CheckDef.{CheckDef}
 use Rattle.cat_model.specs.declared.grant.Owned.{Owned}
@@ -13,34 +12,14 @@ use Rattle.cat_model.specs.declared.grant.Commented.TheVariants as commented
 use Rattle.cat_model.specs.declared.table.RoleChanges.{RoleChanges}
 use Rattle.cat_model.specs.declared.stmt.Stmt.{Stmt}
 use Rattle.cat_model.specs.declared.stmt.Stmt.TheVariants as stmt
-use Rattle.cat_model.specs.declared.type_name.TypeName.{TypeName}
-use Rattle.cat_model.specs.declared.type_name.TypeName.TheVariants as type_name
-use Rattle.ddl_parts.specs.Lexemes.{starts, is_sign}
-use Rattle.ddl_parts.specs.Parts.{Machine, Runs}
-use Rattle.ddl_parts.specs.Pieces.{lexemes}
-use Rattle.ddl_parts.specs.Collecting.{collected}
-use Rattle.ddl_parts.specs.Expressions.{nested}
-use Rattle.ddl_parts.specs.Types.{typing, type_of}
 use Rattle.ddl_lines.specs.CopyRows.{AreRows}
 use Rattle.ddl_write.specs.Spelling.{spelling}
+pub use Rattle.ddl_forms.specs.Texts.{IsInt, IsPath, IsRunText, IsExpressionText, IsBracketText, IsDefaultText, IsTypeText, IsType}
 use Rattle.ddl_rights.specs.Writable.{IsObject, AreRights, IsGrantee, IsGrantor}
 use Rattle.ddl_read.specs.declared.located.Located.{Located}
 use Rattle.ddl_read.specs.declared.rests.RestSpot.{RestSpot}
 use Rattle.ddl_read.specs.declared.rests.RestSpot.TheVariants.{Begin, Foreign}
 use Rattle.ddl_read.specs.Rests.{resting}
-use Rattle.ddl_read.specs.Reading.{first_start}
-
--- whether a number has 64 bits
-abbrev pub is_int : ℤ → Bool
-is_int (pos n) = nat_lt n (2 ^ 63)
-is_int (negsuc n) = nat_lt n (2 ^ 63)
-
-abbrev pub IsInt : ℤ → Type 0
-IsInt z = is_int z ≡ true
-
--- both parts of a path are names
-abbrev pub IsPath : QName → Type 0
-IsPath q = IsName q.schema × IsName q.name
 
 abbrev pub IsOwnedName : Owned → Type 0
 IsOwnedName (owned.Schema n) = IsName n
@@ -76,29 +55,6 @@ IsLimit (Some n) = IsInt n
 abbrev pub AreChanges : RoleChanges → Type 0
 AreChanges c = IsLimit c.limit × IsGivenText c.password × IsGivenText c.valid_until
 
--- A run of tokens and nothing else: the text begins with its first token and ends with its last.
-pub record IsRunText (m : Machine) (v : List ℕ) : Type 0 where
-  pub first : first_start (collected v 0).pieces ≡ Some 0
-  pub last : (collected v 0).end ≡ length v
-  pub runs : Runs m (lexemes v (collected v 0).pieces)
-
--- an expression
-abbrev pub IsExpressionText : List ℕ → Type 0
-IsExpressionText v = IsRunText (nested false false) v
-
--- an expression that begins with an opening bracket
-abbrev pub IsBracketText : List ℕ → Type 0
-IsBracketText v = IsExpressionText v × (starts (is_sign 40) (lexemes v (collected v 0).pieces) ≡ true)
-
--- a default that NOT NULL may not follow
-abbrev pub IsDefaultText : List ℕ → Type 0
-IsDefaultText v = IsRunText (nested true false) v
-
--- the words of a type, which are no qualified name
-pub record IsTypeText (v : List ℕ) : Type 0 where
-  pub run : IsRunText typing v
-  pub words : type_of (lexemes v (collected v 0).pieces) ≡ type_name.Words v
-
 -- columns of a key: names, one at least
 abbrev pub AreColumns : List (List ℕ) → Type 0
 AreColumns [] = ⊥
@@ -108,11 +64,6 @@ AreColumns (n ∷ more) = IsName n × AllByRecursion IsName more
 abbrev pub IsRest : RestSpot → List ℕ → Type 0
 IsRest s [] = Unit {0}
 IsRest s (b ∷ rest) = IsRunText (resting s) (b ∷ rest)
-
--- words that are a type, or a path
-abbrev pub IsType : TypeName → Type 0
-IsType (type_name.Words v) = IsTypeText v
-IsType (type_name.Path q) = IsPath q
 
 -- a default, if there is one
 abbrev pub IsDefault : Option (List ℕ) → Type 0

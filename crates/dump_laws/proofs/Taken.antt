@@ -29,7 +29,7 @@ use Rattle.ddl_laws.specs.Readings.{IsStatement, Reads, all_read, one_read}
 use Rattle.ddl_laws.specs.Respelling.{said}
 use Rattle.ddl_laws.proofs.GrammarLaws.{statement_laws}
 use Rattle.ddl_laws.proofs.ReadingLaws.{collected_first, ends_past, only}
-use Rattle.ddl_laws.proofs.Tokens.{name_means, name_no_sign}
+use Rattle.ddl_forms.proofs.Tokens.{name_means, name_no_sign}
 use Rattle.dump_schemas.specs.declared.rows.SchemaRow.{SchemaRow}
 use Rattle.dump_schemas.specs.Toc.{is_public}
 use Rattle.dump_schemas.specs.Order.{in_order}

@@ -20,13 +20,12 @@ use Rattle.ddl_parts.specs.Lexemes.{Lexeme, spelled, source, is_sign, start_of}
 use Rattle.ddl_parts.specs.Parts.{Machine, run, Runs}
 use Rattle.ddl_parts.specs.Pieces.{lexeme_of, lexemes}
 use Rattle.ddl_parts.specs.Collecting.{collected}
-use Rattle.ddl_read.specs.Grammar.{semicolon}
-use Rattle.ddl_read.specs.Reading.{first_start}
-use Rattle.ddl_laws.specs.Respelling.{IsRunText}
-use Rattle.ddl_laws.proofs.Closed.{only_last}
-use Rattle.ddl_laws.proofs.Standing.{is_safe, Stands, Stood, placed, NoSemicolon, collects_all}
-use Rattle.ddl_laws.proofs.Kept.{AllCame, NoLine, safe_ends, have_come, whole_text, stands_again, all_stand_again, spelled-append}
-use Rattle.ddl_laws.proofs.Tokens.{word_token, name_token, Gap, none as none_before, Begun, gap_stands, begun_some, word_begun, name_begun}
+use Rattle.ddl_forms.specs.Texts.{semicolon}
+use Rattle.ddl_forms.specs.Texts.{IsRunText}
+use Rattle.ddl_forms.proofs.Closing.{only_last}
+use Rattle.ddl_forms.proofs.Standing.{is_safe, Stands, Stood, placed, NoSemicolon, collects_all}
+use Rattle.ddl_forms.proofs.Kept.{AllCame, NoLine, safe_ends, have_come, whole_text, stands_again, all_stand_again, spelled-append}
+use Rattle.ddl_forms.proofs.Tokens.{word_token, name_token, Gap, none as none_before, Begun, gap_stands, begun_some, word_begun, name_begun}
 
 -- ---- machines
 
@@ -220,7 +219,7 @@ kept_by m h g v t ts others r gap is runs came same stood safe =
       same = λ at. kinds_placed at (gapped g t ∷ ts) ∙ same;
     }
 
-first_gap : (m : Machine) → IsPlainMachine m → (g v : List ℕ) (ps : List Piece) (others : List Lexeme) → Gap g → first_start ps ≡ Some 0 → Runs m (lexemes v ps) → AllCame (lexemes v ps) [] → v ≡ spelled (lexemes v ps)
+first_gap : (m : Machine) → IsPlainMachine m → (g v : List ℕ) (ps : List Piece) (others : List Lexeme) → Gap g → start_of (lexemes v ps) ≡ Some 0 → Runs m (lexemes v ps) → AllCame (lexemes v ps) [] → v ≡ spelled (lexemes v ps)
     → kinds (lexemes v ps) ≡ kinds (lexemes v (collected v 0).pieces) → Stood others → IsSafe others → IsRunKept m g v others
 first_gap m h g v [] others gap first runs came whole same stood safe = absurd cc
 first_gap m h g v (p ∷ ps) others gap first runs came whole same stood safe =
@@ -248,10 +247,6 @@ nothing_follows after e = e
 kept_alone : (ts : List Lexeme) (r : List ℕ) → NoLine ts → AllCame ts r → Stood ts
 kept_alone ts r line came = subst Stood (append-nil ts) (all_stand_again ts [] r line came tt nothing_follows)
 
-first_is : (text : List ℕ) (ps : List Piece) → start_of (lexemes text ps) ≡ first_start ps
-first_is text [] = refl
-first_is text (p ∷ ps) = refl
-
 -- what tokens of a text say, as a text of its own: a run's text, with tokens of the same kinds
 pub record IsRunRead (m : Machine) (ts : List Lexeme) : Type 0 where
   pub text : IsRunText m (source ts)
@@ -272,7 +267,7 @@ run_read m h (t ∷ ts) r came runs =
     let c = collects_all v us refl stood (all.0.ends, no_semicolons ts all.1) in
     record {
       text = record {
-        first = sym (first_is v (collected v 0).pieces) ∙ ap start_of c.tokens;
+        first = ap start_of c.tokens;
         last = c.end ∙ (let e : 0 + length v ≡ length v = omega arith in e);
         runs = subst (Runs m) (sym c.tokens) (record { last = runs.last; runs = run_gapped m h [] 0 t ts ∙ runs.runs; done = runs.done });
       };

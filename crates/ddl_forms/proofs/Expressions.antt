@@ -7,13 +7,13 @@ use Rattle.ddl_parts.specs.declared.runs.Spot.{Spot}
 use Rattle.ddl_parts.specs.Lexemes.{Lexeme, spelled, source, is_sign, is_sign_kind, is_word}
 use Rattle.ddl_parts.specs.Parts.{Runs}
 use Rattle.ddl_parts.specs.Expressions.{Nest, nested, nest_step, nest_done, ends_run, is_end_kind, behind_kind, step_by, moved, expression}
-use Rattle.ddl_read.specs.Grammar.{semicolon}
-use Rattle.ddl_laws.specs.Respelling.{IsExpressionText}
-use Rattle.ddl_laws.proofs.Standing.{Stood, placed}
-use Rattle.ddl_laws.proofs.Kept.{AllCame}
-use Rattle.ddl_laws.proofs.Tokens.{Gap}
-use Rattle.ddl_laws.proofs.RunTexts.{IsPlainMachine, AllPlain, not_some, run_kept, run_read}
-pub use Rattle.ddl_laws.proofs.RunTexts.{IsSafe, placed-append, last_more, plain_last}
+use Rattle.ddl_forms.specs.Texts.{semicolon}
+use Rattle.ddl_forms.specs.Texts.{IsExpressionText}
+use Rattle.ddl_forms.proofs.Standing.{Stood, placed}
+use Rattle.ddl_forms.proofs.Kept.{AllCame}
+use Rattle.ddl_forms.proofs.Tokens.{Gap}
+use Rattle.ddl_forms.proofs.RunTexts.{IsPlainMachine, AllPlain, not_some, run_kept, run_read}
+pub use Rattle.ddl_forms.proofs.RunTexts.{IsSafe, placed-append, last_more, plain_last}
 
 -- ---- the tokens of a run
 

@@ -16,12 +16,12 @@ use Rattle.ddl_parts.specs.Lexemes.{Lexeme, spelled, source, is_word, is_sign}
 use Rattle.ddl_parts.specs.Parts.{run, Runs}
 use Rattle.ddl_parts.specs.Expressions.{Nest, nested, nest_step, nest_done, ends_run, behind_kind, behind_not, behind_null, behind_other, is_inside, moved, step_by, default_text, default_and_null, are_not_null, without_not_null}
 use Rattle.ddl_parts.proofs.Leads.{words_apart}
-use Rattle.ddl_laws.specs.Respelling.{IsDefaultText}
-use Rattle.ddl_laws.proofs.Standing.{Stood, placed}
-use Rattle.ddl_laws.proofs.Kept.{AllCame, came_front}
-use Rattle.ddl_laws.proofs.Tokens.{Gap, space, word_token, a_word}
-use Rattle.ddl_laws.proofs.RunTexts.{AllPlain, IsSafe, not_some, run_none, run-append, placed-append, run_kept, run_read, safe_word}
-use Rattle.ddl_laws.proofs.Expressions.{nested_plain}
+use Rattle.ddl_forms.specs.Texts.{IsDefaultText}
+use Rattle.ddl_forms.proofs.Standing.{Stood, placed}
+use Rattle.ddl_forms.proofs.Kept.{AllCame, came_front}
+use Rattle.ddl_forms.proofs.Tokens.{Gap, space, word_token, a_word}
+use Rattle.ddl_forms.proofs.RunTexts.{AllPlain, IsSafe, not_some, run_none, run-append, placed-append, run_kept, run_read, safe_word}
+use Rattle.ddl_forms.proofs.Expressions.{nested_plain}
 
 -- ---- steps of the two machines of defaults
 

@@ -25,7 +25,7 @@ use Rattle.ddl_parts.specs.Lexemes.{Lexeme, spelled, is_sign_kind}
 use Rattle.ddl_parts.specs.Pieces.{lexeme_of, lexemes}
 use Rattle.ddl_parts.specs.Collecting.{Collected, collected, collected_within, collected_by, nothing_more, preceded}
 use Rattle.ddl_parts.proofs.Slices.{drop_twice, seam}
-use Rattle.ddl_laws.proofs.Standing.{is_safe, is_safe_byte, Stands, Stood}
+use Rattle.ddl_forms.proofs.Standing.{is_safe, is_safe_byte, Stands, Stood}
 
 -- ---- tokens as they came
 

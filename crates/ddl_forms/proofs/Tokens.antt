@@ -23,7 +23,7 @@ use Rattle.sql_lex.proofs.WriteLaws.{spelling_is_read, gap_is_passed, name_is_re
 use Rattle.copy_text.specs.Texts.{IsName}
 use Rattle.ddl_parts.specs.Lexemes.{Lexeme, is_sign_kind}
 use Rattle.ddl_parts.specs.Leaves.{name_in, name_value, text_in, literal_value}
-use Rattle.ddl_laws.proofs.Standing.{GapStands, TokenStands, Stands}
+use Rattle.ddl_forms.proofs.Standing.{GapStands, TokenStands, Stands}
 
 -- ---- the tokens
 

@@ -1,5 +1,5 @@
 -- What is read of a text has a property: how parts that are put together have it, and names, texts and expressions.
-use Rattle.std.proofs.Common.{◌≡◌, ℕ, Bool, true, false, cond, List, [], ◌∷◌, ◌++◌, Option, Some, None, Result, Ok, Err, refl, sym, ap, subst, ◌∙◌, ◌⊎◌, inl, inr, codes}
+use Rattle.std.proofs.Common.{◌≡◌, ℕ, Bool, true, false, cond, List, [], ◌∷◌, ◌++◌, Option, Some, None, Result, Ok, Err, refl, sym, ap, subst, ◌∙◌, ◌⊎◌, inl, inr}
 use Rattle.std.specs.List.{AllByRecursion}
 use Rattle.std.specs.Str.{IsUtf8, is_utf8}
 use Rattle.std.proofs.lemmas.Str.{IsUtf8-from_is_utf8}
@@ -9,11 +9,10 @@ use Rattle.ddl_parts.specs.Lexemes.{Lexeme, is_word, is_sign, spelled, source}
 use Rattle.ddl_parts.specs.Parts.{Part, Branch, branch, one_of, Items, Many, no_more, one_more as one_item, mark, seen, choose, many, ◌then◌, ◌▸◌, ◌◂◌}
 use Rattle.ddl_parts.specs.Leaves.{name, name_value, literal, literal_value, text_in, qualified}
 use Rattle.ddl_parts.specs.Expressions.{expression}
-use Rattle.ddl_read.specs.Clauses.{named_check}
-use Rattle.ddl_laws.specs.Respelling.{IsPath, IsExpressionText, IsCheck}
-use Rattle.ddl_laws.proofs.Kept.{AllCame, came_front, came_behind}
-use Rattle.ddl_laws.proofs.Expressions.{expression_text}
-use Rattle.ddl_laws.proofs.Types.{name_in_is}
+use Rattle.ddl_forms.specs.Texts.{IsPath, IsExpressionText}
+use Rattle.ddl_forms.proofs.Kept.{AllCame, came_front, came_behind}
+use Rattle.ddl_forms.proofs.Expressions.{expression_text}
+use Rattle.ddl_forms.proofs.Types.{name_in_is}
 
 -- ---- parts
 
@@ -100,23 +99,3 @@ many_yields {A} P goes_on items each v ts r came spells = by items.start v ts r 
     by s _ _ r came (no_more _) = tt
     by s _ _ r came (one_item _ v vs a b spells others) =
         (each s v a (spelled b ++ r) (came_front a b r came) spells, by (items.next s v) vs b r (came_behind a b r came) others)
-
--- ---- checks
-
-abbrev closing : Part (List ℕ)
-closing = expression ◂ is_sign 41
-
-abbrev checked : Part (List ℕ)
-checked = is_word (codes "check") ▸ (is_sign 40 ▸ closing)
-
-abbrev IsNamed : List ℕ × List ℕ → Type 0
-IsNamed x = IsName x.0 × IsExpressionText x.1
-
-pub named_check_yields : Yields IsCheck named_check
-unfolding named_check
-named_check_yields v ts r came spells =
-    let all = lead_yields IsNamed (is_word (codes "constraint")) (name then checked)
-    (then_yields IsName IsExpressionText name checked name_yields
-    (lead_yields IsExpressionText (is_word (codes "check")) (is_sign 40 ▸ closing)
-    (lead_yields IsExpressionText (is_sign 40) closing (end_yields IsExpressionText (is_sign 41) expression expression_yields)))) in
-    subst IsCheck (sym spells.1) (all spells.0 ts r came spells.2)

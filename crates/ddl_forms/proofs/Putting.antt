@@ -16,14 +16,14 @@ use Rattle.ddl_parts.specs.Parts.{Part, Items, Many, no_more, one_more, many, ma
 use Rattle.ddl_parts.specs.Leaves.{name, literal, qualified}
 use Rattle.ddl_write.specs.Paths.{path}
 use Rattle.ddl_parts.specs.Expressions.{expression}
-use Rattle.ddl_read.specs.Clauses.{semicolon}
-use Rattle.ddl_laws.specs.Respelling.{IsPath, IsExpressionText}
-use Rattle.ddl_laws.proofs.Closed.{only_last}
-use Rattle.ddl_laws.proofs.Kept.{spelled-append}
-use Rattle.ddl_laws.proofs.RunTexts.{IsSafe, placed-append, last_more, plain_last}
-use Rattle.ddl_laws.proofs.Expressions.{kept}
-use Rattle.ddl_laws.proofs.Standing.{is_safe, is_safe_byte, Stands, Stood, placed}
-use Rattle.ddl_laws.proofs.Tokens.{word_token, sign_token, name_token, literal_token, Gap, none, a_word, a_sign, a_name, a_literal, name_means, literal_means, name_no_sign}
+use Rattle.ddl_forms.specs.Texts.{semicolon}
+use Rattle.ddl_forms.specs.Texts.{IsPath, IsExpressionText}
+use Rattle.ddl_forms.proofs.Closing.{only_last}
+use Rattle.ddl_forms.proofs.Kept.{spelled-append}
+use Rattle.ddl_forms.proofs.RunTexts.{IsSafe, placed-append, last_more, plain_last}
+use Rattle.ddl_forms.proofs.Expressions.{kept}
+use Rattle.ddl_forms.proofs.Standing.{is_safe, is_safe_byte, Stands, Stood, placed}
+use Rattle.ddl_forms.proofs.Tokens.{word_token, sign_token, name_token, literal_token, Gap, none, a_word, a_sign, a_name, a_literal, name_means, literal_means, name_no_sign}
 
 -- ---- first bytes
 

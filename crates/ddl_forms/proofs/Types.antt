@@ -27,12 +27,12 @@ use Rattle.ddl_parts.specs.declared.types.TypeSpot.{TypeSpot}
 use Rattle.ddl_parts.specs.declared.types.TypeSpot.TheVariants.{Begin, FirstWord, Schema, Dotted, Path, Words, Opened, Counted, Further, Behind, Array, Ended}
 use Rattle.ddl_parts.specs.Types.{typing, type_step, type_done, is_type_word, is_number, if_name, only_if, named, type_of, type_part}
 use Rattle.ddl_write.specs.Paths.{path as path_text}
-use Rattle.ddl_read.specs.Grammar.{semicolon}
-use Rattle.ddl_laws.specs.Respelling.{IsPath, IsTypeText, IsType}
-use Rattle.ddl_laws.proofs.Standing.{Stood, placed}
-use Rattle.ddl_laws.proofs.Kept.{AllCame}
-use Rattle.ddl_laws.proofs.Tokens.{sign_token, name_token, Gap, none, a_name, a_sign, name_means, name_no_sign}
-use Rattle.ddl_laws.proofs.RunTexts.{IsPlainMachine, AllPlain, IsSafe, not_some, run_none, kinds, name_no_line, safe_name, run_kept, run_read}
+use Rattle.ddl_forms.specs.Texts.{semicolon}
+use Rattle.ddl_forms.specs.Texts.{IsPath, IsTypeText, IsType}
+use Rattle.ddl_forms.proofs.Standing.{Stood, placed}
+use Rattle.ddl_forms.proofs.Kept.{AllCame}
+use Rattle.ddl_forms.proofs.Tokens.{sign_token, name_token, Gap, none, a_name, a_sign, name_means, name_no_sign}
+use Rattle.ddl_forms.proofs.RunTexts.{IsPlainMachine, AllPlain, IsSafe, not_some, run_none, kinds, name_no_line, safe_name, run_kept, run_read}
 
 -- ---- the machine
 

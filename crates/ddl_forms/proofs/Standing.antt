@@ -12,8 +12,8 @@ use Rattle.ddl_parts.specs.declared.pieces.Piece.{Piece}
 use Rattle.ddl_parts.specs.Lexemes.{Lexeme, spelled, is_sign, is_sign_kind}
 use Rattle.ddl_parts.specs.Pieces.{lexeme_of, lexemes}
 use Rattle.ddl_parts.specs.Collecting.{Collected, collected, collected_within, collected_by, nothing_more, preceded}
-use Rattle.ddl_read.specs.Grammar.{semicolon}
-use Rattle.ddl_laws.proofs.Closed.{ends_with, only_last}
+use Rattle.ddl_forms.specs.Texts.{semicolon}
+use Rattle.ddl_forms.proofs.Closing.{ends_with, only_last}
 
 -- ---- what stands
 
