@@ -51,15 +51,6 @@ lead_closes test which p closes = seen_closes test (λ x. x.1) (mark which then 
 pub end_closes : {A : Type 0} (test : Lexeme → Bool) (p : Part A) → Closes test (p ◂ test)
 end_closes test p = seen_closes test (λ x. x.0) (p then mark test) (then_closes test p (mark test) (mark_closes test))
 
-abbrev pub AllClose : {A : Type 0} → (Lexeme → Bool) → Branch A → List (Branch A) → Type 0
-AllClose test b [] = Closes test b.part
-AllClose test b (c ∷ rest) = Closes test b.part × AllClose test c rest
-
-pub one_of_closes : {A : Type 0} (test : Lexeme → Bool) (b : Branch A) (rest : List (Branch A)) → AllClose test b rest → Closes test (one_of b rest)
-one_of_closes test b [] closes = lead_closes test (is_word b.key) b.part closes
-one_of_closes test b (c ∷ rest) closes =
-    choose_closes test (is_word b.key) (branch b) (one_of c rest) (lead_closes test (is_word b.key) b.part closes.0) (one_of_closes test c rest closes.1)
-
 -- ---- no semicolon before the last token
 
 abbrev pub only_last : (Lexeme → Bool) → List Lexeme → Bool

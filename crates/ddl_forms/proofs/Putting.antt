@@ -85,9 +85,6 @@ behind k = record { stood = k.stood; last = k.last }
 pub begun : {A : Type 0} {p : Part A} {v : A} {text : List ℕ} {others : List Lexeme} (test : ℕ → Bool) (k : IsPut p v text others) → begins_by test text ≡ true → begins_by test (spelled (k.tokens ++ others)) ≡ true
 begun {others = others} test k e = ap (begins_by test) (spelled-append k.tokens others) ∙ begins-append test (spelled k.tokens) (spelled others) (ap (begins_by test) k.bytes ∙ e)
 
-pub begun_whole : {A : Type 0} {p : Part A} {v : A} {text : List ℕ} {others : List Lexeme} (test : ℕ → Bool) (k : IsPut p v text others) → begins_by test (text ++ spelled others) ≡ true → begins_by test (spelled (k.tokens ++ others)) ≡ true
-begun_whole {others = others} test k e = ap (begins_by test) (spelled-append k.tokens others ∙ ap (λ (x : List ℕ). x ++ spelled others) k.bytes) ∙ e
-
 pub same_text : {A : Type 0} {p : Part A} {v : A} {others : List Lexeme} (a b : List ℕ) → a ≡ b → IsPut p v a others → IsPut p v b others
 same_text {p = p} {v = v} {others = others} a b e k = subst (λ (x : List ℕ). IsPut p v x others) e k
 

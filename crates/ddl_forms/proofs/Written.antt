@@ -1,6 +1,6 @@
 -- A part of the grammar with the texts of its values: what can be written lies in tokens that spell it, wherever they
 -- are put, and what tokens of a text spell can be written. A law for each way to put parts together.
-use Rattle.std.proofs.Common.{◌≡◌, ℕ, ◌+◌, ◌<◌, ◌≤◌, Bool, true, false, not, cond, ◌&&◌, ◌||◌, List, [], ◌∷◌, ◌++◌, length, append_assoc, Option, Some, None, refl, sym, ap, subst, ◌∙◌, ◌⊎◌, inl, inr, arith}
+use Rattle.std.proofs.Common.{◌≡◌, ℕ, ◌+◌, ◌<◌, ◌≤◌, Bool, true, false, not, cond, ◌&&◌, ◌||◌, List, [], ◌∷◌, ◌++◌, length, append_assoc, append-nil, Option, Some, None, refl, sym, ap, subst, ◌∙◌, ◌⊎◌, inl, inr, arith}
 use Rattle.std.specs.Prelude.{◌==◌, nat_lt}
 use Rattle.std.proofs.lemmas.Bool.{and_parts, or_parts, not-true, lt-ltb}
 use Rattle.std.proofs.lemmas.Bool.Decides.{nat_tests}
@@ -12,7 +12,7 @@ use Rattle.sql_lex.specs.declared.token.TokenKind.TheVariants.{Word}
 use Rattle.sql_lex.specs.Meaning.{is_keyword_of}
 use Rattle.sql_lex.specs.Written.{written_name, written_literal}
 use Rattle.copy_text.specs.Texts.{IsName}
-use Rattle.ddl_write.specs.Paths.{path}
+use Rattle.ddl_write.specs.Paths.{path, joined}
 use Rattle.ddl_parts.specs.Lexemes.{Lexeme, is_word, is_sign, spelled}
 use Rattle.ddl_parts.specs.Parts.{Part, Items, Many, no_more, one_more, many, mark, seen, choose, nothing, optional, wider, ◌then◌, ◌▸◌, ◌◂◌}
 use Rattle.ddl_parts.specs.Leaves.{name, literal, qualified}
@@ -34,16 +34,46 @@ abbrev pub is_end : List ℕ → Bool
 is_end [] = true
 is_end (b ∷ rest) = false
 
--- which values of a part can be written and how, and what may stand behind; where it is closed, each spelling of a
--- value ends with a semicolon
+-- Which values of a part can be written and how, and what may stand behind. The text is given in one way by its parts
+-- and in another as pieces one after another, so that texts put together otherwise compute to the same. Where it is
+-- closed, each spelling of a value ends with a semicolon.
 pub record Written {A : Type 0} (p : Part A) : Type 1 where
   pub Fit : A → Type 0
   pub text : A → List ℕ
+  pub pieces : A → List (List ℕ)
+  pub same : (v : A) → text v ≡ joined (pieces v)
   pub after : List ℕ → Bool
   pub closed : Bool
   pub put : (v : A) → Fit v → (others : List Lexeme) → Follows others → after (spelled others) ≡ true → IsPut p v (text v) others
   pub made : Yields Fit p
   pub closes : closed ≡ true → Closes semicolon p
+
+pub one_piece : (text : List ℕ) → text ≡ joined (text ∷ [])
+one_piece text = sym (append-nil text)
+
+pub joined-append : (a b : List (List ℕ)) → joined (a ++ b) ≡ joined a ++ joined b
+joined-append [] b = refl
+joined-append (x ∷ a) b = ap (λ (y : List ℕ). x ++ y) (joined-append a b) ∙ sym (append_assoc x (joined a) (joined b))
+
+pub two_texts : (a b : List ℕ) (x y : List (List ℕ)) → a ≡ joined x → b ≡ joined y → a ++ b ≡ joined (x ++ y)
+two_texts a b x y e f = ap (λ (t : List ℕ). t ++ b) e ∙ ap (λ (t : List ℕ). joined x ++ t) f ∙ sym (joined-append x y)
+
+pub no_semicolon : {A : Type 0} (p : Part A) → false ≡ true → Closes semicolon p
+no_semicolon p e = absurd cc
+
+-- a part whose text is one piece, and that doesn't end with a semicolon
+abbrev pub leaf_as : {A : Type 0} → {p : Part A} → (Fit : A → Type 0) → (text : A → List ℕ) → (after : List ℕ → Bool) → ((v : A) → Fit v → (others : List Lexeme) → Follows others → after (spelled others) ≡ true → IsPut p v (text v) others) → Yields Fit p → Written p
+leaf_as {p = p} Fit text after put made = record {
+  Fit = Fit;
+  text = text;
+  pieces = λ v. text v ∷ [];
+  same = λ v. one_piece (text v);
+  after = after;
+  closed = false;
+  put = put;
+  made = made;
+  closes = no_semicolon p;
+}
 
 -- what may stand behind the one stands behind it where this is written
 abbrev pub Meets : {A : Type 0} → {p : Part A} → (List ℕ → Bool) → Written p → Type 0
@@ -57,6 +87,8 @@ begun_as {others = others} test k e = ap test (spelled-append k.tokens others �
 -- a token that says no more
 pub record Mark (test : Lexeme → Bool) : Type 0 where
   pub bytes : List ℕ
+  pub pieces : List (List ℕ)
+  pub same : bytes ≡ joined pieces
   pub after : List ℕ → Bool
   pub closed : Bool
   pub put : (others : List Lexeme) → Follows others → after (spelled others) ≡ true → IsPut (mark test) tt bytes others
@@ -77,13 +109,12 @@ key_is key (b ∷ w) e =
     let last = and_parts _ _ rest.1 in
     record { word = (first.0, rest.0); utf8 = last.0; same = last.1 }
 
-pub no_semicolon : {A : Type 0} (p : Part A) → false ≡ true → Closes semicolon p
-no_semicolon p e = absurd cc
-
 -- a key word, as it is written
 abbrev pub word_as : {g : List ℕ} → Gap g → (w : List ℕ) → is_key (str_to_ascii_lowercase w) w ≡ true → Mark (is_word (str_to_ascii_lowercase w))
 word_as {g} gap w is = record {
   bytes = g ++ w;
+  pieces = g ∷ w ∷ [];
+  same = ap (λ (x : List ℕ). g ++ x) (one_piece w);
   after = begins_by parts_words;
   closed = false;
   put = λ others follows e. word_put (str_to_ascii_lowercase w) w g others (key_is (str_to_ascii_lowercase w) w is) gap follows e;
@@ -111,6 +142,8 @@ plain_sign b e =
 abbrev pub sign_as : {g : List ℕ} → Gap g → (b : ℕ) → is_plain b ≡ true → Mark (is_sign b)
 sign_as {g} gap b is = record {
   bytes = g ++ b ∷ [];
+  pieces = g ∷ (b ∷ []) ∷ [];
+  same = refl;
   after = anything;
   closed = false;
   put = λ others follows e. sign_put b g others (plain_sign b is).0 (inl (plain_sign b is).1) gap follows;
@@ -134,6 +167,8 @@ semicolon_sign = record { sign = refl; solid = refl; utf8 = refl; minus = refl; 
 abbrev pub ending : Mark semicolon
 ending = record {
   bytes = 59 ∷ [];
+  pieces = (59 ∷ []) ∷ [];
+  same = refl;
   after = is_end;
   closed = true;
   put = λ others follows e. sign_put 59 [] others semicolon_sign (inr (none_behind others follows.stood e)) none follows;
@@ -144,6 +179,8 @@ abbrev pub mark_as : {test : Lexeme → Bool} → Mark test → Written (mark te
 mark_as {test} m = record {
   Fit = λ u. Unit {0};
   text = λ u. m.bytes;
+  pieces = λ u. m.pieces;
+  same = λ u. m.same;
   after = m.after;
   closed = m.closed;
   put = λ u fit others follows e. m.put others follows e;
@@ -154,47 +191,34 @@ mark_as {test} m = record {
 -- ---- parts of one token, and paths and expressions
 
 abbrev pub name_as : {g : List ℕ} → Gap g → Written name
-name_as {g} gap = record {
-  Fit = IsName;
-  text = λ n. g ++ written_name n;
-  after = begins_by parts_words;
-  closed = false;
-  put = λ n is others follows e. name_put n g others is gap follows e;
-  made = name_yields;
-  closes = no_semicolon name;
-}
+name_as {g} gap = leaf_as IsName (λ n. g ++ written_name n) (begins_by parts_words) (λ n is others follows e. name_put n g others is gap follows e) name_yields
 
 abbrev pub literal_as : {g : List ℕ} → Gap g → Written literal
-literal_as {g} gap = record {
-  Fit = IsUtf8;
-  text = λ t. g ++ written_literal t;
-  after = begins_by parts_words;
-  closed = false;
-  put = λ t is others follows e. literal_put t g others is gap follows e;
-  made = literal_yields;
-  closes = no_semicolon literal;
-}
+literal_as {g} gap = leaf_as IsUtf8 (λ t. g ++ written_literal t) (begins_by parts_words) (λ t is others follows e. literal_put t g others is gap follows e) literal_yields
 
 abbrev pub path_as : {g : List ℕ} → Gap g → Written qualified
-path_as {g} gap = record {
-  Fit = IsPath;
-  text = λ q. g ++ path q;
-  after = begins_by parts_words;
-  closed = false;
-  put = λ q is others follows e. path_put q g others is gap follows e;
-  made = qualified_yields;
-  closes = no_semicolon qualified;
-}
+path_as {g} gap = leaf_as IsPath (λ q. g ++ path q) (begins_by parts_words) (λ q is others follows e. path_put q g others is gap follows e) qualified_yields
 
 abbrev pub expression_as : {g : List ℕ} → Gap g → Written expression
-expression_as {g} gap = record {
-  Fit = IsExpressionText;
-  text = λ v. g ++ v;
-  after = begins_by is_safe_byte;
-  closed = false;
-  put = λ v is others follows e. expression_put v g others is gap follows e;
-  made = expression_yields;
-  closes = no_semicolon expression;
+expression_as {g} gap = leaf_as IsExpressionText (λ v. g ++ v) (begins_by is_safe_byte) (λ v is others follows e. expression_put v g others is gap follows e) expression_yields
+
+-- ---- a part that ends its statement
+
+pub ended_puts : {A : Type 0} {p : Part A} (Fit : A → Type 0) (text : A → List ℕ) → ((v : A) → Fit v → IsPut p v (text v) []) → (v : A) → Fit v → (others : List Lexeme) → Follows others → is_end (spelled others) ≡ true → IsPut p v (text v) others
+ended_puts {p = p} Fit text put v fit others follows e = subst (λ (us : List Lexeme). IsPut p v (text v) us) (sym (none_behind others follows.stood e)) (put v fit)
+
+-- the pieces of its text, and how it is put where nothing is behind it
+abbrev pub ended_as : {A : Type 0} → {p : Part A} → (Fit : A → Type 0) → (pieces : A → List (List ℕ)) → ((v : A) → Fit v → IsPut p v (joined (pieces v)) []) → Yields Fit p → Closes semicolon p → Written p
+ended_as Fit pieces put made closes = record {
+  Fit = Fit;
+  text = λ v. joined (pieces v);
+  pieces = pieces;
+  same = λ v. refl;
+  after = is_end;
+  closed = true;
+  put = ended_puts Fit (λ v. joined (pieces v)) put;
+  made = made;
+  closes = λ e. closes;
 }
 
 -- ---- one after another
@@ -208,6 +232,8 @@ abbrev pub then_as : {A B : Type 0} → {p : Part A} → {q : Part B} → (a : W
 then_as {p = p} {q = q} a b meets = record {
   Fit = λ v. a.Fit v.0 × b.Fit v.1;
   text = λ v. a.text v.0 ++ b.text v.1;
+  pieces = λ v. a.pieces v.0 ++ b.pieces v.1;
+  same = λ v. two_texts (a.text v.0) (b.text v.1) (a.pieces v.0) (b.pieces v.1) (a.same v.0) (b.same v.1);
   after = b.after;
   closed = b.closed;
   put = then_puts a b meets;
@@ -225,6 +251,8 @@ abbrev pub lead_as : {A : Type 0} → {test : Lexeme → Bool} → {p : Part A} 
 lead_as {test = test} {p = p} m w meets = record {
   Fit = w.Fit;
   text = λ v. m.bytes ++ w.text v;
+  pieces = λ v. m.pieces ++ w.pieces v;
+  same = λ v. two_texts m.bytes (w.text v) m.pieces (w.pieces v) m.same (w.same v);
   after = w.after;
   closed = w.closed;
   put = lead_puts m w meets;
@@ -249,6 +277,8 @@ abbrev pub close_as : {A : Type 0} → {test : Lexeme → Bool} → {p : Part A}
 close_as {test = test} {p = p} w m meets = record {
   Fit = w.Fit;
   text = λ v. w.text v ++ m.bytes;
+  pieces = λ v. w.pieces v ++ m.pieces;
+  same = λ v. two_texts (w.text v) m.bytes (w.pieces v) m.pieces (w.same v) m.same;
   after = m.after;
   closed = m.closed;
   put = close_puts w m meets;
@@ -270,6 +300,8 @@ abbrev pub seen_as : {A B : Type 0} → {p : Part A} → (f : A → B) → (back
 seen_as {p = p} f back w goes = record {
   Fit = λ x. w.Fit (back x) × (f (back x) ≡ x);
   text = λ x. w.text (back x);
+  pieces = λ x. w.pieces (back x);
+  same = λ x. w.same (back x);
   after = w.after;
   closed = w.closed;
   put = seen_puts f back w;
@@ -279,43 +311,35 @@ seen_as {p = p} f back w goes = record {
 
 -- the same values, said in other words
 abbrev pub fit_as : {A : Type 0} → {p : Part A} → (w : Written p) → (Fit : A → Type 0) → ((v : A) → Fit v → w.Fit v) → ((v : A) → w.Fit v → Fit v) → Written p
-fit_as w Fit to from = record {
-  Fit = Fit;
-  text = w.text;
-  after = w.after;
-  closed = w.closed;
-  put = λ v fit others follows e. w.put v (to v fit) others follows e;
-  made = λ v ts r came spells. from v (w.made v ts r came spells);
-  closes = w.closes;
-}
+fit_as w Fit to from = record w { Fit = Fit; put = λ v fit others follows e. w.put v (to v fit) others follows e; made = λ v ts r came spells. from v (w.made v ts r came spells) }
 
 -- where less may stand behind
 abbrev pub after_as : {A : Type 0} → {p : Part A} → (w : Written p) → (after : List ℕ → Bool) → ((rest : List ℕ) → after rest ≡ true → w.after rest ≡ true) → Written p
-after_as w after may = record {
-  Fit = w.Fit;
-  text = w.text;
-  after = after;
-  closed = w.closed;
-  put = λ v fit others follows e. w.put v fit others follows (may (spelled others) e);
-  made = w.made;
-  closes = w.closes;
-}
+after_as w after may = record w { after = after; put = λ v fit others follows e. w.put v fit others follows (may (spelled others) e) }
 
 pub text_puts : {A : Type 0} {p : Part A} (w : Written p) (text : A → List ℕ) → ((v : A) → w.Fit v → w.text v ≡ text v) → (v : A) → w.Fit v → (others : List Lexeme) → Follows others → w.after (spelled others) ≡ true → IsPut p v (text v) others
 text_puts {p = p} w text same v fit others follows e = subst (λ (x : List ℕ). IsPut p v x others) (same v fit) (w.put v fit others follows e)
 
 -- the same text, put together otherwise
 abbrev pub text_as : {A : Type 0} → {p : Part A} → (w : Written p) → (text : A → List ℕ) → ((v : A) → w.Fit v → w.text v ≡ text v) → Written p
-text_as w text same = record { Fit = w.Fit; text = text; after = w.after; closed = w.closed; put = text_puts w text same; made = w.made; closes = w.closes }
+text_as w text same = record w { text = text; pieces = λ v. text v ∷ []; same = λ v. one_piece (text v); put = text_puts w text same }
+
+-- the same text in other pieces
+abbrev pub pieces_as : {A : Type 0} → {p : Part A} → (w : Written p) → (pieces : A → List (List ℕ)) → ((v : A) → w.text v ≡ joined (pieces v)) → Written p
+pieces_as w pieces same = record w { pieces = pieces; same = same }
 
 pub wider_puts : {A : Type 0} {p : Part A} (more : Lexeme → Bool) (w : Written p) (v : A) → w.Fit v → (others : List Lexeme) → Follows others → w.after (spelled others) ≡ true → IsPut (wider more p) v (w.text v) others
 wider_puts {p = p} more w v fit others follows e = put_as p (wider more p) v v (w.text v) others (w.put v fit others follows e) (λ ts h. h)
 
 -- the same part, where further tokens could belong to it
 abbrev pub wider_as : {A : Type 0} → {p : Part A} → (more : Lexeme → Bool) → (w : Written p) → Written (wider more p)
-wider_as more w = record { Fit = w.Fit; text = w.text; after = w.after; closed = w.closed; put = wider_puts more w; made = w.made; closes = w.closes }
+wider_as more w = record { Fit = w.Fit; text = w.text; pieces = w.pieces; same = w.same; after = w.after; closed = w.closed; put = wider_puts more w; made = w.made; closes = w.closes }
 
 -- ---- one of two
+
+pub chosen_text : (c : Bool) (a b : List ℕ) (x y : List (List ℕ)) → a ≡ joined x → b ≡ joined y → cond c a b ≡ joined (cond c x y)
+chosen_text true a b x y e f = e
+chosen_text false a b x y e f = f
 
 abbrev pub FitBy : Bool → Type 0 → Type 0 → Type 0
 FitBy true A B = A
@@ -341,6 +365,8 @@ abbrev pub choose_as : {A : Type 0} → {p q : Part A} → (test : Lexeme → Bo
 choose_as {p = p} {q = q} test kind a b one other = record {
   Fit = λ v. FitBy (kind v) (a.Fit v) (b.Fit v);
   text = λ v. cond (kind v) (a.text v) (b.text v);
+  pieces = λ v. cond (kind v) (a.pieces v) (b.pieces v);
+  same = λ v. chosen_text (kind v) (a.text v) (b.text v) (a.pieces v) (b.pieces v) (a.same v) (b.same v);
   after = λ rest. a.after rest && b.after rest;
   closed = a.closed && b.closed;
   put = choose_puts test kind a b;
@@ -358,6 +384,8 @@ abbrev pub either_as : {A : Type 0} → {p q : Part A} → (test : Lexeme → Bo
 either_as {p = p} {q = q} test kind Fit a b to one other = record {
   Fit = Fit;
   text = λ v. cond (kind v) (a.text v) (b.text v);
+  pieces = λ v. cond (kind v) (a.pieces v) (b.pieces v);
+  same = λ v. chosen_text (kind v) (a.text v) (b.text v) (a.pieces v) (b.pieces v) (a.same v) (b.same v);
   after = λ rest. a.after rest && b.after rest;
   closed = a.closed && b.closed;
   put = either_puts test kind Fit a b to;
@@ -370,6 +398,8 @@ abbrev pub first_as : {A : Type 0} → {p : Part A} → (test : Lexeme → Bool)
 first_as {p = p} test q a made closes = record {
   Fit = a.Fit;
   text = a.text;
+  pieces = a.pieces;
+  same = a.same;
   after = a.after;
   closed = a.closed;
   put = λ v fit others follows e. put_as p (choose test p q) v v (a.text v) others (a.put v fit others follows e) (λ ts h. inl h);
@@ -382,6 +412,8 @@ abbrev pub nothing_as : {A : Type 0} → (test : Lexeme → Bool) → (v : A) �
 nothing_as test v = record {
   Fit = λ x. x ≡ v;
   text = λ x. [];
+  pieces = λ x. [];
+  same = λ x. refl;
   after = anything;
   closed = false;
   put = λ x fit others follows e. subst (λ y. IsPut (nothing test v) y [] others) (sym fit) (nothing_put test v others follows);
@@ -391,17 +423,25 @@ nothing_as test v = record {
 
 -- ---- one of several, by numbers of the values
 
--- the values of these branches have numbers from one on, up to another
-pub record Ranged {A : Type 0} (number : A → ℕ) (least bound : ℕ) (p : Part A) : Type 1 where
+-- The values of these branches have numbers from one on, up to another, and each begins with what passes a test.
+pub record Ranged {A : Type 0} (test : List ℕ → Bool) (number : A → ℕ) (least bound : ℕ) (p : Part A) : Type 1 where
   pub written : Written p
   pub range : (v : A) → written.Fit v → (least ≤ number v) × (number v < bound)
+  pub order : least ≤ bound
+  pub begins : (v : A) → written.Fit v → (rest : List ℕ) → test (written.text v ++ rest) ≡ true
+
+pub one_more_is : (n : ℕ) → n ≤ n + 1
+one_more_is n = omega arith
+
+pub two_steps : (least mid bound : ℕ) → least ≤ mid → mid ≤ bound → least ≤ bound
+two_steps least mid bound low high = omega arith
 
 pub in_range : (n m : ℕ) → m ≡ n → (n ≤ m) × (m < n + 1)
 in_range n m e = (omega (arith, e), omega (arith, e))
 
 -- one branch
-abbrev pub one_as : {A : Type 0} → {number : A → ℕ} → {p : Part A} → (n : ℕ) → (w : Written p) → ((v : A) → w.Fit v → number v ≡ n) → Ranged number n (n + 1) p
-one_as {number = number} n w is = record { written = w; range = λ v fit. in_range n (number v) (is v fit) }
+abbrev pub one_as : {A : Type 0} → {test : List ℕ → Bool} → {number : A → ℕ} → {p : Part A} → (n : ℕ) → (w : Written p) → ((v : A) → w.Fit v → number v ≡ n) → ((v : A) → w.Fit v → (rest : List ℕ) → test (w.text v ++ rest) ≡ true) → Ranged test number n (n + 1) p
+one_as {number = number} n w is begins = record { written = w; range = λ v fit. in_range n (number v) (is v fit); order = one_more_is n; begins = begins }
 
 pub lower_is : (n mid : ℕ) → n < mid → nat_lt n mid ≡ true
 lower_is n mid lt = lt-ltb n mid lt
@@ -409,24 +449,43 @@ lower_is n mid lt = lt-ltb n mid lt
 pub upper_is : (n mid : ℕ) → mid ≤ n → nat_lt n mid ≡ false
 upper_is n mid le = grind (arith, nat_tests)
 
-pub join_range : {A : Type 0} {p q : Part A} (number : A → ℕ) (least mid bound : ℕ) (a : Ranged number least mid p) (b : Ranged number mid bound q) → least ≤ mid → mid ≤ bound → (v : A) → FitBy (nat_lt (number v) mid) (a.written.Fit v) (b.written.Fit v)
-    → (least ≤ number v) × (number v < bound)
-join_range number least mid bound a b low high v fit = by (nat_lt (number v) mid) fit
+pub join_range : {A : Type 0} {p q : Part A} {test : List ℕ → Bool} (number : A → ℕ) (least mid bound : ℕ) (a : Ranged test number least mid p) (b : Ranged test number mid bound q) → (v : A)
+    → FitBy (nat_lt (number v) mid) (a.written.Fit v) (b.written.Fit v) → (least ≤ number v) × (number v < bound)
+join_range number least mid bound a b v fit = by (nat_lt (number v) mid) fit
   where
     by : (c : Bool) → FitBy c (a.written.Fit v) (b.written.Fit v) → (least ≤ number v) × (number v < bound)
-    by true fit = let e = a.range v fit in (e.0, omega (arith, e.1, high))
-    by false fit = let e = b.range v fit in (omega (arith, e.0, low), e.1)
+    by true fit = let e = a.range v fit in (e.0, omega (arith, e.1, b.order))
+    by false fit = let e = b.range v fit in (omega (arith, e.0, a.order), e.1)
+
+pub join_begins : {A : Type 0} {p q : Part A} (test : List ℕ → Bool) (number : A → ℕ) (least mid bound : ℕ) (a : Ranged test number least mid p) (b : Ranged test number mid bound q) → (v : A)
+    → FitBy (nat_lt (number v) mid) (a.written.Fit v) (b.written.Fit v) → (rest : List ℕ) → test (cond (nat_lt (number v) mid) (a.written.text v) (b.written.text v) ++ rest) ≡ true
+join_begins test number least mid bound a b v fit rest = by (nat_lt (number v) mid) fit
+  where
+    by : (c : Bool) → FitBy c (a.written.Fit v) (b.written.Fit v) → test (cond c (a.written.text v) (b.written.text v) ++ rest) ≡ true
+    by true fit = a.begins v fit rest
+    by false fit = b.begins v fit rest
 
 -- branches before others
-abbrev pub join_as : {A : Type 0} → {number : A → ℕ} → {p q : Part A} → {test : Lexeme → Bool} → {least mid bound : ℕ} → (a : Ranged number least mid p) → (b : Ranged number mid bound q) → least ≤ mid → mid ≤ bound → Ranged number least bound (choose test p q)
-join_as {number = number} {test = test} {least = least} {mid = mid} {bound = bound} a b low high = record {
-  written = choose_as test (λ v. nat_lt (number v) mid) a.written b.written (λ v fit. lower_is (number v) mid (a.range v fit).1) (λ v fit. upper_is (number v) mid (b.range v fit).0);
-  range = join_range number least mid bound a b low high;
+abbrev pub join_as : {A : Type 0} → {test : List ℕ → Bool} → {number : A → ℕ} → {p q : Part A} → {first : Lexeme → Bool} → {least mid bound : ℕ} → (a : Ranged test number least mid p) → (b : Ranged test number mid bound q) → Ranged test number least bound (choose first p q)
+join_as {test = test} {number = number} {first = first} {least = least} {mid = mid} {bound = bound} a b = record {
+  written = choose_as first (λ v. nat_lt (number v) mid) a.written b.written (λ v fit. lower_is (number v) mid (a.range v fit).1) (λ v fit. upper_is (number v) mid (b.range v fit).0);
+  range = join_range number least mid bound a b;
+  order = two_steps least mid bound a.order b.order;
+  begins = join_begins test number least mid bound a b;
 }
 
+pub lead_begins : (test : List ℕ → Bool) (m text rest : List ℕ) → ((rest : List ℕ) → test (m ++ rest) ≡ true) → test ((m ++ text) ++ rest) ≡ true
+lead_begins test m text rest begins = ap test (append_assoc m text rest) ∙ begins (text ++ rest)
+
 -- branches behind a token
-abbrev pub ranged_lead : {A : Type 0} → {number : A → ℕ} → {p : Part A} → {test : Lexeme → Bool} → {least bound : ℕ} → (m : Mark test) → (r : Ranged number least bound p) → Meets m.after r.written → Ranged number least bound (test ▸ p)
-ranged_lead m r meets = record { written = lead_as m r.written meets; range = r.range }
+abbrev pub branches_as : {A : Type 0} → {test : List ℕ → Bool} → {number : A → ℕ} → {p : Part A} → {first : Lexeme → Bool} → {least bound : ℕ} → (m : Mark first) → (r : Ranged m.after number least bound p) → ((rest : List ℕ) → test (m.bytes ++ rest) ≡ true)
+    → Ranged test number least bound (first ▸ p)
+branches_as {test = test} m r begins = record {
+  written = lead_as m r.written (λ v fit rest e. r.begins v fit rest);
+  range = r.range;
+  order = r.order;
+  begins = λ v fit rest. lead_begins test m.bytes (r.written.text v) rest begins;
+}
 
 -- ---- a part that may be left out
 
@@ -455,15 +514,7 @@ maybe_made {A} {p} test more w o ts r came spells = by spells
 
 -- a part, or no token where more could belong to it
 abbrev pub maybe_as : {A : Type 0} → {p : Part A} → (test more : Lexeme → Bool) → (w : Written p) → Written (choose test (seen Some p) (nothing more None))
-maybe_as {A} {p} test more w = record {
-  Fit = OptionFit w.Fit;
-  text = text_if w.text;
-  after = w.after;
-  closed = false;
-  put = maybe_puts test more w;
-  made = maybe_made test more w;
-  closes = no_semicolon (choose test (seen Some p) (nothing more None));
-}
+maybe_as test more w = leaf_as (OptionFit w.Fit) (text_if w.text) w.after (maybe_puts test more w) (maybe_made test more w)
 
 abbrev pub optional_as : {A : Type 0} → {p : Part A} → (test : Lexeme → Bool) → (w : Written p) → Written (optional test p)
 optional_as test w = maybe_as test test w
@@ -533,15 +584,7 @@ many_made {A} goes_on items each vs ts r came spells = by items.start vs ts r ca
         ((each s).made v a (spelled b ++ r) (came_front a b r came) spells, by (items.next s v) vs b r (came_behind a b r came) others)
 
 abbrev pub many_as : {A : Type 0} → (goes_on : Lexeme → Bool) → (items : Items A) → (each : (s : items.State) → Written (items.item s)) → (test : List ℕ → Bool) → Follow items each test → Written (many goes_on items)
-many_as goes_on items each test follow = record {
-  Fit = AllFit items each items.start;
-  text = items_text items each items.start;
-  after = test;
-  closed = false;
-  put = many_puts goes_on items each test follow;
-  made = many_made goes_on items each;
-  closes = no_semicolon (many goes_on items);
-}
+many_as goes_on items each test follow = leaf_as (AllFit items each items.start) (items_text items each items.start) test (many_puts goes_on items each test follow) (many_made goes_on items each)
 
 -- items that each have a property can be written, where each of them that has it can
 pub all_fit : {A : Type 0} (items : Items A) (each : (s : items.State) → Written (items.item s)) (P : A → Type 0) → ((s : items.State) (v : A) → P v → (each s).Fit v) → (s : items.State) (vs : List A) → AllByRecursion P vs → AllFit items each s vs

@@ -50,14 +50,6 @@ choose_yields {A} P test p q f g v ts r came spells = by spells
     by (inl h) = f v ts r came h
     by (inr h) = g v ts r came h
 
-abbrev pub AllYield : {A : Type 0} → (A → Type 0) → Branch A → List (Branch A) → Type 0
-AllYield P b [] = Yields P b.part
-AllYield P b (c ∷ rest) = Yields P b.part × AllYield P c rest
-
-pub one_of_yields : {A : Type 0} (P : A → Type 0) (b : Branch A) (rest : List (Branch A)) → AllYield P b rest → Yields P (one_of b rest)
-one_of_yields P b [] h = lead_yields P (is_word b.key) b.part h
-one_of_yields P b (c ∷ rest) h = choose_yields P (is_word b.key) (branch b) (one_of c rest) (lead_yields P (is_word b.key) b.part h.0) (one_of_yields P c rest h.1)
-
 -- ---- names, literals and expressions
 
 abbrev pub named : List ℕ → Result (List ℕ) Bool
@@ -90,12 +82,3 @@ pub qualified_yields : Yields IsPath qualified
 qualified_yields q ts r came spells =
     let both = then_yields IsName IsName name (is_sign 46 ▸ name) name_yields (lead_yields IsName (is_sign 46) name name_yields) spells.0 ts r came spells.2 in
     subst IsPath (sym spells.1) both
-
--- any number of items, each of which has a property
-pub many_yields : {A : Type 0} (P : A → Type 0) (goes_on : Lexeme → Bool) (items : Items A) → ((s : items.State) → Yields P (items.item s)) → Yields (AllByRecursion P) (many goes_on items)
-many_yields {A} P goes_on items each v ts r came spells = by items.start v ts r came spells
-  where
-    by : (s : items.State) (v : List A) (ts : List Lexeme) (r : List ℕ) → AllCame ts r → Many items s v ts → AllByRecursion P v
-    by s _ _ r came (no_more _) = tt
-    by s _ _ r came (one_item _ v vs a b spells others) =
-        (each s v a (spelled b ++ r) (came_front a b r came) spells, by (items.next s v) vs b r (came_behind a b r came) others)

@@ -14,7 +14,6 @@ use Rattle.ddl_read.specs.Clauses.{semicolon}
 use Rattle.ddl_read.specs.Columns.{further, names_of, columns}
 use Rattle.ddl_read.specs.CopyGrammar.{some_columns, copy_from}
 use Rattle.ddl_read.proofs.ColumnLaws.{columns_laws, columns_free}
-use Rattle.ddl_forms.proofs.Closing.{Closes, then_closes, end_closes}
 
 free : (test : Lexeme → Bool) → Apart test never
 free test t e = refl
@@ -42,8 +41,3 @@ copied_columns_laws =
 pub copy_from_laws : Lawful copy_from
 unfolding copy_from
 copy_from_laws = seen_laws (λ x. CopyRows x.0 x.1 []) (qualified then copied_columns) (then_laws qualified copied_columns qualified_laws copied_columns_laws (avoids_never copied_columns))
-
-pub copy_from_closes : Closes semicolon copy_from
-unfolding copy_from
-copy_from_closes v ts spells =
-    then_closes semicolon qualified copied_columns (end_closes semicolon (some_columns ◂ is_word (codes "from") ◂ is_word (codes "stdin"))) spells.0 ts spells.2

@@ -21,10 +21,8 @@ use Rattle.ddl_parts.proofs.Tables.{AllLawful}
 use Rattle.ddl_read.specs.Clauses.{semicolon, new_owner}
 use Rattle.ddl_read.specs.RelationGrammar.{owned_by, its_role, its_column, sequence_changed, sequence_change, altered_sequence, view_and_body, create_view, replace_view, begun_by, bracketed, index_parts, index_of, unique_index_of, create_index, create_unique_index, view_branch, more_relations}
 use Rattle.ddl_laws.proofs.AlterLaws.{new_owner_laws}
-use Rattle.ddl_laws.proofs.AlterClosed.{new_owner_closes}
-use Rattle.ddl_laws.proofs.SequenceLaws.{create_sequence_laws, create_sequence_closes}
+use Rattle.ddl_laws.proofs.SequenceLaws.{create_sequence_laws}
 use Rattle.ddl_read.proofs.Telling.{free}
-use Rattle.ddl_forms.proofs.Closing.{Closes, then_closes, seen_closes, choose_closes, lead_closes, end_closes, AllClose}
 
 -- ---- ALTER SEQUENCE
 
@@ -42,13 +40,6 @@ owned_by_begins : Begins (is_word (codes "owned")) owned_by
 unfolding owned_by
 owned_by_begins = lead_begins (is_word (codes "owned")) (is_word (codes "by") ▸ column_end)
 
-owned_by_closes : Closes semicolon owned_by
-unfolding owned_by
-owned_by_closes =
-    lead_closes semicolon (is_word (codes "owned")) (is_word (codes "by") ▸ column_end)
-    (lead_closes semicolon (is_word (codes "by")) column_end
-    (then_closes semicolon qualified (is_sign 46 ▸ (name ◂ semicolon)) (lead_closes semicolon (is_sign 46) (name ◂ semicolon) (end_closes semicolon name))))
-
 new_owner_begins : Begins (is_word (codes "owner")) new_owner
 unfolding new_owner
 new_owner_begins = lead_begins (is_word (codes "owner")) (is_word (codes "to") ▸ (name ◂ semicolon))
@@ -62,13 +53,6 @@ altered_sequence_laws =
     (words_apart (codes "owned") (codes "owner") refl) in
     seen_laws (λ x. sequence_changed x.0 x.1) (qualified then sequence_change) (then_laws qualified sequence_change qualified_laws change (avoids_never sequence_change))
 
-pub altered_sequence_closes : Closes semicolon altered_sequence
-unfolding altered_sequence sequence_change
-altered_sequence_closes =
-    let change = choose_closes semicolon (is_word (codes "owner")) (seen its_role new_owner) (seen its_column owned_by)
-    (seen_closes semicolon its_role new_owner new_owner_closes) (seen_closes semicolon its_column owned_by owned_by_closes) in
-    seen_closes semicolon (λ x. sequence_changed x.0 x.1) (qualified then sequence_change) (then_closes semicolon qualified sequence_change change)
-
 -- ---- CREATE VIEW
 
 abbrev body_end : Part (List ℕ)
@@ -77,16 +61,9 @@ body_end = expression ◂ semicolon
 view_and_body_laws : Lawful view_and_body
 view_and_body_laws = then_laws qualified (is_word (codes "as") ▸ body_end) qualified_laws (word_laws (codes "as") body_end (ended_laws 59 expression expression_laws expression_ends)) (avoids_never (is_word (codes "as") ▸ body_end))
 
-view_and_body_closes : Closes semicolon view_and_body
-view_and_body_closes = then_closes semicolon qualified (is_word (codes "as") ▸ body_end) (lead_closes semicolon (is_word (codes "as")) body_end (end_closes semicolon expression))
-
 create_view_laws : Lawful create_view
 unfolding create_view
 create_view_laws = seen_laws (λ x. stmt.CreateView x.0 x.1) view_and_body view_and_body_laws
-
-create_view_closes : Closes semicolon create_view
-unfolding create_view
-create_view_closes = seen_closes semicolon (λ x. stmt.CreateView x.0 x.1) view_and_body view_and_body_closes
 
 abbrev replaced : Part Stmt
 replaced = seen (λ x. stmt.ReplaceView x.0 x.1) view_and_body
@@ -95,12 +72,6 @@ replace_view_laws : Lawful replace_view
 unfolding replace_view
 replace_view_laws =
     word_laws (codes "replace") (is_word (codes "view") ▸ replaced) (word_laws (codes "view") replaced (seen_laws (λ x. stmt.ReplaceView x.0 x.1) view_and_body view_and_body_laws))
-
-replace_view_closes : Closes semicolon replace_view
-unfolding replace_view
-replace_view_closes =
-    lead_closes semicolon (is_word (codes "replace")) (is_word (codes "view") ▸ replaced)
-    (lead_closes semicolon (is_word (codes "view")) replaced (seen_closes semicolon (λ x. stmt.ReplaceView x.0 x.1) view_and_body view_and_body_closes))
 
 -- ---- CREATE INDEX
 
@@ -221,21 +192,9 @@ index_parts_laws =
     (avoids_never (is_word (codes "using") ▸ method_end))))
     (avoids_never (is_word (codes "on") ▸ path_end))
 
-index_parts_closes : Closes semicolon index_parts
-unfolding index_parts
-index_parts_closes =
-    then_closes semicolon name (is_word (codes "on") ▸ path_end)
-    (lead_closes semicolon (is_word (codes "on")) path_end
-    (then_closes semicolon qualified (is_word (codes "using") ▸ method_end)
-    (lead_closes semicolon (is_word (codes "using")) method_end (then_closes semicolon name rest_end (end_closes semicolon bracketed)))))
-
 create_index_laws : Lawful create_index
 unfolding create_index
 create_index_laws = seen_laws index_of index_parts index_parts_laws
-
-create_index_closes : Closes semicolon create_index
-unfolding create_index
-create_index_closes = seen_closes semicolon index_of index_parts index_parts_closes
 
 abbrev unique_index : Part Stmt
 unique_index = seen unique_index_of index_parts
@@ -244,14 +203,7 @@ create_unique_index_laws : Lawful create_unique_index
 unfolding create_unique_index
 create_unique_index_laws = word_laws (codes "index") unique_index (seen_laws unique_index_of index_parts index_parts_laws)
 
-create_unique_index_closes : Closes semicolon create_unique_index
-unfolding create_unique_index
-create_unique_index_closes = lead_closes semicolon (is_word (codes "index")) unique_index (seen_closes semicolon unique_index_of index_parts index_parts_closes)
-
 -- ---- CREATE ..
 
 pub relations_lawful : AllLawful view_branch more_relations
 relations_lawful = (create_view_laws, (replace_view_laws, (create_index_laws, (create_unique_index_laws, create_sequence_laws))))
-
-pub relations_close : AllClose semicolon view_branch more_relations
-relations_close = (create_view_closes, (replace_view_closes, (create_index_closes, (create_unique_index_closes, create_sequence_closes))))

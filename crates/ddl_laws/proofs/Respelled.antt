@@ -23,8 +23,13 @@ use Rattle.ddl_lines.proofs.RowTexts.{rows_read_back}
 use Rattle.copy_text.specs.Texts.{IsName}
 use Rattle.copy_text.specs.Marks.{newline as line_feed, end_mark}
 use Rattle.cat_model.specs.declared.object.QName.{QName}
-use Rattle.ddl_laws.proofs.CopyLayouts.{copy_head, copy_laid_out, copy_is}
 use Rattle.ddl_laws.proofs.LineTexts.{IsFresh, connect_line, connect_is, line_stands}
+use Rattle.ddl_write.specs.Paths.{joined as joined_texts}
+use Rattle.ddl_forms.proofs.Written.{two_texts}
+use Rattle.ddl_laws.proofs.Alters.{nothing_follows}
+use Rattle.ddl_laws.proofs.Whole.{command_as, statement_as}
+use Rattle.ddl_laws.proofs.Fits.{IsHeader, no_rows, fits}
+use Rattle.ddl_laws.proofs.Spelled.{given, spelled_so, copy_head, copy_is, copy_head_is}
 use Rattle.ddl_laws.specs.Readings.{IsLine, Reads, all_read, one_read, line_read}
 use Rattle.ddl_laws.specs.Respelling.{IsWritable, AllWritable, joined, spellings, said}
 use Rattle.ddl_forms.proofs.Closing.{ends_with, only_last}
@@ -32,17 +37,29 @@ use Rattle.ddl_laws.proofs.Closed.{statement_closes}
 use Rattle.ddl_laws.proofs.ReadingLaws.{only}
 use Rattle.ddl_forms.proofs.Standing.{Stood, placed, collects}
 use Rattle.ddl_forms.proofs.Tokens.{Gap, none, space, newline, spaced, indented, tabbed, indent}
-use Rattle.ddl_laws.proofs.RelationLayouts.{owned_by_laid_out, view_laid_out, replaced_laid_out, index_laid_out, unique_index_laid_out}
-use Rattle.ddl_laws.proofs.SequenceLayouts.{sequence_laid_out}
-use Rattle.ddl_laws.proofs.ValueLayouts.{value_laid_out}
-use Rattle.ddl_laws.proofs.RightsLayouts.{grant_laid_out, revoke_laid_out, member_laid_out, granted_put, revoked_put}
-use Rattle.ddl_laws.proofs.AdminLaidOut.{comment_laid_out, role_laid_out, changes_laid_out, database_laid_out}
-use Rattle.ddl_laws.proofs.TableLayouts.{enum_laid_out, domain_laid_out, table_laid_out}
-use Rattle.ddl_laws.proofs.KeyLayouts.{primary_laid_out, unique_laid_out, foreign_laid_out}
-use Rattle.ddl_laws.proofs.AlterLayouts.{set_default_laid_out, added_check_laid_out}
-use Rattle.ddl_laws.proofs.Layouts.{IsLaidOut, schema_laid_out, set_laid_out, config_laid_out, owner_laid_out, domain_check_laid_out}
 
 -- ---- one statement
+
+-- how a statement is written, behind a gap
+pub record IsLaidOut (g : List ℕ) (s : Stmt) (text : List ℕ) : Type 0 where
+  pub tokens : List Lexeme
+  pub bytes : spelled tokens ++ 10 ∷ [] ≡ g ++ text
+  pub stood : Stood tokens
+  pub says : (at : ℕ) → statement.Spells (Some s) (placed at tokens)
+  pub last : only_last semicolon tokens ≡ true
+
+pub laid_out : {g : List ℕ} (gap : Gap g) (s : Stmt) (text : List ℕ) → IsHeader s → IsWritable s → joined_texts ((command_as gap).written.pieces s ++ (10 ∷ []) ∷ []) ≡ g ++ text → IsLaidOut g s text
+unfolding statement_as
+laid_out gap s text head is e =
+    let w = (command_as gap).written in
+    let k = (statement_as gap).put (Some s) (fits gap s head is, refl) [] nothing_follows refl in
+    record {
+      tokens = k.tokens;
+      bytes = ap (λ (x : List ℕ). x ++ 10 ∷ []) k.bytes ∙ (two_texts (w.text s) (10 ∷ []) (w.pieces s) ((10 ∷ []) ∷ []) (w.same s) refl ∙ e);
+      stood = subst Stood (append-nil k.tokens) k.stood;
+      says = k.spells;
+      last = ap (only_last semicolon) (sym (append-nil k.tokens)) ∙ k.last;
+    }
 
 -- how a statement's text lies behind a gap: in tokens, with the rows of a COPY behind them, or as one line
 pub data Lies (g : List ℕ) : Stmt → List ℕ → Type 0 where
@@ -55,41 +72,19 @@ pub record CanBeWritten (g : List ℕ) (s : Stmt) : Type 0 where
   pub spells : spelling s ≡ Some text
   pub lies : Lies g s text
 
-pub can_be_written : (g : List ℕ) (s : Stmt) → Gap g → IsWritable s → CanBeWritten g s
+pub can_be_written : {g : List ℕ} (gap : Gap g) (s : Stmt) → IsWritable s → CanBeWritten g s
 unfolding spelling
-can_be_written g (stmt.CreateSchema n) gap is = record { text = _; spells = refl; lies = by_tokens _ _ (schema_laid_out g n gap is) (λ t end. refl) }
-can_be_written g (stmt.CreateEnum q labels) gap is = record { text = _; spells = refl; lies = by_tokens _ _ (enum_laid_out g q labels gap is.0 is.1) (λ t end. refl) }
-can_be_written g (stmt.CreateDomain q base not_null default checks) gap is = record { text = _; spells = refl; lies = by_tokens _ _ (domain_laid_out g q base not_null default checks gap is.0 is.1 is.2 is.3) (λ t end. refl) }
-can_be_written g (stmt.CreateTable q columns checks) gap is = record { text = _; spells = refl; lies = by_tokens _ _ (table_laid_out g q columns checks gap is.0 is.1 is.2) (λ t end. refl) }
-can_be_written g (stmt.CreateSequence q kind start step min max cache cycle) gap is = record { text = _; spells = refl; lies = by_tokens _ _ (sequence_laid_out g q kind start step min max cache cycle gap is.0 is.1 is.2 is.3 is.4 is.5) (λ t end. refl) }
-can_be_written g (stmt.SetDefault q n v) gap is = record { text = _; spells = refl; lies = by_tokens _ _ (set_default_laid_out g q n v gap is.0 is.1 is.2) (λ t end. refl) }
-can_be_written g (stmt.AddPrimary q n columns rest) gap is = record { text = _; spells = refl; lies = by_tokens _ _ (primary_laid_out g q n columns rest gap is.0 is.1 is.2 is.3) (λ t end. refl) }
-can_be_written g (stmt.AddUnique q n columns rest) gap is = record { text = _; spells = refl; lies = by_tokens _ _ (unique_laid_out g q n columns rest gap is.0 is.1 is.2 is.3) (λ t end. refl) }
-can_be_written g (stmt.AddForeign q n columns parent parents rest) gap is = record { text = _; spells = refl; lies = by_tokens _ _ (foreign_laid_out g q n columns parent parents rest gap is.0 is.1 is.2 is.3 is.4 is.5) (λ t end. refl) }
-can_be_written g (stmt.AddCheck q n v) gap is = record { text = _; spells = refl; lies = by_tokens _ _ (added_check_laid_out g q n v gap is.0 is.1 is.2) (λ t end. refl) }
-can_be_written g (stmt.Set n v) gap is = record { text = _; spells = refl; lies = by_tokens _ _ (set_laid_out g n v gap is.0 is.1) (λ t end. refl) }
-can_be_written g (stmt.SetConfig n v) gap is = record { text = _; spells = refl; lies = by_tokens _ _ (config_laid_out g n v gap is.0 is.1) (λ t end. refl) }
-can_be_written g (stmt.AddDomainCheck q n v) gap is = record { text = _; spells = refl; lies = by_tokens _ _ (domain_check_laid_out g q n v gap is.0 is.1 is.2) (λ t end. refl) }
-can_be_written g (stmt.OwnerTo object role) gap is = record { text = _; spells = refl; lies = by_tokens _ _ (owner_laid_out g object role gap is.0 is.1) (λ t end. refl) }
-can_be_written g (stmt.OwnedBy q table column) gap is = record { text = _; spells = refl; lies = by_tokens _ _ (owned_by_laid_out g q table column gap is.0 is.1 is.2) (λ t end. refl) }
-can_be_written g (stmt.SetVal q n called) gap is = record { text = _; spells = refl; lies = by_tokens _ _ (value_laid_out g q n called gap is.0 is.1) (λ t end. refl) }
-can_be_written g (stmt.CreateView q body) gap is = record { text = _; spells = refl; lies = by_tokens _ _ (view_laid_out g q body gap is.0 is.1) (λ t end. refl) }
-can_be_written g (stmt.ReplaceView q body) gap is = record { text = _; spells = refl; lies = by_tokens _ _ (replaced_laid_out g q body gap is.0 is.1) (λ t end. refl) }
-can_be_written g (stmt.CreateIndex q name method rest) gap is = record { text = _; spells = refl; lies = by_tokens _ _ (index_laid_out g q name method rest gap is.0 is.1 is.2 is.3) (λ t end. refl) }
-can_be_written g (stmt.CreateUniqueIndex q name method rest) gap is = record { text = _; spells = refl; lies = by_tokens _ _ (unique_index_laid_out g q name method rest gap is.0 is.1 is.2 is.3) (λ t end. refl) }
-can_be_written g (stmt.CopyRows q columns rows) gap is = record {
+can_be_written {g} gap (stmt.CopyRows q columns rows) is = record {
   text = copy_head q columns ++ (rows ++ (end_mark ++ line_feed ∷ []));
   spells = ap (λ (x : List ℕ). Some x) (copy_is q columns rows);
-  lies = by_rows q columns rows (copy_laid_out g q columns gap is.0 is.1) is.2;
+  lies = by_rows q columns rows (laid_out gap (stmt.CopyRows q columns []) (copy_head q columns) refl (is.0, is.1, no_rows) (copy_head_is gap q columns)) is.2;
 }
-can_be_written g (stmt.Connect n) gap is = record { text = connect_line n ++ 10 ∷ []; spells = ap (λ (x : List ℕ). Some x) (connect_is n); lies = by_line n is.0 is.1 }
-can_be_written g (stmt.Grant o r who option) gap is = record { text = _; spells = refl; lies = by_tokens _ _ (grant_laid_out g o r who option is.0 is.1 is.2 (λ b k e. granted_put g (stmt.Grant o r who option) b gap k e)) (λ t end. refl) }
-can_be_written g (stmt.Revoke o r who) gap is = record { text = _; spells = refl; lies = by_tokens _ _ (revoke_laid_out g o r who is.0 is.1 is.2 (λ b k e. revoked_put g (stmt.Revoke o r who) b gap k e)) (λ t end. refl) }
-can_be_written g (stmt.GrantRole role m c admin inherit z) gap is = record { text = _; spells = refl; lies = by_tokens _ _ (member_laid_out g role m c admin inherit z is.0 is.1 is.2 (λ b k e. granted_put g (stmt.GrantRole role m c admin inherit z) b gap k e)) (λ t end. refl) }
-can_be_written g (stmt.Comment object text) gap is = record { text = _; spells = refl; lies = by_tokens _ _ (comment_laid_out g object text gap is.0 is.1) (λ t end. refl) }
-can_be_written g (stmt.CreateRole n) gap is = record { text = _; spells = refl; lies = by_tokens _ _ (role_laid_out g n gap is) (λ t end. refl) }
-can_be_written g (stmt.AlterRole n changes) gap is = record { text = _; spells = refl; lies = by_tokens _ _ (changes_laid_out g n changes gap is.0 is.1) (λ t end. refl) }
-can_be_written g (stmt.CreateDatabase n encoding) gap is = record { text = _; spells = refl; lies = by_tokens _ _ (database_laid_out g n encoding gap is) (λ t end. refl) }
+can_be_written {g} gap (stmt.Connect n) is = record { text = connect_line n ++ 10 ∷ []; spells = ap (λ (x : List ℕ). Some x) (connect_is n); lies = by_line n is.0 is.1 }
+can_be_written {g} gap s is = record {
+  text = given (spelling s);
+  spells = refl;
+  lies = by_tokens s (given (spelling s)) (laid_out gap s (given (spelling s)) tt is (spelled_so gap s tt is)) (λ t end. refl);
+}
 
 -- ---- where nothing is left
 
@@ -268,7 +263,7 @@ reads_as text front g [] whole gap fresh all e is =
     let text_is : text ≡ front ++ g = is ∙ ap (λ (x : List ℕ). front ++ (g ++ x)) (sym nothing) ∙ ap (λ (x : List ℕ). front ++ x) (append-nil g) in
     nothing_more text (length front) (ap (λ (x : List ℕ). next_token_of x (length front)) text_is ∙ no_token front g gap)
 reads_as text front g (s ∷ more) whole gap fresh all e is =
-    let c = can_be_written g s gap all.0 in
+    let c = can_be_written gap s all.0 in
     let h = begins_with s more c.text whole c.spells e in
     let text_is : text ≡ front ++ (g ++ (c.text ++ h.0)) = is ∙ ap (λ (x : List ℕ). front ++ (g ++ x)) h.2 in
     one_statement text front g s c.text more h.0 gap fresh c.lies text_is

@@ -4,12 +4,11 @@ use Rattle.copy_text.specs.Texts.{IsName}
 use Rattle.cat_model.specs.declared.grant.Rights.{Rights}
 use Rattle.cat_model.specs.declared.grant.Granted.{Granted}
 use Rattle.cat_model.specs.declared.grant.Granted.TheVariants as on
-use Rattle.cat_model.specs.declared.grant.Grantee.{Grantee}
 use Rattle.cat_model.specs.declared.grant.Grantee.TheVariants as grantees
 use Rattle.cat_model.specs.Grants.{no_rights, has_rights}
 use Rattle.cat_model.specs.Lexemes.{same_text}
-use Rattle.ddl_parts.specs.Lexemes.{Lexeme, is_word, is_sign, starts}
-use Rattle.ddl_parts.specs.Parts.{Part, Many, no_more, one_more, mark, seen, ◌then◌, ◌▸◌, ◌◂◌}
+use Rattle.ddl_parts.specs.Lexemes.{Lexeme, is_word, starts}
+use Rattle.ddl_parts.specs.Parts.{Part, Many, no_more, one_more}
 use Rattle.ddl_parts.specs.Leaves.{name, name_value, qualified}
 use Rattle.ddl_rights.specs.declared.rights.Right.{Right}
 use Rattle.ddl_rights.specs.declared.rights.Kind.{Kind}
@@ -19,16 +18,14 @@ use Rattle.ddl_rights.specs.declared.rights.Wanted.TheVariants.{All, These}
 use Rattle.ddl_rights.specs.Depending.{◌thenby◌}
 use Rattle.ddl_rights.specs.Values.{told}
 use Rattle.ddl_rights.specs.RightsGrammar.{with_right, only, within, kind_rights, right_first, wanted_first, wanted, more_rights, all_of, rights_from, kind_first, kind_has, having, kind_with, rights_on, object, on_object, rights_and_object, grantee_of, grantee}
-use Rattle.ddl_rights.specs.Memberships.{with_options, granted_by, Member, member, member_of, membership}
-use Rattle.ddl_rights.specs.Grants.{grant_option, to_grantee, from_grantee, grant_rights, revoke_rights, First, named_by, first, behind_first, granted, revoked}
-use Rattle.ddl_rights.specs.Writable.{kind_of, IsObject, AreRights, IsGrantee, IsGrantor}
+use Rattle.ddl_rights.specs.Grants.{First, named_by, first}
+use Rattle.ddl_rights.specs.Writable.{kind_of, IsObject, AreRights, IsGrantee}
 use Rattle.ddl_rights.proofs.RightsLaws.{object_on}
 use Rattle.ddl_rights.proofs.RightSets.{has_some, has_it, kind_some, kind_whole}
-use Rattle.ddl_laws.specs.Respelling.{IsWritable}
 use Rattle.ddl_forms.proofs.Kept.{AllCame, came_front, came_behind}
 use Rattle.ddl_forms.proofs.Types.{name_in_is}
 use Rattle.sql_lex.specs.Meaning.{name_of}
-use Rattle.ddl_forms.proofs.Yielding.{Yields, then_yields, seen_yields, any_yields, lead_yields, end_yields, choose_yields, name_yields, qualified_yields}
+use Rattle.ddl_forms.proofs.Yielding.{Yields, seen_yields, lead_yields, name_yields, qualified_yields}
 
 -- what a value decides has a property where the value has another
 pub thenby_yields : {A B : Type 0} (P : A → Type 0) (Q : B → Type 0) (p : Part A) (f : A → Part B) → Yields P p → ((v : A) → P v → Yields Q (f v)) → Yields Q (p thenby f)
@@ -41,7 +38,7 @@ thenby_yields P Q p f a b w ts r came spells =
 -- ---- rights
 
 -- all of a kind, or one at least
-abbrev AreSome : Wanted → Type 0
+abbrev pub AreSome : Wanted → Type 0
 AreSome All = Unit {0}
 AreSome (These r) = has_rights r ≡ true
 
@@ -61,7 +58,7 @@ told_is : {A : Type 0} (o : Option A) (v : A) → told o ≡ Ok v → o ≡ Some
 told_is None v e = absurd cc
 told_is (Some u) v e = let same : u ≡ v = cc in ap Some same
 
-wanted_yields : Yields AreSome wanted
+pub wanted_yields : Yields AreSome wanted
 wanted_yields w ts r came spells = wanted_some (spells.0 ∷ []) w (told_is (wanted_first (spells.0 ∷ [])) w spells.2)
 
 still_some : (first r : Rights) (xs : List Right) (ts : List Lexeme) → Many (more_rights first) r xs ts → has_rights r ≡ true → has_rights (all_of r xs) ≡ true
@@ -94,7 +91,7 @@ object_yields Sequences = seen_yields (IsOf Sequences) on.Sequence qualified (λ
 object_yields Schemas = seen_yields (IsOf Schemas) on.Schema name (λ n ts r came spells. (name_yields n ts r came spells, refl))
 object_yields Types = seen_yields (IsOf Types) on.Type qualified (λ q ts r came spells. (qualified_yields q ts r came spells, refl))
 
-abbrev AreOn : Granted × Rights → Type 0
+abbrev pub AreOn : Granted × Rights → Type 0
 AreOn x = IsObject x.0 × AreRights x.0 x.1
 
 rights_fit : (w : Wanted) (k : Kind) → AreSome w → kind_has w k ≡ true → (has_rights (rights_on w k) ≡ true) × (within (rights_on w k) (kind_rights k) ≡ true)
@@ -113,7 +110,7 @@ on_object_yields w some =
         let fit = rights_fit w k some has in
         (is.0, (fit.0, subst (λ (j : Kind). within (rights_on w k) (kind_rights j) ≡ true) (sym is.1) fit.1))
 
-rights_and_object_yields : (w : Wanted) → AreSome w → Yields AreOn (rights_and_object w)
+pub rights_and_object_yields : (w : Wanted) → AreSome w → Yields AreOn (rights_and_object w)
 unfolding rights_and_object
 rights_and_object_yields All some = on_object_yields All tt
 rights_and_object_yields (These r) some =
@@ -129,71 +126,16 @@ grantee_is n is = by (same_text n (codes "public")) refl
     by true e = tt
     by false e = (is, e)
 
-grantee_yields : Yields IsGrantee grantee
+pub grantee_yields : Yields IsGrantee grantee
 grantee_yields = seen_yields IsGrantee grantee_of name (λ n ts r came spells. grantee_is n (name_yields n ts r came spells))
 
-abbrev IsTo : Grantee × Bool → Type 0
-IsTo x = IsGrantee x.0
+-- ---- first names
 
-to_grantee_yields : Yields IsTo to_grantee
-unfolding to_grantee
-to_grantee_yields =
-    lead_yields IsTo (is_word (codes "to")) (grantee then grant_option)
-    (λ v ts r came spells. (then_yields IsGrantee (λ b. Unit {0}) grantee grant_option grantee_yields (any_yields grant_option) v ts r came spells).0)
-
-from_grantee_yields : Yields IsGrantee from_grantee
-unfolding from_grantee
-from_grantee_yields = lead_yields IsGrantee (is_word (codes "from")) (grantee ◂ is_sign 59) (end_yields IsGrantee (is_sign 59) grantee grantee_yields)
-
-grant_rights_yields : (w : Wanted) → AreSome w → Yields IsWritable (grant_rights w)
-unfolding grant_rights
-grant_rights_yields w some v ts r came spells =
-    let h = then_yields AreOn IsTo (rights_and_object w) to_grantee (rights_and_object_yields w some) to_grantee_yields spells.0 ts r came spells.2 in
-    subst IsWritable (sym spells.1) (h.0.0, h.0.1, h.1)
-
-revoke_rights_yields : (w : Wanted) → AreSome w → Yields IsWritable (revoke_rights w)
-unfolding revoke_rights
-revoke_rights_yields w some v ts r came spells =
-    let h = then_yields AreOn IsGrantee (rights_and_object w) from_grantee (rights_and_object_yields w some) from_grantee_yields spells.0 ts r came spells.2 in
-    subst IsWritable (sym spells.1) (h.0.0, h.0.1, h.1)
-
--- ---- memberships
-
-abbrev grantor : Part (List ℕ)
-grantor = is_word (codes "granted") ▸ (is_word (codes "by") ▸ (name ◂ is_sign 59))
-
-granted_by_yields : Yields IsGrantor granted_by
-unfolding granted_by
-granted_by_yields =
-    choose_yields IsGrantor (is_word (codes "granted")) (seen Some grantor) (seen (λ x. None) (mark (is_sign 59)))
-    (seen_yields IsGrantor Some grantor
-    (lead_yields IsName (is_word (codes "granted")) (is_word (codes "by") ▸ (name ◂ is_sign 59))
-    (lead_yields IsName (is_word (codes "by")) (name ◂ is_sign 59) (end_yields IsName (is_sign 59) name name_yields))))
-    (seen_yields IsGrantor (λ x. None) (mark (is_sign 59)) (any_yields (mark (is_sign 59))))
-
-abbrev IsMember : Member → Type 0
-IsMember x = IsName x.0 × (Unit {0} × IsGrantor x.1.1)
-
-member_yields : Yields IsMember member
-unfolding member
-member_yields =
-    let Q : (Bool × (Option Bool × Bool)) × Option (List ℕ) → Type 0 = λ y. Unit {0} × IsGrantor y.1 in
-    then_yields IsName Q name (with_options then granted_by) name_yields
-    (then_yields (λ y. Unit {0}) IsGrantor with_options granted_by (any_yields with_options) granted_by_yields)
-
-membership_yields : (role : List ℕ) → IsName role → Yields IsWritable (membership role)
-unfolding membership
-membership_yields role is =
-    lead_yields IsWritable (is_word (codes "to")) (seen (member_of role) member)
-    (seen_yields IsWritable (member_of role) member (λ x ts r came spells. let h = member_yields x ts r came spells in (is, h.0, h.1.1)))
-
--- ---- statements
-
-abbrev CanFollow : Option Wanted → Type 0
+abbrev pub CanFollow : Option Wanted → Type 0
 CanFollow None = Unit {0}
 CanFollow (Some w) = AreSome w
 
-abbrev IsFirst : First → Type 0
+abbrev pub IsFirst : First → Type 0
 IsFirst x = IsName x.0 × CanFollow x.1
 
 first_is : (x : First) (o : Option Wanted) (v : Result (List ℕ) Bool) → named_by o v ≡ Ok x → (v ≡ Ok x.0) × (o ≡ x.1)
@@ -204,20 +146,8 @@ follows : (ts : List Lexeme) (o : Option Wanted) → wanted_first ts ≡ o → C
 follows ts None e = tt
 follows ts (Some w) e = wanted_some ts w e
 
-first_yields : Yields IsFirst first
+pub first_yields : Yields IsFirst first
 unfolding name_value
 first_yields x ts r came spells =
     let h = first_is x (wanted_first (spells.0 ∷ [])) (name_value spells.0) spells.2 in
     (name_in_is (name_of spells.0.kind spells.0.word) x.0 h.0, follows (spells.0 ∷ []) x.1 h.1)
-
-behind_yields : (n : List ℕ) (o : Option Wanted) → IsName n → CanFollow o → Yields IsWritable (behind_first n o)
-behind_yields n None is can = membership_yields n is
-behind_yields n (Some w) is can = choose_yields IsWritable (is_word (codes "to")) (membership n) (grant_rights w) (membership_yields n is) (grant_rights_yields w can)
-
-pub granted_yields : Yields IsWritable granted
-unfolding granted
-granted_yields = thenby_yields IsFirst IsWritable first (λ x. behind_first x.0 x.1) first_yields (λ x is. behind_yields x.0 x.1 is.0 is.1)
-
-pub revoked_yields : Yields IsWritable revoked
-unfolding revoked
-revoked_yields = thenby_yields AreSome IsWritable wanted revoke_rights wanted_yields (λ w some. revoke_rights_yields w some)

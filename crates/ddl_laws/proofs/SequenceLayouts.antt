@@ -1,5 +1,5 @@
 -- CREATE SEQUENCE as it is written, laid out in tokens: each brings its clauses on from one state to another.
-use Rattle.std.proofs.Common.{◌≡◌, ℕ, ℤ, Bool, true, false, List, [], ◌∷◌, ◌++◌, append_assoc, append-nil, Option, Some, None, refl, sym, ap, subst, ◌∙◌, inl, inr, codes, option_and_then}
+use Rattle.std.proofs.Common.{◌≡◌, ℕ, ℤ, Bool, true, false, List, [], ◌∷◌, ◌++◌, append_assoc, append-nil, Option, Some, None, refl, sym, ap, subst, ◌∙◌, inl, codes, option_and_then}
 use Rattle.std.specs.Ordering.{int_eq}
 use Rattle.std.specs.Fmt.{signed_decimal}
 use Rattle.std.specs.Str.{is_utf8, chars}
@@ -14,10 +14,10 @@ use Rattle.cat_model.specs.declared.constraint.SequenceKind.TheVariants.{SmallIn
 use Rattle.cat_model.specs.declared.stmt.Stmt.{Stmt}
 use Rattle.cat_model.specs.declared.stmt.Stmt.TheVariants as stmt
 use Rattle.ddl_parts.specs.Lexemes.{Lexeme, is_word, is_sign, never, spelled}
-use Rattle.ddl_parts.specs.Parts.{Part, stop, run, ◌then◌, ◌▸◌, ◌◂◌}
+use Rattle.ddl_parts.specs.Parts.{Part, stop, run, ◌then◌, ◌◂◌}
 use Rattle.ddl_parts.specs.Leaves.{qualified}
-use Rattle.ddl_write.specs.Paths.{path, only_if}
-use Rattle.ddl_write.specs.Sequences.{usual_min, usual_max, type_words, bound, min_text, max_text, sequence_text}
+use Rattle.ddl_write.specs.Paths.{path, joined, only_if}
+use Rattle.ddl_write.specs.Sequences.{usual_min, usual_max, type_words, bound, min_text, max_text}
 use Rattle.ddl_numbers.specs.Numbers.{whole_number}
 use Rattle.ddl_read.specs.declared.sequences.Bound.{Bound}
 use Rattle.ddl_read.specs.declared.sequences.Bound.TheVariants.{Usual, Given}
@@ -28,15 +28,17 @@ use Rattle.ddl_read.specs.declared.sequences.ClauseSpot.TheVariants.{Between, Be
 use Rattle.ddl_read.specs.declared.sequences.Clauses.{Clauses}
 use Rattle.ddl_read.specs.declared.sequences.Reached.{Reached}
 use Rattle.ddl_read.specs.Clauses.{semicolon}
-use Rattle.ddl_read.specs.Grammar.{created}
 use Rattle.ddl_read.specs.SequenceGrammar.{no_clauses, with_number, reached, clause_first, kind_first, usual_first, step_first, first_reached, clausing, clauses_of, sequence_clauses, given_or, bound_or, sequence_of, create_sequence}
-use Rattle.ddl_laws.specs.Respelling.{IsPath, IsInt}
+use Rattle.ddl_laws.specs.Respelling.{IsInt}
 use Rattle.ddl_forms.proofs.Standing.{is_safe_byte, Stands}
 use Rattle.ddl_forms.proofs.Tokens.{Gap, space, indented, indent, word_token, a_word}
-use Rattle.ddl_forms.proofs.Putting.{begins_by, parts_words, parted, Follows, IsPut, behind, begun, begins-append, safe_parts, put_as, one_put, then_put, seen_put, close_put, word_lead, path_lead}
+use Rattle.ddl_forms.proofs.Putting.{same_text, begins_by, parts_words, parted, Follows, IsPut, behind, begun, begins-append, safe_parts, put_as, one_put, then_put, seen_put, close_put, path_lead}
 use Rattle.ddl_forms.proofs.Numbers.{number_put}
 use Rattle.ddl_laws.proofs.SequenceNumbers.{number_runs}
-use Rattle.ddl_laws.proofs.Layouts.{IsLaidOut, laid_out, sequence_key, ended, create_put}
+use Rattle.ddl_forms.proofs.Written.{Written, ending, ended_as}
+use Rattle.ddl_laws.proofs.Alters.{nothing_follows}
+use Rattle.ddl_laws.proofs.SequenceLaws.{create_sequence_closes}
+use Rattle.ddl_laws.proofs.SequenceMade.{IsSequence, create_sequence_yields}
 
 -- ---- from one state to another
 
@@ -263,7 +265,7 @@ abbrev written : SequenceKind → ℤ → ℤ → ℤ → ℤ → ℤ → Bool �
 written kind start step min max cache cycle =
     cycled (said kind) start step (bound_of (int_eq min (usual_min kind step)) min) (bound_of (int_eq max (usual_max kind step)) max) cache cycle
 
-abbrev clauses_text : SequenceKind → ℤ → ℤ → ℤ → ℤ → ℤ → Bool → List ℕ
+abbrev pub clauses_text : SequenceKind → ℤ → ℤ → ℤ → ℤ → ℤ → Bool → List ℕ
 clauses_text kind start step min max cache cycle =
     type_words kind ++ ((codes "\n    START WITH " ++ signed_decimal start) ++ ((codes "\n    INCREMENT BY " ++ signed_decimal step)
     ++ (min_text kind step min ++ (max_text kind step max ++ ((codes "\n    CACHE " ++ signed_decimal cache) ++ only_if cycle (codes "\n    CYCLE"))))))
@@ -327,34 +329,41 @@ they_spell : (c : Clauses) (ts : List Lexeme) → run clausing (Some first_reach
 unfolding sequence_clauses
 they_spell c ts e = (ts, ap clauses_of (sym e), (refl, record { last = between c; runs = e; done = refl }))
 
-sequence_regrouped : (g a s w p k t1 n1 t2 n2 mn mx t3 n3 cy e line : List ℕ)
-    → ((g ++ a) ++ ((s ++ w) ++ ((s ++ p) ++ ((k ++ ((t1 ++ n1) ++ ((t2 ++ n2) ++ (mn ++ (mx ++ ((t3 ++ n3) ++ cy)))))) ++ e)))) ++ line
-    ≡ g ++ ((((a ++ s) ++ w) ++ s) ++ (p ++ (k ++ (t1 ++ (n1 ++ (t2 ++ (n2 ++ (mn ++ (mx ++ (t3 ++ (n3 ++ (cy ++ ((e ++ line) ++ [])))))))))))))
-sequence_regrouped g a s w p k t1 n1 t2 n2 mn mx t3 n3 cy e line = simp (append_assoc, append-nil)
+-- ---- the part
 
-pub sequence_laid_out : (g : List ℕ) (q : QName) (kind : SequenceKind) (start step min max cache : ℤ) (cycle : Bool) → Gap g → IsPath q → IsInt start → IsInt step → IsInt min → IsInt max → IsInt cache
-    → IsLaidOut g (stmt.CreateSequence q kind start step min max cache cycle) (sequence_text q kind start step min max cache cycle)
-unfolding created create_sequence sequence_text
-sequence_laid_out g q kind start step min max cache cycle gap path_is start_is step_is min_is max_is cache_is =
-    let s = stmt.CreateSequence q kind start step min max cache cycle in
+pub clauses_begin : (kind : SequenceKind) (start step min max cache : ℤ) (cycle : Bool) → begins_by parts_words (clauses_text kind start step min max cache cycle ++ 59 ∷ []) ≡ true
+clauses_begin SmallInt start step min max cache cycle = refl
+clauses_begin Integer start step min max cache cycle = refl
+clauses_begin BigInt start step min max cache cycle = refl
+
+abbrev pub sequence_pieces : Stmt → List (List ℕ)
+sequence_pieces (stmt.CreateSequence q kind start step min max cache cycle) =
+    (32 ∷ path q) ∷ type_words kind ∷ codes "\n    START WITH " ∷ signed_decimal start ∷ codes "\n    INCREMENT BY " ∷ signed_decimal step ∷ min_text kind step min ∷ max_text kind step max
+    ∷ codes "\n    CACHE " ∷ signed_decimal cache ∷ only_if cycle (codes "\n    CYCLE") ∷ (59 ∷ []) ∷ []
+sequence_pieces _ = []
+
+sequence_regrouped : (p k t1 n1 t2 n2 mn mx t3 n3 cy e : List ℕ)
+    → p ++ ((k ++ ((t1 ++ n1) ++ ((t2 ++ n2) ++ (mn ++ (mx ++ ((t3 ++ n3) ++ cy)))))) ++ e) ≡ p ++ (k ++ (t1 ++ (n1 ++ (t2 ++ (n2 ++ (mn ++ (mx ++ (t3 ++ (n3 ++ (cy ++ (e ++ [])))))))))))
+sequence_regrouped p k t1 n1 t2 n2 mn mx t3 n3 cy e = simp (append_assoc, append-nil)
+
+pub sequence_put : (s : Stmt) → IsSequence s → IsPut create_sequence s (joined (sequence_pieces s)) []
+unfolding create_sequence
+sequence_put (stmt.CreateSequence q kind start step min max cache cycle) is =
     let c = written kind start step min max cache cycle in
     let t0 = clauses_text kind start step min max cache cycle in
-    let m = clauses_put kind start step min max cache cycle (ended.tokens ++ []) start_is step_is min_is max_is cache_is (behind ended) (begun is_safe_byte ended refl) (begun parts_words ended refl) in
-    let k0 = put_as (moves first_reached (between c)) sequence_clauses tt c t0 (ended.tokens ++ []) m (λ ts h. they_spell c ts h) in
+    let end = ending.put [] nothing_follows refl in
+    let m = clauses_put kind start step min max cache cycle (end.tokens ++ []) is.1 is.2 is.3 is.4 is.5 (behind end) (begun is_safe_byte end refl) (begun parts_words end refl) in
+    let k0 = put_as (moves first_reached (between c)) sequence_clauses tt c t0 (end.tokens ++ []) m (λ ts h. they_spell c ts h) in
     let t1 = t0 ++ 59 ∷ [] in
-    let k1 = close_put sequence_clauses semicolon c t0 (59 ∷ []) [] ended k0 in
     let t2 = ((32 ∷ []) ++ path q) ++ t1 in
-    let k2 = path_lead q (32 ∷ []) (sequence_clauses ◂ semicolon) c t1 [] path_is space k1 (clauses_begin kind start step min max cache cycle) in
+    let k1 = close_put sequence_clauses semicolon c t0 (59 ∷ []) [] end k0 in
+    let k2 = path_lead q (32 ∷ []) (sequence_clauses ◂ semicolon) c t1 [] is.0 space k1 (clauses_begin kind start step min max cache cycle) in
     let k3 : IsPut create_sequence (sequence_of q c) t2 [] = seen_put (λ x. sequence_of x.0 x.1) (qualified then (sequence_clauses ◂ semicolon)) (q, c) t2 [] k2 in
     let k4 = subst (λ (x : Stmt). IsPut create_sequence x t2 []) (statement_is q kind start step min max cache cycle) k3 in
-    let t5 = ((32 ∷ []) ++ codes "SEQUENCE") ++ t2 in
-    let k5 = word_lead (codes "sequence") (codes "SEQUENCE") (32 ∷ []) create_sequence s t2 [] sequence_key space k4 refl in
-    let k6 : IsPut created s t5 [] = put_as (is_word (codes "sequence") ▸ create_sequence) created s s t5 [] k5 (λ ts h. inr (inr (inr (inr (inr (inr (inr (inr (inr (inr h)))))))))) in
-    laid_out g (sequence_text q kind start step min max cache cycle) s ((g ++ codes "CREATE") ++ t5) (create_put g s t5 gap k6 refl)
-    (sequence_regrouped g (codes "CREATE") (32 ∷ []) (codes "SEQUENCE") (path q) (type_words kind) (codes "\n    START WITH ") (signed_decimal start) (codes "\n    INCREMENT BY ") (signed_decimal step)
-    (min_text kind step min) (max_text kind step max) (codes "\n    CACHE ") (signed_decimal cache) (only_if cycle (codes "\n    CYCLE")) (59 ∷ []) (10 ∷ []))
-  where
-    clauses_begin : (kind : SequenceKind) (start step min max cache : ℤ) (cycle : Bool) → begins_by parts_words (clauses_text kind start step min max cache cycle ++ 59 ∷ []) ≡ true
-    clauses_begin SmallInt start step min max cache cycle = refl
-    clauses_begin Integer start step min max cache cycle = refl
-    clauses_begin BigInt start step min max cache cycle = refl
+    same_text t2 (joined (sequence_pieces (stmt.CreateSequence q kind start step min max cache cycle)))
+    (sequence_regrouped (32 ∷ path q) (type_words kind) (codes "\n    START WITH ") (signed_decimal start) (codes "\n    INCREMENT BY ") (signed_decimal step) (min_text kind step min) (max_text kind step max)
+    (codes "\n    CACHE ") (signed_decimal cache) (only_if cycle (codes "\n    CYCLE")) (59 ∷ [])) k4
+sequence_put _ is = absurd is
+
+abbrev pub create_sequence_as : Written create_sequence
+create_sequence_as = ended_as IsSequence sequence_pieces sequence_put create_sequence_yields create_sequence_closes

@@ -6,6 +6,8 @@ use Rattle.std.specs.Str.Parse.{digits_value}
 use Rattle.std.proofs.lemmas.Bool.{lt-ltb, ltb-true}
 use Rattle.sql_lex.specs.Bytes.{is_digit}
 use Rattle.cat_model.specs.declared.object.QName.{QName}
+use Rattle.cat_model.specs.declared.stmt.Stmt.{Stmt}
+use Rattle.cat_model.specs.declared.stmt.Stmt.TheVariants as stmt
 use Rattle.cat_model.specs.declared.constraint.SequenceKind.{SequenceKind}
 use Rattle.cat_model.specs.declared.constraint.SequenceKind.TheVariants.{SmallInt, Integer, BigInt}
 use Rattle.ddl_parts.specs.Lexemes.{Lexeme, is_word, is_sign, starts}
@@ -24,7 +26,7 @@ use Rattle.ddl_read.specs.declared.sequences.Clauses.{Clauses}
 use Rattle.ddl_read.specs.declared.sequences.Reached.{Reached}
 use Rattle.ddl_read.specs.Clauses.{semicolon}
 use Rattle.ddl_read.specs.SequenceGrammar.{no_clauses, is_unsaid, with_number, reached, only_if, behind_no, clause_first, kind_first, lower, upper, usual_first, numbered, step_first, clausing, first_reached, clauses_of, sequence_clauses, given_or, bound_or, usual_start, sequence_of, create_sequence}
-use Rattle.ddl_laws.specs.Respelling.{IsPath, IsInt, IsWritable}
+use Rattle.ddl_laws.specs.Respelling.{IsPath, IsInt}
 use Rattle.ddl_forms.proofs.Numbers.{positive_is, opposite_is}
 use Rattle.ddl_forms.proofs.Yielding.{Yields, then_yields, end_yields, qualified_yields}
 
@@ -202,7 +204,12 @@ start_is : (step min max : ℤ) → IsInt min → IsInt max → IsInt (usual_sta
 start_is (pos n) min max a b = a
 start_is (negsuc n) min max a b = b
 
-writable : (q : QName) (c : Clauses) → IsPath q → AreInts c → IsWritable (sequence_of q c)
+-- a CREATE SEQUENCE that can be written
+abbrev pub IsSequence : Stmt → Type 0
+IsSequence (stmt.CreateSequence q kind start step min max cache cycle) = IsPath q × IsInt start × IsInt step × IsInt min × IsInt max × IsInt cache
+IsSequence _ = ⊥
+
+writable : (q : QName) (c : Clauses) → IsPath q → AreInts c → IsSequence (sequence_of q c)
 unfolding sequence_of
 writable q c path k =
     let kind = given_or BigInt c.kind in
@@ -213,8 +220,8 @@ writable q c path k =
     let max_is = bound_is (usual_max kind step) c.greatest (usual_max_is kind step) k.greatest in
     (path, given_is (usual_start step min max) c.start (start_is step min max min_is max_is) k.start, given_is (pos 1) c.step one_is k.step, min_is, max_is, given_is (pos 1) c.cache one_is k.cache)
 
-pub create_sequence_yields : Yields IsWritable create_sequence
+pub create_sequence_yields : Yields IsSequence create_sequence
 unfolding create_sequence
 create_sequence_yields v ts r came spells =
     let both = then_yields IsPath AreInts qualified (sequence_clauses ◂ semicolon) qualified_yields (end_yields AreInts semicolon sequence_clauses sequence_clauses_yield) spells.0 ts r came spells.2 in
-    subst IsWritable (sym spells.1) (writable spells.0.0 spells.0.1 both.0 both.1)
+    subst IsSequence (sym spells.1) (writable spells.0.0 spells.0.1 both.0 both.1)
