@@ -15,8 +15,12 @@ use Rattle.cat_model.specs.declared.stmt.Stmt.{Stmt}
 use Rattle.cat_model.specs.declared.stmt.Stmt.TheVariants as stmt
 use Rattle.ddl_parts.specs.Lexemes.{Lexeme, is_word, spelled}
 use Rattle.ddl_parts.specs.Leaves.{literal}
-use Rattle.ddl_parts.specs.Parts.{Part, no_more, mark, seen, choose, nothing, ◌◂◌}
-use Rattle.ddl_admin.specs.Choices.{any_word, said, clause, flag, ◌before◌}
+use Rattle.ddl_parts.specs.Parts.{Part, no_more, mark, seen, nothing, ◌◂◌}
+use Rattle.ddl_admin.specs.Choices.{any_word, clause, flag, ◌before◌}
+use Rattle.std.specs.Fmt.{signed_decimal}
+use Rattle.ddl_write.specs.Paths.{joined}
+use Rattle.ddl_write.specs.Roles.{flag_text, limit_text, given_literal}
+use Rattle.ddl_write.specs.RightsText.{remark_text}
 use Rattle.ddl_admin.specs.Comments.{remark, remark_end, name_remarked, path_remarked, column_remarked, constraint_remarked, commented_object, comment_on}
 use Rattle.ddl_admin.specs.Roles.{Flags, Settings, create_role, later_flags, role_flags, role_settings, changes_by, role_changes, alter_role}
 use Rattle.ddl_admin.specs.Databases.{furthers, utf8_in, utf8_value, utf8, encoded, goes_on, maybe_encoded, options, create_database}
@@ -26,7 +30,7 @@ use Rattle.ddl_forms.proofs.Standing.{is_safe_byte}
 use Rattle.ddl_forms.proofs.Tokens.{Gap, none, space}
 use Rattle.ddl_forms.proofs.Putting.{begins_by, parts_words, safe_parts, Follows, IsPut, put_as, nothing_put, literal_put}
 use Rattle.ddl_forms.proofs.Yielding.{any_yields}
-use Rattle.ddl_forms.proofs.Written.{Written, Mark, Meets, leaf_as, anything, is_key, is_plain, word_as, sign_as, ending, mark_as, name_as, literal_as, path_as, then_as, lead_as, close_as, seen_as, fit_as, text_as, after_as, wider_as, choose_as, OptionFit, text_if, maybe_as, Ranged, one_as, join_as, is_end}
+use Rattle.ddl_forms.proofs.Written.{Written, Meets, leaf_as, anything, is_key, is_plain, word_as, sign_as, ending, mark_as, name_as, literal_as, path_as, then_as, lead_as, close_as, seen_as, fit_as, text_as, after_as, pieces_as, wider_as, choose_as, OptionFit, text_if, maybe_as, Ranged, one_as, join_as, is_end}
 use Rattle.ddl_laws.specs.Respelling.{IsGivenText, IsLimit, AreChanges}
 use Rattle.ddl_laws.proofs.Simple.{no_path}
 use Rattle.ddl_laws.proofs.Values.{number_as}
@@ -43,16 +47,6 @@ either_remark_as =
     choose_as (is_word (codes "null")) (λ o. not (is_some o)) (seen_as (λ u. None) (λ o. tt) (mark_as (word_as space (codes "NULL") refl)) (λ u is. (is, refl))) (seen_as Some text_in (literal_as space) (λ t is. (is, refl)))
     (λ o fit. ap (λ (x : Option (List ℕ)). not (is_some x)) (sym fit.1)) (λ o fit. ap (λ (x : Option (List ℕ)). not (is_some x)) (sym fit.1))
 
--- NULL or the text
-abbrev pub remark_written : Option (List ℕ) → List ℕ
-remark_written None = codes " NULL"
-remark_written (Some t) = (32 ∷ []) ++ written_literal t
-
-pub remark_text_is : (o : Option (List ℕ)) → IsGivenText o → either_remark_as.text o ≡ remark_written o
-unfolding either_remark_as
-remark_text_is None is = refl
-remark_text_is (Some t) is = refl
-
 pub remark_fits : (o : Option (List ℕ)) → IsGivenText o → either_remark_as.Fit o
 unfolding either_remark_as
 remark_fits None is = (tt, refl)
@@ -65,16 +59,25 @@ remark_is (Some t) fit = fit.0
 
 unfoldable pub remark_ended_as : Written (remark ◂ semicolon)
 unfolding either_remark_as
-remark_ended_as = close_as (text_as (fit_as either_remark_as IsGivenText remark_fits remark_is) remark_written remark_text_is) ending (λ rest e. refl)
+remark_ended_as = close_as (fit_as either_remark_as IsGivenText remark_fits remark_is) ending (λ rest e. refl)
 
 pub remark_meets : Meets (begins_by parts_words) remark_ended_as
 unfolding remark_ended_as
 remark_meets None is rest e = refl
 remark_meets (Some t) is rest e = refl
 
-unfoldable pub remark_end_as : Written remark_end
+unfoldable pub is_remark_as : Written remark_end
 unfolding remark_end is_key remark_ended_as
-remark_end_as = lead_as (word_as space (codes "IS") refl) remark_ended_as remark_meets
+is_remark_as = lead_as (word_as space (codes "IS") refl) remark_ended_as remark_meets
+
+pub remark_same : (o : Option (List ℕ)) → is_remark_as.text o ≡ joined (remark_text o ∷ (59 ∷ []) ∷ [])
+unfolding is_remark_as
+remark_same None = refl
+remark_same (Some t) = refl
+
+unfoldable pub remark_end_as : Written remark_end
+unfolding is_remark_as
+remark_end_as = pieces_as is_remark_as (λ o. remark_text o ∷ (59 ∷ []) ∷ []) remark_same
 
 unfoldable pub name_remarked_as : {g : List ℕ} → Gap g → Written name_remarked
 unfolding name_remarked remark_end_as
@@ -180,69 +183,77 @@ before_as {p = p} {q = q} a b = record {
   opens = both_open a b;
 }
 
-abbrev pub flag_bytes : List ℕ → List ℕ → Option Bool → List ℕ
-flag_bytes said denied None = []
-flag_bytes said denied (Some true) = said
-flag_bytes said denied (Some false) = denied
-
-pub flag_puts : {key denial : Lexeme → Bool} (more : Lexeme → Bool) (m : Mark key) (d : Mark denial) → ((rest : List ℕ) → begins_by is_safe_byte rest ≡ true → m.after rest ≡ true) → ((rest : List ℕ) → begins_by is_safe_byte rest ≡ true → d.after rest ≡ true) → (b : Option Bool) → (others : List Lexeme) → Follows others → begins_by is_safe_byte (spelled others) ≡ true
-    → IsPut (choose key (seen (said true) (mark key)) (choose denial (seen (said false) (mark denial)) (nothing more None))) b (flag_bytes m.bytes d.bytes b) others
-flag_puts {key} {denial} more m d after_m after_d b others follows e = by b
+pub flag_puts : (w : List ℕ) → is_key (str_to_ascii_lowercase w) w ≡ true → is_key (str_to_ascii_lowercase (codes "NO" ++ w)) (codes "NO" ++ w) ≡ true → (b : Option Bool) → (others : List Lexeme) → Follows others → begins_by is_safe_byte (spelled others) ≡ true
+    → IsPut (flag (str_to_ascii_lowercase w) (str_to_ascii_lowercase (codes "NO" ++ w))) b (flag_text w b) others
+flag_puts w is isnt b others follows e = by b
   where
+    more : Lexeme → Bool
+    more = any_word (str_to_ascii_lowercase w ∷ str_to_ascii_lowercase (codes "NO" ++ w) ∷ [])
+
     whole : Part (Option Bool)
-    whole = choose key (seen (said true) (mark key)) (choose denial (seen (said false) (mark denial)) (nothing more None))
+    whole = flag (str_to_ascii_lowercase w) (str_to_ascii_lowercase (codes "NO" ++ w))
 
-    by : (b : Option Bool) → IsPut whole b (flag_bytes m.bytes d.bytes b) others
+    said_as : (x : List ℕ) → is_key (str_to_ascii_lowercase x) x ≡ true → IsPut (mark (is_word (str_to_ascii_lowercase x))) tt (32 ∷ x) others
+    said_as x is = (word_as space x is).put others follows (safe_parts (spelled others) e)
+
+    by : (b : Option Bool) → IsPut whole b (flag_text w b) others
     by None = put_as (nothing more None) whole None None [] others (nothing_put more None others follows) (λ ts s. inr (inr s))
-    by (Some true) = put_as (mark key) whole tt (Some true) m.bytes others (m.put others follows (after_m (spelled others) e)) (λ ts s. inl (tt, refl, s))
-    by (Some false) = put_as (mark denial) whole tt (Some false) d.bytes others (d.put others follows (after_d (spelled others) e)) (λ ts s. inr (inl (tt, refl, s)))
+    by (Some true) = put_as (mark (is_word (str_to_ascii_lowercase w))) whole tt (Some true) (32 ∷ w) others (said_as w is) (λ ts s. inl (tt, refl, s))
+    by (Some false) = put_as (mark (is_word (str_to_ascii_lowercase (codes "NO" ++ w)))) whole tt (Some false) (codes " NO" ++ w) others (said_as (codes "NO" ++ w) isnt) (λ ts s. inr (inl (tt, refl, s)))
 
-pub flag_opens : (w denial : List ℕ) (b : Option Bool) (rest : List ℕ) → begins_by is_safe_byte rest ≡ true → begins_by is_safe_byte (flag_bytes (32 ∷ w) (32 ∷ denial) b ++ rest) ≡ true
-flag_opens w denial None rest e = e
-flag_opens w denial (Some true) rest e = refl
-flag_opens w denial (Some false) rest e = refl
+pub flag_opens : (w : List ℕ) (b : Option Bool) (rest : List ℕ) → begins_by is_safe_byte rest ≡ true → begins_by is_safe_byte (flag_text w b ++ rest) ≡ true
+flag_opens w None rest e = e
+flag_opens w (Some true) rest e = refl
+flag_opens w (Some false) rest e = refl
 
-pub clause_opens : {A : Type 0} (w : List ℕ) (text : A → List ℕ) (o : Option A) (rest : List ℕ) → begins_by is_safe_byte rest ≡ true → begins_by is_safe_byte (text_if (λ v. ((32 ∷ []) ++ w) ++ text v) o ++ rest) ≡ true
+-- an attribute, or the word behind NO
+abbrev pub flag_as : (w : List ℕ) → is_key (str_to_ascii_lowercase w) w ≡ true → is_key (str_to_ascii_lowercase (codes "NO" ++ w)) (codes "NO" ++ w) ≡ true → CanLack (flag (str_to_ascii_lowercase w) (str_to_ascii_lowercase (codes "NO" ++ w)))
+flag_as w is isnt = record {
+  written = leaf_as (λ b. Unit {0}) (flag_text w) (begins_by is_safe_byte) (λ b fit others follows e. flag_puts w is isnt b others follows e) (any_yields (flag (str_to_ascii_lowercase w) (str_to_ascii_lowercase (codes "NO" ++ w))));
+  behind = λ rest e. e;
+  opens = λ b fit rest e. flag_opens w b rest e;
+}
+
+pub clause_opens : {A : Type 0} (w : List ℕ) (text : A → List ℕ) (o : Option A) (rest : List ℕ) → begins_by is_safe_byte rest ≡ true → begins_by is_safe_byte (text_if (λ v. (32 ∷ w) ++ text v) o ++ rest) ≡ true
 clause_opens w text None rest e = e
 clause_opens w text (Some v) rest e = refl
 
-abbrev pub flag_as : (w denial : List ℕ) → is_key (str_to_ascii_lowercase w) w ≡ true → is_key (str_to_ascii_lowercase denial) denial ≡ true → CanLack (flag (str_to_ascii_lowercase w) (str_to_ascii_lowercase denial))
-flag_as w denial is isnt =
-    let more = any_word (str_to_ascii_lowercase w ∷ str_to_ascii_lowercase denial ∷ []) in
-    record {
-      written = leaf_as (λ b. Unit {0}) (flag_bytes (32 ∷ w) (32 ∷ denial)) (begins_by is_safe_byte) (λ b fit others follows e. flag_puts more (word_as space w is) (word_as space denial isnt) safe_parts safe_parts b others follows e)
-          (any_yields (flag (str_to_ascii_lowercase w) (str_to_ascii_lowercase denial)));
-      behind = λ rest e. e;
-      opens = λ b fit rest e. flag_opens w denial b rest e;
-    }
-
-abbrev pub clause_as : {A : Type 0} → {p : Part A} → (w : List ℕ) → is_key (str_to_ascii_lowercase w) w ≡ true → (x : Written p) → Meets (begins_by parts_words) x → ((rest : List ℕ) → begins_by is_safe_byte rest ≡ true → x.after rest ≡ true) → CanLack (clause (str_to_ascii_lowercase w) p)
-clause_as w is x meets behind =
-    record {
-      written = maybe_as (is_word (str_to_ascii_lowercase w)) (any_word (str_to_ascii_lowercase w ∷ [])) (lead_as (word_as space w is) x meets);
-      behind = behind;
-      opens = λ o fit rest e. clause_opens w x.text o rest e;
-    }
+-- a clause behind its word, or nothing, with the text that it has as a whole
+abbrev pub clause_as : {A : Type 0} → {p : Part A} → (w : List ℕ) → is_key (str_to_ascii_lowercase w) w ≡ true → (x : Written p) → Meets (begins_by parts_words) x → ((rest : List ℕ) → begins_by is_safe_byte rest ≡ true → x.after rest ≡ true)
+    → (whole : Option A → List ℕ) → ((o : Option A) → text_if (λ v. (32 ∷ w) ++ x.text v) o ≡ whole o) → CanLack (clause (str_to_ascii_lowercase w) p)
+clause_as w is x meets behind whole same = record {
+  written = text_as (maybe_as (is_word (str_to_ascii_lowercase w)) (any_word (str_to_ascii_lowercase w ∷ [])) (lead_as (word_as space w is) x meets)) whole (λ o fit. same o);
+  behind = behind;
+  opens = λ o fit rest e. ap (λ (t : List ℕ). begins_by is_safe_byte (t ++ rest)) (sym (same o)) ∙ clause_opens w x.text o rest e;
+}
 
 unfoldable pub later_flags_as : CanLack later_flags
 unfolding later_flags is_key
 later_flags_as =
-    before_as (flag_as (codes "CREATEDB") (codes "NOCREATEDB") refl refl)
-    (before_as (flag_as (codes "LOGIN") (codes "NOLOGIN") refl refl)
-    (before_as (flag_as (codes "REPLICATION") (codes "NOREPLICATION") refl refl) (flag_as (codes "BYPASSRLS") (codes "NOBYPASSRLS") refl refl)))
+    before_as (flag_as (codes "CREATEDB") refl refl)
+    (before_as (flag_as (codes "LOGIN") refl refl)
+    (before_as (flag_as (codes "REPLICATION") refl refl) (flag_as (codes "BYPASSRLS") refl refl)))
 
 unfoldable pub role_flags_as : CanLack role_flags
 unfolding role_flags is_key later_flags_as
 role_flags_as =
-    before_as (flag_as (codes "SUPERUSER") (codes "NOSUPERUSER") refl refl)
-    (before_as (flag_as (codes "INHERIT") (codes "NOINHERIT") refl refl) (before_as (flag_as (codes "CREATEROLE") (codes "NOCREATEROLE") refl refl) later_flags_as))
+    before_as (flag_as (codes "SUPERUSER") refl refl)
+    (before_as (flag_as (codes "INHERIT") refl refl) (before_as (flag_as (codes "CREATEROLE") refl refl) later_flags_as))
+
+pub limit_same : (o : Option ℤ) → text_if (λ n. codes " CONNECTION" ++ (codes " LIMIT" ++ (32 ∷ signed_decimal n))) o ≡ limit_text o
+limit_same None = refl
+limit_same (Some n) = refl
+
+pub literal_same : (words : List ℕ) (o : Option (List ℕ)) → text_if (λ t. words ++ written_literal t) o ≡ given_literal words o
+literal_same words None = refl
+literal_same words (Some t) = refl
 
 unfoldable pub role_settings_as : CanLack role_settings
 unfolding role_settings is_key
 role_settings_as =
-    let limit = clause_as (codes "CONNECTION") refl (lead_as (word_as space (codes "LIMIT") refl) (number_as space) (λ v is rest e. refl)) (λ v is rest e. refl) (λ rest e. e) in
-    let password = clause_as (codes "PASSWORD") refl (literal_as space) (λ v is rest e. refl) safe_parts in
-    let valid = clause_as (codes "VALID") refl (lead_as (word_as space (codes "UNTIL") refl) (literal_as space) (λ v is rest e. refl)) (λ v is rest e. refl) safe_parts in
+    let limit = clause_as (codes "CONNECTION") refl (lead_as (word_as space (codes "LIMIT") refl) (number_as space) (λ v is rest e. refl)) (λ v is rest e. refl) (λ rest e. e) limit_text limit_same in
+    let password = clause_as (codes "PASSWORD") refl (literal_as space) (λ v is rest e. refl) safe_parts (given_literal (codes " PASSWORD ")) (literal_same (codes " PASSWORD ")) in
+    let valid = clause_as (codes "VALID") refl (lead_as (word_as space (codes "UNTIL") refl) (literal_as space) (λ v is rest e. refl)) (λ v is rest e. refl) safe_parts (given_literal (codes " VALID UNTIL ")) (literal_same (codes " VALID UNTIL ")) in
     before_as limit (before_as password valid)
 
 abbrev pub changes_parts : RoleChanges → Flags × Settings

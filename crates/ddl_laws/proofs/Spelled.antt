@@ -1,7 +1,6 @@
 -- The text of a statement, as it is composed, is its spelling behind a gap.
-use Rattle.std.proofs.Common.{◌≡◌, ℕ, ℤ, Bool, true, false, List, [], ◌∷◌, ◌++◌, map, append_assoc, Option, Some, None, refl, sym, ap, ◌∙◌, codes}
+use Rattle.std.proofs.Common.{◌≡◌, ℕ, true, false, List, [], ◌∷◌, ◌++◌, map, append_assoc, Option, Some, None, refl, sym, ap, ◌∙◌, codes}
 use Rattle.std.specs.List.{flat_map}
-use Rattle.std.specs.Fmt.{signed_decimal}
 use Rattle.sql_lex.specs.Written.{quoted, doubled, written_name, written_literal}
 use Rattle.copy_text.specs.Marks.{newline, end_mark}
 use Rattle.cat_model.specs.declared.object.QName.{QName}
@@ -25,15 +24,14 @@ use Rattle.ddl_write.specs.Sequences.{sequence_text, owned_by_text, value_text}
 use Rattle.ddl_write.specs.Views.{view_text, default_text}
 use Rattle.ddl_write.specs.Keys.{key_text, foreign_text, added_check_text, index_text}
 use Rattle.ddl_write.specs.RowsText.{copy_text}
-use Rattle.ddl_write.specs.RightsText.{grant_text, revoke_text, remark_text, comment_text}
-use Rattle.ddl_write.specs.Roles.{role_text, flag_text, limit_text, given_literal, changes_text, member_text, database_text}
+use Rattle.ddl_write.specs.RightsText.{grant_text, revoke_text, comment_text}
+use Rattle.ddl_write.specs.Roles.{role_text, changes_text, member_text, database_text}
 use Rattle.ddl_forms.proofs.Tokens.{Gap, tabbed, indented, indent}
-use Rattle.ddl_forms.proofs.Written.{AllFit, items_text, text_if}
+use Rattle.ddl_forms.proofs.Written.{AllFit, items_text}
 use Rattle.ddl_laws.proofs.Simple.{named_check_as}
 use Rattle.ddl_laws.proofs.Alters.{table_change_as}
 use Rattle.ddl_laws.proofs.Tables.{label_as, column_as, element_as, last_element_as, at_spot, many_elements_as, listed_elements, elements_fit}
 use Rattle.ddl_laws.specs.Respelling.{IsWritable}
-use Rattle.ddl_laws.proofs.Admin.{remark_written, flag_bytes}
 use Rattle.ddl_laws.proofs.Rights.{membership_as, to_as, from_as}
 use Rattle.ddl_laws.proofs.Whole.{command_as}
 
@@ -108,29 +106,6 @@ lines_of : (columns : List ColumnDef) (checks : List CheckDef) → map element_l
 lines_of [] checks = check_lines_of checks
 lines_of (c ∷ columns) checks = ap (λ (x : List (List ℕ)). column_text c ∷ x) (lines_of columns checks)
 
--- ---- clauses that may be left out
-
-remark_is : (text : Option (List ℕ)) → remark_text text ≡ codes " IS" ++ remark_written text
-remark_is None = refl
-remark_is (Some t) = refl
-
-flag_is : (w : List ℕ) (b : Option Bool) → flag_bytes (32 ∷ w) (32 ∷ 78 ∷ 79 ∷ w) b ≡ flag_text w b
-flag_is w None = refl
-flag_is w (Some true) = refl
-flag_is w (Some false) = refl
-
-limit_is : (o : Option ℤ) → text_if (λ n. codes " CONNECTION" ++ (codes " LIMIT" ++ (32 ∷ signed_decimal n))) o ≡ limit_text o
-limit_is None = refl
-limit_is (Some n) = refl
-
-password_is : (o : Option (List ℕ)) → text_if (λ t. codes " PASSWORD" ++ (32 ∷ written_literal t)) o ≡ given_literal (codes " PASSWORD ") o
-password_is None = refl
-password_is (Some t) = refl
-
-valid_is : (o : Option (List ℕ)) → text_if (λ t. codes " VALID" ++ (codes " UNTIL" ++ (32 ∷ written_literal t))) o ≡ given_literal (codes " VALID UNTIL ") o
-valid_is None = refl
-valid_is (Some t) = refl
-
 -- ---- the kinds
 
 -- pieces that stand in brackets there
@@ -173,19 +148,6 @@ spelled_so {g} gap (stmt.OwnerTo (owned.Sequence q) r) words is = owner_behind g
 spelled_so {g} gap (stmt.OwnerTo (owned.View q) r) words is = owner_behind g (codes "ALTER VIEW ") (path q) (written_name r)
 spelled_so {g} gap (stmt.OwnerTo (owned.Database n) r) words is = owner_behind g (codes "ALTER DATABASE ") (written_name n) (written_name r)
 spelled_so {g} gap (stmt.AddDomainCheck q n v) words is = ap (λ (x : List ℕ). g ++ (codes "ALTER DOMAIN " ++ x)) (check_behind (path q) (codes "\n    ADD ") (codes "CONSTRAINT ") (written_name n) (codes " CHECK (") v (codes ")") ending)
-spelled_so gap (stmt.AlterRole n c) words is =
-    rw (
-      sym (flag_is (codes "SUPERUSER") c.superuser),
-      sym (flag_is (codes "INHERIT") c.inherit),
-      sym (flag_is (codes "CREATEROLE") c.create_role),
-      sym (flag_is (codes "CREATEDB") c.create_db),
-      sym (flag_is (codes "LOGIN") c.login),
-      sym (flag_is (codes "REPLICATION") c.replication),
-      sym (flag_is (codes "BYPASSRLS") c.bypass_rls),
-      sym (limit_is c.limit),
-      sym (password_is c.password),
-      sym (valid_is c.valid_until),
-    ) refl
 spelled_so {g} gap (stmt.SetConfig n v) words is = ap (λ (x : List ℕ). g ++ (codes "SELECT pg_catalog.set_config(" ++ x)) (both_behind (written_literal n) (codes ", ") (written_literal v) (codes ", false)" ++ ending))
 spelled_so gap (stmt.SetVal q n true) words is = refl
 spelled_so gap (stmt.SetVal q n false) words is = refl
@@ -194,15 +156,8 @@ spelled_so gap (stmt.GrantRole role m None admin None z) words is = refl
 spelled_so gap (stmt.GrantRole role m None admin (Some b) z) words is = refl
 spelled_so gap (stmt.GrantRole role m (Some c) admin None z) words is = refl
 spelled_so gap (stmt.GrantRole role m (Some c) admin (Some b) z) words is = refl
-spelled_so gap (stmt.Comment (commented.Schema n) text) words is = rw (remark_is text) refl
-spelled_so gap (stmt.Comment (commented.Type q) text) words is = rw (remark_is text) refl
-spelled_so gap (stmt.Comment (commented.Domain q) text) words is = rw (remark_is text) refl
-spelled_so gap (stmt.Comment (commented.Table q) text) words is = rw (remark_is text) refl
-spelled_so gap (stmt.Comment (commented.View q) text) words is = rw (remark_is text) refl
-spelled_so gap (stmt.Comment (commented.Sequence q) text) words is = rw (remark_is text) refl
-spelled_so gap (stmt.Comment (commented.Index q) text) words is = rw (remark_is text) refl
-spelled_so gap (stmt.Comment (commented.Column q n) text) words is = rw (remark_is text) refl
-spelled_so gap (stmt.Comment (commented.Constraint q n) text) words is = rw (remark_is text) refl
+spelled_so gap (stmt.Comment (commented.Schema n) text) words is = refl
+spelled_so gap (stmt.Comment object text) words is = refl
 spelled_so gap (stmt.CopyRows q columns rows) words is = absurd words
 spelled_so gap (stmt.Connect n) words is = absurd words
 spelled_so gap s words is = refl
