@@ -50,18 +50,14 @@ moved_inside (Some bs) x e = passed (λ y. y.spot ≡ Inside) (nest bs Inside) x
 
 other_inside : (kind : TokenKind) (spot : Spot) (x : Nest) → behind_other kind spot ≡ Some x → x.spot ≡ Inside
 other_inside kind First x e = moved_inside (behind_kind kind []) x e
-other_inside kind FirstNot x e = moved_inside (behind_kind kind []) x e
-other_inside kind LaterNot x e = moved_inside (behind_kind kind []) x e
-other_inside kind Inside x e = moved_inside (behind_kind kind []) x e
 other_inside kind Shut x e = absurd cc
+other_inside kind y x e = moved_inside (behind_kind kind []) x e
 
 -- where NOT NULL isn't taken, a run goes on as where it is
 null_more : (spot : Spot) (x : Nest) → behind_null false spot ≡ Some x → behind_null true spot ≡ Some x
 null_more First x e = e
-null_more FirstNot x e = e
 null_more LaterNot x e = absurd cc
-null_more Inside x e = e
-null_more Shut x e = e
+null_more y x e = e
 
 outside_more : (spot : Spot) (kind : TokenKind) (ends is_not is_null : Bool) (x : Nest) → outside false spot kind ends is_not is_null ≡ Some x → outside true spot kind ends is_not is_null ≡ Some x
 outside_more spot kind true is_not is_null x e = e
@@ -90,16 +86,14 @@ run_more s last (t ∷ ts) e = by (nest_step true false s t) refl (λ x f. run_m
 null_open : (spot : Spot) (x : Nest) → behind_null false spot ≡ Some x → is_shut x.spot ≡ false
 null_open First x e = passed (λ y. is_shut y.spot ≡ false) (nest [] Inside) x e refl
 null_open FirstNot x e = absurd cc
-null_open LaterNot x e = absurd cc
 null_open Inside x e = passed (λ y. is_shut y.spot ≡ false) (nest [] Inside) x e refl
-null_open Shut x e = absurd cc
+null_open y x e = absurd cc
 
 not_open : (spot : Spot) (x : Nest) → behind_not spot ≡ Some x → is_shut x.spot ≡ false
 not_open First x e = passed (λ y. is_shut y.spot ≡ false) (nest [] FirstNot) x e refl
 not_open FirstNot x e = passed (λ y. is_shut y.spot ≡ false) (nest [] LaterNot) x e refl
-not_open LaterNot x e = passed (λ y. is_shut y.spot ≡ false) (nest [] LaterNot) x e refl
-not_open Inside x e = passed (λ y. is_shut y.spot ≡ false) (nest [] LaterNot) x e refl
 not_open Shut x e = absurd cc
+not_open w x e = passed (λ y. is_shut y.spot ≡ false) (nest [] LaterNot) x e refl
 
 outside_open : (spot : Spot) (kind : TokenKind) (ends is_not is_null : Bool) (x : Nest) → outside false spot kind ends is_not is_null ≡ Some x → is_shut x.spot ≡ false
 outside_open spot kind true is_not is_null x e = absurd cc
@@ -133,11 +127,9 @@ word_keeps key t bs e = by t.kind t.word e
   where
     by : (k : TokenKind) (w : List ℕ) → is_keyword_of k w key ≡ true → behind_kind k bs ≡ Some bs
     by Word w f = refl
-    by QuotedName w f = refl
-    by Literal w f = refl
-    by Number w f = refl
     by (Sign c) w f = absurd cc
     by MetaLine w f = absurd cc
+    by x w f = refl
 
 not_step : (takes : Bool) (spot : Spot) (t : Lexeme) → is_word (codes "not") t ≡ true → step_by true takes spot t [] ≡ cond (ends_run true t) None (behind_not spot)
 not_step takes spot t e = ap (λ (b : Bool). outside takes spot t.kind (ends_run true t) b (is_word (codes "null") t)) e
@@ -163,9 +155,8 @@ both_refused spot a b e f = ap (option_and_then (λ x. nest_step true false x b)
     by true s = refl
     by false First = null_refused FirstNot b f refl
     by false FirstNot = null_refused LaterNot b f refl
-    by false LaterNot = null_refused LaterNot b f refl
-    by false Inside = null_refused LaterNot b f refl
     by false Shut = refl
+    by false x = null_refused LaterNot b f refl
 
 both_within : (c : Bracket) (bs : List Bracket) (spot : Spot) (a b : Lexeme) → is_word (codes "not") a ≡ true → is_word (codes "null") b ≡ true
     → option_and_then (λ x. nest_step true false x b) (step_by true false spot a (c ∷ bs)) ≡ Some (nest (c ∷ bs) Inside)
@@ -265,12 +256,11 @@ nulls_taken : (spot : Spot) (bs : List Bracket) (at : ℕ) → nest_done (nest b
 unfolding nest_step nest_done ends_run is_word is_sign is_keyword_of
 nulls_taken First bs at done free = absurd cc
 nulls_taken FirstNot [] at done free = refl
-nulls_taken LaterNot [] at done free = refl
-nulls_taken Inside [] at done free = refl
 nulls_taken Shut bs at done free = absurd cc
 nulls_taken FirstNot (b ∷ bs) at done free = absurd cc
 nulls_taken LaterNot (b ∷ bs) at done free = absurd cc
 nulls_taken Inside (b ∷ bs) at done free = absurd cc
+nulls_taken x [] at done free = refl
 
 shut_is_done : nest_done (nest [] Shut) ≡ true
 unfolding nest_done
@@ -345,10 +335,8 @@ record Completes (s x : Nest) (t : Lexeme) : Type 0 where
 
 null_less : (spot : Spot) (x : Nest) → behind_null true spot ≡ Some x → (behind_null false spot ≡ Some x) ⊎ ((spot ≡ LaterNot) × (x ≡ nest [] Shut))
 null_less First x e = inl e
-null_less FirstNot x e = inl e
 null_less LaterNot x e = inr (refl, passed (λ y. y ≡ nest [] Shut) (nest [] Shut) x e refl)
-null_less Inside x e = inl e
-null_less Shut x e = inl e
+null_less y x e = inl e
 
 outside_less : (spot : Spot) (kind : TokenKind) (ends is_not is_null : Bool) (x : Nest) → outside true spot kind ends is_not is_null ≡ Some x
     → (outside false spot kind ends is_not is_null ≡ Some x) ⊎ ((is_null ≡ true) × ((spot ≡ LaterNot) × (x ≡ nest [] Shut)))
@@ -436,16 +424,13 @@ inside_no_later x e f = absurd (cc (e, f))
 later_flat : (spot : Spot) (x : Nest) → behind_not spot ≡ Some x → x.spot ≡ LaterNot → is_inside spot [] ≡ true
 later_flat First x e f = let g = passed (λ y. y.spot ≡ FirstNot) (nest [] FirstNot) x e refl in absurd (cc (f, g))
 later_flat FirstNot x e f = refl
-later_flat LaterNot x e f = refl
-later_flat Inside x e f = refl
-later_flat Shut x e f = refl
+later_flat y x e f = refl
 
 null_no_later : (spot : Spot) (x : Nest) → behind_null false spot ≡ Some x → x.spot ≡ LaterNot → ⊥
 null_no_later First x e f = inside_no_later x (passed (λ y. y.spot ≡ Inside) (nest [] Inside) x e refl) f
 null_no_later FirstNot x e f = absurd cc
-null_no_later LaterNot x e f = absurd cc
 null_no_later Inside x e f = inside_no_later x (passed (λ y. y.spot ≡ Inside) (nest [] Inside) x e refl) f
-null_no_later Shut x e f = absurd cc
+null_no_later y x e f = absurd cc
 
 outside_later : (spot : Spot) (kind : TokenKind) (ends is_not is_null : Bool) (x : Nest) → outside false spot kind ends is_not is_null ≡ Some x → x.spot ≡ LaterNot → (is_not ≡ true) × (is_inside spot [] ≡ true)
 outside_later spot kind true is_not is_null x e f = absurd cc

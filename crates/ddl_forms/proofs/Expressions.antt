@@ -25,10 +25,7 @@ record Stops (k : TokenKind) : Type 0 where
 semicolon_stops : (k : TokenKind) → is_sign_kind 59 k ≡ true → Stops k
 semicolon_stops (Sign b) e = subst (λ (x : ℕ). Stops (Sign x)) (eqb-true 59 b e) (record { outside = refl; inside = λ bs. refl })
 semicolon_stops Word e = absurd cc
-semicolon_stops QuotedName e = absurd cc
-semicolon_stops Literal e = absurd cc
-semicolon_stops Number e = absurd cc
-semicolon_stops MetaLine e = absurd cc
+semicolon_stops x e = absurd cc
 
 line_stops : (k : TokenKind) → k ≡ MetaLine → Stops k
 line_stops k e = subst Stops (sym e) (record { outside = refl; inside = λ bs. refl })

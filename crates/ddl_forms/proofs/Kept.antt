@@ -197,11 +197,7 @@ one_stays MetaLine word x r after e safe = e
 two_stay : (kind : TokenKind) (word : List ℕ) (x y : ℕ) (r after : List ℕ) → goes_on kind word (x ∷ y ∷ r) ≡ false → goes_on kind word (x ∷ y ∷ after) ≡ false
 unfolding goes_on next_is goes_on_behind_dot
 two_stay Word word x y r after e = e
-two_stay QuotedName word x y r after e = e
-two_stay Literal word x y r after e = e
-two_stay Number word x y r after e = e
-two_stay (Sign b) word x y r after e = e
-two_stay MetaLine word x y r after e = e
+two_stay w word x y r after e = e
 
 pub still_ends : (kind : TokenKind) (word m r after : List ℕ) → (kind ≡ MetaLine → ⊥) → goes_on kind word (m ++ r) ≡ false → is_safe after ≡ true → goes_on kind word (m ++ after) ≡ false
 still_ends kind word [] r after line e safe = safe_ends kind word after line safe

@@ -39,17 +39,7 @@ use Rattle.ddl_forms.proofs.RunTexts.{IsPlainMachine, AllPlain, IsSafe, not_some
 same_type_step : (s : TypeSpot) (gap : List ℕ) (start : ℕ) (t : Lexeme) → type_step s (record { gap = gap; kind = t.kind; word = t.word; start = start }) ≡ type_step s t
 unfolding type_step is_type_word is_number is_word is_sign name_value
 same_type_step Begin gap start t = refl
-same_type_step (FirstWord short) gap start t = refl
-same_type_step Schema gap start t = refl
-same_type_step Dotted gap start t = refl
-same_type_step Path gap start t = refl
-same_type_step Words gap start t = refl
-same_type_step Opened gap start t = refl
-same_type_step Counted gap start t = refl
-same_type_step Further gap start t = refl
-same_type_step Behind gap start t = refl
-same_type_step Array gap start t = refl
-same_type_step Ended gap start t = refl
+same_type_step x gap start t = refl
 
 -- the step by the kind and the bytes of a token
 abbrev step_of : TypeSpot → TokenKind → List ℕ → Option TypeSpot
@@ -58,40 +48,17 @@ step_of s kind word = type_step s (record { gap = []; kind = kind; word = word; 
 semicolon_none : (s : TypeSpot) (word : List ℕ) → step_of s (Sign 59) word ≡ None
 unfolding type_step is_type_word is_number is_word is_sign name_value name_in name_of is_keyword_of
 semicolon_none Begin word = refl
-semicolon_none (FirstWord short) word = refl
-semicolon_none Schema word = refl
-semicolon_none Dotted word = refl
-semicolon_none Path word = refl
-semicolon_none Words word = refl
-semicolon_none Opened word = refl
-semicolon_none Counted word = refl
-semicolon_none Further word = refl
-semicolon_none Behind word = refl
-semicolon_none Array word = refl
-semicolon_none Ended word = refl
+semicolon_none x word = refl
 
 line_none : (s : TypeSpot) (word : List ℕ) → step_of s MetaLine word ≡ None
 unfolding type_step is_type_word is_number is_word is_sign name_value name_in name_of is_keyword_of
 line_none Begin word = refl
-line_none (FirstWord short) word = refl
-line_none Schema word = refl
-line_none Dotted word = refl
-line_none Path word = refl
-line_none Words word = refl
-line_none Opened word = refl
-line_none Counted word = refl
-line_none Further word = refl
-line_none Behind word = refl
-line_none Array word = refl
-line_none Ended word = refl
+line_none x word = refl
 
 kind_is : (b : ℕ) (k : TokenKind) → is_sign_kind b k ≡ true → k ≡ Sign b
 kind_is b (Sign c) e = ap Sign (sym (eqb-true b c e))
 kind_is b Word e = absurd cc
-kind_is b QuotedName e = absurd cc
-kind_is b Literal e = absurd cc
-kind_is b Number e = absurd cc
-kind_is b MetaLine e = absurd cc
+kind_is b x e = absurd cc
 
 by_kind : (s : TypeSpot) (t : Lexeme) (k : TokenKind) → t.kind ≡ k → step_of s k t.word ≡ None → type_step s t ≡ None
 by_kind s t k is stops = sym (same_type_step s [] 0 t) ∙ ap (λ (x : TokenKind). step_of s x t.word) is ∙ stops

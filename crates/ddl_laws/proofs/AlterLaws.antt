@@ -3,7 +3,7 @@ use Rattle.std.proofs.Common.{◌≡◌, ℕ, Bool, true, false, not, cond, List
 use Rattle.std.specs.Str.{is_utf8, chars}
 use Rattle.std.proofs.Math.Utf8.{encode}
 use Rattle.sql_lex.specs.declared.token.TokenKind.{TokenKind}
-use Rattle.sql_lex.specs.declared.token.TokenKind.TheVariants.{Word, QuotedName, Literal, Number, Sign, MetaLine}
+use Rattle.sql_lex.specs.declared.token.TokenKind.TheVariants.{Word, QuotedName, Literal}
 use Rattle.sql_lex.specs.Meaning.{is_keyword_of, name_of}
 use Rattle.cat_model.specs.declared.object.QName.{QName}
 use Rattle.ddl_parts.specs.Lexemes.{Lexeme, is_word, is_sign, is_sign_kind}
@@ -171,9 +171,7 @@ name_no_sign_by : (k : TokenKind) (b : ℕ) → is_name_kind k ≡ true → is_s
 name_no_sign_by Word b e = refl
 name_no_sign_by QuotedName b e = refl
 name_no_sign_by Literal b e = absurd cc
-name_no_sign_by Number b e = absurd cc
-name_no_sign_by (Sign c) b e = absurd cc
-name_no_sign_by MetaLine b e = absurd cc
+name_no_sign_by x b e = absurd cc
 
 name_no_sign : (b : ℕ) → Apart is_name (is_sign b)
 unfolding is_name is_sign

@@ -2,7 +2,7 @@
 use Rattle.std.proofs.Common.{◌≡◌, ℕ, zero, suc, ◌+◌, ◌-◌, ◌<◌, ◌≤◌, Bool, true, false, cond, List, [], ◌∷◌, ◌++◌, length, Option, Some, None, Result, Ok, Err, refl, sym, ap, subst, ◌∙◌, arith, append-nil, ◌⊎◌, inl, inr}
 use Rattle.sql_lex.specs.declared.token.Token.{Token}
 use Rattle.sql_lex.specs.declared.token.TokenKind.{TokenKind}
-use Rattle.sql_lex.specs.declared.token.TokenKind.TheVariants.{Word, QuotedName, Literal, Number, Sign, MetaLine}
+use Rattle.sql_lex.specs.declared.token.TokenKind.TheVariants.{Word, MetaLine}
 use Rattle.sql_lex.specs.Meaning.{spelling, is_keyword_of}
 use Rattle.cat_model.specs.declared.object.QName.{QName}
 use Rattle.cat_model.specs.declared.stmt.Stmt.TheVariants as stmt
@@ -137,10 +137,7 @@ line_by t b = cond b (Some t) None
 line_kind : (k : TokenKind) → is_line_kind k ≡ true → k ≡ MetaLine
 line_kind MetaLine e = refl
 line_kind Word e = absurd cc
-line_kind QuotedName e = absurd cc
-line_kind Literal e = absurd cc
-line_kind Number e = absurd cc
-line_kind (Sign b) e = absurd cc
+line_kind x e = absurd cc
 
 abbrev with_kind : Token → TokenKind → Token
 with_kind t k = record { kind = k; start = t.start; end = t.end }

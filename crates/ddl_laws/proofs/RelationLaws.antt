@@ -7,7 +7,7 @@ use Rattle.ddl_parts.specs.Lexemes.{is_word, is_sign, Lexeme, is_sign_kind, star
 use Rattle.ddl_parts.specs.Parts.{Part, seen, ◌then◌, ◌▸◌, ◌◂◌, Reading, Stop, stop, choose_at}
 use Rattle.ddl_parts.specs.Laws.{Lawful, Begins, Found, Stopped, Apart}
 use Rattle.sql_lex.specs.declared.token.TokenKind.{TokenKind}
-use Rattle.sql_lex.specs.declared.token.TokenKind.TheVariants.{Word, QuotedName, Literal, Number, Sign, MetaLine}
+use Rattle.sql_lex.specs.declared.token.TokenKind.TheVariants.{Word, Sign}
 use Rattle.ddl_parts.specs.Leaves.{name, qualified}
 use Rattle.ddl_parts.specs.Expressions.{expression, nested, nest_step, nest_done, ends_run}
 use Rattle.ddl_parts.specs.declared.runs.Spot.TheVariants.{Inside}
@@ -153,10 +153,7 @@ opened t e =
     by : (k : TokenKind) → is_sign_kind 40 k ≡ true → k ≡ Sign 40
     by (Sign c) e = ap Sign (sym (eqb-true 40 c e))
     by Word e = absurd cc
-    by QuotedName e = absurd cc
-    by Literal e = absurd cc
-    by Number e = absurd cc
-    by MetaLine e = absurd cc
+    by x e = absurd cc
 
 some_token : (v : List ℕ) → expression.Spells v [] → ⊥
 unfolding expression nest_done

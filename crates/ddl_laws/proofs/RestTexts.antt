@@ -1,14 +1,14 @@
 -- What follows the columns of a key is written with the tokens that it has; and what is read can be written.
 use Rattle.std.proofs.Common.{◌≡◌, ℕ, Bool, true, false, List, [], ◌∷◌, Option, Some, None, refl, sym, ap, subst, ◌∙◌, eqb-true, inl, inr, ◌⊎◌, codes}
 use Rattle.sql_lex.specs.declared.token.TokenKind.{TokenKind}
-use Rattle.sql_lex.specs.declared.token.TokenKind.TheVariants.{Word, QuotedName, Literal, Number, Sign, MetaLine}
+use Rattle.sql_lex.specs.declared.token.TokenKind.TheVariants.{Word, Sign, MetaLine}
 use Rattle.sql_lex.specs.Meaning.{is_keyword_of, name_of}
 use Rattle.ddl_parts.specs.Lexemes.{Lexeme, spelled, source, is_sign, is_sign_kind, is_word}
 use Rattle.ddl_parts.specs.Leaves.{name_value, name_in}
 use Rattle.ddl_parts.specs.Parts.{Part, nothing, seen, choose, runs_of}
 use Rattle.ddl_write.specs.Keys.{rest_text}
 use Rattle.ddl_read.specs.declared.rests.RestSpot.{RestSpot}
-use Rattle.ddl_read.specs.declared.rests.RestSpot.TheVariants.{Begin, Deferrable, Initially, Ended, Foreign, FirstOn, Update, UpdateNo, UpdateSet, Updated, SecondOn, Delete, DeleteNo, DeleteSet, Chosen, Opened, Named, Deleted}
+use Rattle.ddl_read.specs.declared.rests.RestSpot.TheVariants.{Begin, Foreign}
 use Rattle.ddl_read.specs.Grammar.{semicolon}
 use Rattle.ddl_read.specs.Rests.{rest_step, rest_done, resting, key_rest, begins_foreign, foreign_rest}
 use Rattle.ddl_laws.specs.Respelling.{IsRunText, IsRest}
@@ -23,23 +23,7 @@ use Rattle.ddl_forms.proofs.Yielding.{Yields}
 same_rest_step : (s : RestSpot) (gap : List ℕ) (start : ℕ) (t : Lexeme) → rest_step s (record { gap = gap; kind = t.kind; word = t.word; start = start }) ≡ rest_step s t
 unfolding rest_step is_word is_sign name_value
 same_rest_step Begin gap start t = refl
-same_rest_step Deferrable gap start t = refl
-same_rest_step Initially gap start t = refl
-same_rest_step Ended gap start t = refl
-same_rest_step Foreign gap start t = refl
-same_rest_step FirstOn gap start t = refl
-same_rest_step Update gap start t = refl
-same_rest_step UpdateNo gap start t = refl
-same_rest_step UpdateSet gap start t = refl
-same_rest_step Updated gap start t = refl
-same_rest_step SecondOn gap start t = refl
-same_rest_step Delete gap start t = refl
-same_rest_step DeleteNo gap start t = refl
-same_rest_step DeleteSet gap start t = refl
-same_rest_step Chosen gap start t = refl
-same_rest_step Opened gap start t = refl
-same_rest_step Named gap start t = refl
-same_rest_step Deleted gap start t = refl
+same_rest_step x gap start t = refl
 
 -- the step by the kind and the bytes of a token
 abbrev step_of : RestSpot → TokenKind → List ℕ → Option RestSpot
@@ -48,52 +32,17 @@ step_of s kind word = rest_step s (record { gap = []; kind = kind; word = word; 
 semicolon_none : (s : RestSpot) (word : List ℕ) → step_of s (Sign 59) word ≡ None
 unfolding rest_step is_word is_sign is_keyword_of name_value name_in name_of
 semicolon_none Begin word = refl
-semicolon_none Deferrable word = refl
-semicolon_none Initially word = refl
-semicolon_none Ended word = refl
-semicolon_none Foreign word = refl
-semicolon_none FirstOn word = refl
-semicolon_none Update word = refl
-semicolon_none UpdateNo word = refl
-semicolon_none UpdateSet word = refl
-semicolon_none Updated word = refl
-semicolon_none SecondOn word = refl
-semicolon_none Delete word = refl
-semicolon_none DeleteNo word = refl
-semicolon_none DeleteSet word = refl
-semicolon_none Chosen word = refl
-semicolon_none Opened word = refl
-semicolon_none Named word = refl
-semicolon_none Deleted word = refl
+semicolon_none x word = refl
 
 line_none : (s : RestSpot) (word : List ℕ) → step_of s MetaLine word ≡ None
 unfolding rest_step is_word is_sign is_keyword_of name_value name_in name_of
 line_none Begin word = refl
-line_none Deferrable word = refl
-line_none Initially word = refl
-line_none Ended word = refl
-line_none Foreign word = refl
-line_none FirstOn word = refl
-line_none Update word = refl
-line_none UpdateNo word = refl
-line_none UpdateSet word = refl
-line_none Updated word = refl
-line_none SecondOn word = refl
-line_none Delete word = refl
-line_none DeleteNo word = refl
-line_none DeleteSet word = refl
-line_none Chosen word = refl
-line_none Opened word = refl
-line_none Named word = refl
-line_none Deleted word = refl
+line_none x word = refl
 
 kind_is : (b : ℕ) (k : TokenKind) → is_sign_kind b k ≡ true → k ≡ Sign b
 kind_is b (Sign c) e = ap Sign (sym (eqb-true b c e))
 kind_is b Word e = absurd cc
-kind_is b QuotedName e = absurd cc
-kind_is b Literal e = absurd cc
-kind_is b Number e = absurd cc
-kind_is b MetaLine e = absurd cc
+kind_is b x e = absurd cc
 
 by_kind : (s : RestSpot) (t : Lexeme) (k : TokenKind) → t.kind ≡ k → step_of s k t.word ≡ None → rest_step s t ≡ None
 by_kind s t k is stops = sym (same_rest_step s [] 0 t) ∙ ap (λ (x : TokenKind). step_of s x t.word) is ∙ stops

@@ -22,7 +22,7 @@ use Rattle.ddl_parts.specs.Leaves.{name, name_value, name_in, qualified}
 use Rattle.ddl_parts.specs.Lists.{comma}
 use Rattle.ddl_write.specs.RightsText.{is_all, with_commas, right_list, rights_text, granted_words, granted_name, grantee_text}
 use Rattle.ddl_rights.specs.declared.rights.Right.{Right}
-use Rattle.ddl_rights.specs.declared.rights.Right.TheVariants.{Select, Usage, Insert, References, Delete, Trigger, Truncate, Update, Create}
+use Rattle.ddl_rights.specs.declared.rights.Right.TheVariants.{Select}
 use Rattle.ddl_rights.specs.declared.rights.Kind.{Kind}
 use Rattle.ddl_rights.specs.declared.rights.Kind.TheVariants.{Tables, Sequences, Schemas, Types}
 use Rattle.ddl_rights.specs.declared.rights.Wanted.{Wanted}
@@ -53,14 +53,7 @@ on_key = record { word = (refl, refl); utf8 = refl; same = refl }
 right_key : (x : Right) → IsKey (right_word x) (written_word x)
 unfolding begins_word in_word is_digit is_utf8 chars encode is_keyword_of
 right_key Select = record { word = (refl, refl); utf8 = refl; same = refl }
-right_key Usage = record { word = (refl, refl); utf8 = refl; same = refl }
-right_key Insert = record { word = (refl, refl); utf8 = refl; same = refl }
-right_key References = record { word = (refl, refl); utf8 = refl; same = refl }
-right_key Delete = record { word = (refl, refl); utf8 = refl; same = refl }
-right_key Trigger = record { word = (refl, refl); utf8 = refl; same = refl }
-right_key Truncate = record { word = (refl, refl); utf8 = refl; same = refl }
-right_key Update = record { word = (refl, refl); utf8 = refl; same = refl }
-right_key Create = record { word = (refl, refl); utf8 = refl; same = refl }
+right_key x = record { word = (refl, refl); utf8 = refl; same = refl }
 
 abbrev pub kind_written : Kind → List ℕ
 kind_written Tables = codes "TABLE"
@@ -71,9 +64,7 @@ kind_written Types = codes "TYPE"
 kind_key : (k : Kind) → IsKey (kind_word k) (kind_written k)
 unfolding begins_word in_word is_digit is_utf8 chars encode is_keyword_of
 kind_key Tables = record { word = (refl, refl); utf8 = refl; same = refl }
-kind_key Sequences = record { word = (refl, refl); utf8 = refl; same = refl }
-kind_key Schemas = record { word = (refl, refl); utf8 = refl; same = refl }
-kind_key Types = record { word = (refl, refl); utf8 = refl; same = refl }
+kind_key x = record { word = (refl, refl); utf8 = refl; same = refl }
 
 all_key : IsKey (codes "all") (codes "ALL")
 unfolding begins_word in_word is_digit is_utf8 chars encode is_keyword_of
@@ -88,45 +79,22 @@ public_key = record { word = (refl, refl); utf8 = refl; same = refl }
 right_says : (x : Right) (t : Lexeme) → t.kind ≡ Word → t.word ≡ written_word x → right_first (t ∷ []) ≡ Some x
 unfolding right_first is_word is_keyword_of
 right_says Select t k w = rw (k, w) refl
-right_says Usage t k w = rw (k, w) refl
-right_says Insert t k w = rw (k, w) refl
-right_says References t k w = rw (k, w) refl
-right_says Delete t k w = rw (k, w) refl
-right_says Trigger t k w = rw (k, w) refl
-right_says Truncate t k w = rw (k, w) refl
-right_says Update t k w = rw (k, w) refl
-right_says Create t k w = rw (k, w) refl
+right_says x t k w = rw (k, w) refl
 
 wanted_says : (x : Right) (t : Lexeme) → t.kind ≡ Word → t.word ≡ written_word x → wanted_first (t ∷ []) ≡ Some (These (only x))
 unfolding wanted_first right_first is_word is_keyword_of
 wanted_says Select t k w = rw (k, w) refl
-wanted_says Usage t k w = rw (k, w) refl
-wanted_says Insert t k w = rw (k, w) refl
-wanted_says References t k w = rw (k, w) refl
-wanted_says Delete t k w = rw (k, w) refl
-wanted_says Trigger t k w = rw (k, w) refl
-wanted_says Truncate t k w = rw (k, w) refl
-wanted_says Update t k w = rw (k, w) refl
-wanted_says Create t k w = rw (k, w) refl
+wanted_says x t k w = rw (k, w) refl
 
 right_named : (x : Right) (t : Lexeme) → t.kind ≡ Word → t.word ≡ written_word x → name_value t ≡ Ok (right_word x)
 unfolding name_value name_in name_of is_utf8 chars encode
 right_named Select t k w = rw (k, w) refl
-right_named Usage t k w = rw (k, w) refl
-right_named Insert t k w = rw (k, w) refl
-right_named References t k w = rw (k, w) refl
-right_named Delete t k w = rw (k, w) refl
-right_named Trigger t k w = rw (k, w) refl
-right_named Truncate t k w = rw (k, w) refl
-right_named Update t k w = rw (k, w) refl
-right_named Create t k w = rw (k, w) refl
+right_named x t k w = rw (k, w) refl
 
 kind_says : (x : Kind) (t : Lexeme) → t.kind ≡ Word → t.word ≡ kind_written x → kind_first (t ∷ []) ≡ Some x
 unfolding kind_first is_word is_keyword_of
 kind_says Tables t k w = rw (k, w) refl
-kind_says Sequences t k w = rw (k, w) refl
-kind_says Schemas t k w = rw (k, w) refl
-kind_says Types t k w = rw (k, w) refl
+kind_says x t k w = rw (k, w) refl
 
 -- a word with which rights begin, as it is written, and the name that it spells
 pub record Opens (w : Wanted) (word name : List ℕ) : Type 0 where
@@ -331,9 +299,7 @@ wanted_begins {o = o} h rest =
 
 pub granted_words_are : (o : Granted) → (((sp ++ codes "ON") ++ sp) ++ kind_written (kind_of o)) ++ sp ≡ granted_words o
 granted_words_are (on.Table q) = refl
-granted_words_are (on.Sequence q) = refl
-granted_words_are (on.Schema n) = refl
-granted_words_are (on.Type q) = refl
+granted_words_are x = refl
 
 -- ---- memberships
 

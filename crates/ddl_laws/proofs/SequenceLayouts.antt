@@ -310,8 +310,7 @@ clauses_put kind start step min max cache cycle others start_is step_is min_is m
 
 said_is : (kind : SequenceKind) → given_or BigInt (said kind) ≡ kind
 said_is SmallInt = refl
-said_is Integer = refl
-said_is BigInt = refl
+said_is x = refl
 
 bound_is : (usual n : ℤ) → bound_or usual (bound_of (int_eq n usual) n) ≡ n
 bound_is usual n = by (int_eq n usual) refl
@@ -333,8 +332,7 @@ they_spell c ts e = (ts, ap clauses_of (sym e), (refl, record { last = between c
 
 pub clauses_begin : (kind : SequenceKind) (start step min max cache : ℤ) (cycle : Bool) → begins_by parts_words (clauses_text kind start step min max cache cycle ++ 59 ∷ []) ≡ true
 clauses_begin SmallInt start step min max cache cycle = refl
-clauses_begin Integer start step min max cache cycle = refl
-clauses_begin BigInt start step min max cache cycle = refl
+clauses_begin x start step min max cache cycle = refl
 
 abbrev pub sequence_pieces : Stmt → List (List ℕ)
 sequence_pieces (stmt.CreateSequence q kind start step min max cache cycle) =

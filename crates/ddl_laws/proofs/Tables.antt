@@ -315,15 +315,13 @@ unfolding at_spot element_as last_element_as named_check_as column_as
 element_is Opening (Column c) fit = fit.0
 element_is Opening (Check c) fit = fit.0.0
 element_is BehindColumn (Column c) fit = fit.0
-element_is BehindColumn (Check c) fit = fit.0.0
 element_is BehindCheck (Column c) fit = absurd cc fit.1
-element_is BehindCheck (Check c) fit = fit.0.0
+element_is x (Check c) fit = fit.0.0
 
 pub check_fits : (s : Spot) (c : CheckDef) → IsCheck c → (at_spot s).Fit (Check c)
 unfolding at_spot element_as last_element_as named_check_as
 check_fits Opening c is = ((is, refl), refl)
-check_fits BehindColumn c is = ((is, refl), refl)
-check_fits BehindCheck c is = ((is, refl), refl)
+check_fits x c is = ((is, refl), refl)
 
 abbrev pub listed_elements : List ColumnDef → List CheckDef → List TableElement
 listed_elements columns checks = map Column columns ++ map Check checks

@@ -7,9 +7,9 @@ use Rattle.cat_model.specs.declared.grant.Owned.TheVariants as owned
 use Rattle.cat_model.specs.declared.stmt.Stmt.{Stmt}
 use Rattle.cat_model.specs.declared.stmt.Stmt.TheVariants as stmt
 use Rattle.ddl_write.specs.Paths.{joined}
-use Rattle.ddl_read.specs.declared.alters.Constraint.TheVariants.{Check, Primary, Unique, Foreign as ForeignKey}
+use Rattle.ddl_read.specs.declared.alters.Constraint.TheVariants.{Check}
 use Rattle.ddl_read.specs.declared.alters.TableChange.{TableChange}
-use Rattle.ddl_read.specs.declared.alters.TableChange.TheVariants.{Owner, Default, Added}
+use Rattle.ddl_read.specs.declared.alters.TableChange.TheVariants.{Owner, Added}
 use Rattle.ddl_read.specs.AlterGrammar.{table_changed}
 use Rattle.ddl_read.specs.RelationGrammar.{SequenceChange, its_role, its_column, sequence_changed}
 use Rattle.ddl_read.specs.Grammar.{DomainChange, its_owner, one_more_check, domain_changed, created, altered, catalog_calls, selected, command, semicolon, statement}
@@ -86,11 +86,8 @@ revoke_number _ is = absurd is
 
 pub changes_number : (q : QName) (x : TableChange) → number (table_changed q x) ≡ 14
 changes_number q (Owner r) = refl
-changes_number q (Default n v) = refl
 changes_number q (Added n (Check v)) = refl
-changes_number q (Added n (Primary ns rest)) = refl
-changes_number q (Added n (Unique ns rest)) = refl
-changes_number q (Added n (ForeignKey ns parent theirs rest)) = refl
+changes_number q x = refl
 
 pub domain_number : (q : QName) (x : DomainChange) → number (domain_changed q x) ≡ 13
 domain_number q (its_owner r) = refl
@@ -121,8 +118,7 @@ revoke_opens _ is rest = absurd is
 
 pub change_opens : (q : QName) (x : TableChange) (rest : List ℕ) → begins_by parts_words (joined (pieces_by q x) ++ rest) ≡ true
 change_opens q (Owner r) rest = refl
-change_opens q (Default n v) rest = refl
-change_opens q (Added n c) rest = refl
+change_opens q x rest = refl
 
 -- ---- CREATE
 
