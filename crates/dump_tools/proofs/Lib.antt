@@ -5,3 +5,5 @@ pub mod Ending
 pub mod Putting
 pub mod Telling
 pub mod Staying
+pub mod Taking
+pub mod Scripting

@@ -19,8 +19,9 @@ use Rattle.tool_words.specs.Answers.{◌>>=◌}
 use Rattle.tool_words.specs.Words.{words_asked}
 use Rattle.dump_tools.specs.Due.{asked_due, due, Plan, Applies, Prints, Compares, Application, Applied, IsCarriedOut, WasDue, report_of}
 use Rattle.dump_tools.specs.Outputs.{World, world, Output, Writes, Tells, all_performed, IsPart, IsCut, CutShort, stores}
-use Rattle.dump_tools.specs.Runs.{Run, run_of, IsApplied, HasEnded, HasCut}
+use Rattle.dump_tools.specs.Runs.{Run, run_of, IsApplied, HasCut}
 use Rattle.dump_tools.proofs.Ending.{made_of, holds}
+use Rattle.dump_tools.proofs.Taking.{Came, alone}
 
 pub same_world : (tree tree' : Option Tree) (left : Option Bytes) (printed printed' told told' : Option Bytes) → tree ≡ tree' → printed ≡ printed' → told ≡ told' → world tree left printed told ≡ world tree' left printed' told'
 same_world tree tree' left printed printed' told told' a b c = rw (a, b, c) refl
@@ -89,20 +90,20 @@ told_whole tree left printed told after text a = inr (record { front = text; res
 -- ---- runs that are cut short
 
 -- nothing was put out
-pub cut_none : (teller : Teller) (due : Result Plan Outcome) (before after : World) → after ≡ before → HasCut teller due before after
+pub cut_none : (teller : Teller) (due : Result Plan Outcome) (before after : World) → after ≡ before → HasCut None teller due before after
 cut_none teller due before after e = record { outputs = []; of_run = inl refl; cut = record { whole = []; later = []; split = refl; cut = e } }
 
 -- the files are as they were, and so are the streams
-pub cut_kept : (teller : Teller) (due : Result Plan Outcome) (tree tree' : Option Tree) (left printed told : Option Bytes) → tree' ≡ tree → HasCut teller due (world tree left printed told) (world tree' left printed told)
+pub cut_kept : (teller : Teller) (due : Result Plan Outcome) (tree tree' : Option Tree) (left printed told : Option Bytes) → tree' ≡ tree → HasCut None teller due (world tree left printed told) (world tree' left printed told)
 cut_kept teller due tree tree' left printed told e = cut_none teller due (world tree left printed told) (world tree' left printed told) (ap (λ t. world t left printed told) e)
 
 -- what is cut short of what is due
-pub cut_due : (teller : Teller) (due d : Result Plan Outcome) (before after : World) → due ≡ d → HasCut teller d before after → HasCut teller due before after
-cut_due teller due d before after e h = subst (λ r. HasCut teller r before after) (sym e) h
+pub cut_due : (teller : Teller) (reads r : Option Bytes) (due d : Result Plan Outcome) (before after : World) → reads ≡ r → due ≡ d → HasCut r teller d before after → HasCut reads teller due before after
+cut_due teller reads r due d before after one two h = subst (λ x. HasCut x teller due before after) (sym one) (subst (λ x. HasCut r teller x before after) (sym two) h)
 
 -- what is due of the words, once they are read
-pub due_asked : (words : List Bytes) (moment : Moment) (tree : Tree) (asked : Asked) → words_asked words ≡ Ok asked → due words moment tree ≡ asked_due asked moment tree
-due_asked words moment tree asked e = ap (λ (r : Result Asked Outcome). r >>= λ a. asked_due a moment tree) e
+pub due_asked : (words : List Bytes) (moment : Moment) (tree : Tree) (input : Bytes) (asked : Asked) → words_asked words ≡ Ok asked → due words moment tree input ≡ asked_due asked moment tree input
+due_asked words moment tree input asked e = ap (λ (r : Result Asked Outcome). r >>= λ a. asked_due a moment tree input) e
 
 abbrev pub applied_run : (plan : Application) (text : Bytes) → Run
 applied_run plan text = run_of (map stores (files_written plan.folder text) ++ Tells (report_of plan) ∷ []) Done
@@ -112,18 +113,18 @@ pub may_apply : (plan : Application) (schemas : List SchemaRow) (text : Bytes) �
 may_apply plan schemas text g same n = record { text = text; comes = made_of plan schemas text g same n; holds = holds plan schemas text n; is = refl }
 
 -- the writing of a folder ended on its way
-pub cut_in_folder : (teller : Teller) (plan : Application) (text : Bytes) → IsApplied plan (applied_run plan text) → (before after : Option Tree) (left printed told : Option Bytes) → PartSaved (files_written plan.folder text) before after → HasCut teller (Ok (Applies plan)) (world before left printed told) (world after left printed told)
+pub cut_in_folder : (teller : Teller) (plan : Application) (text : Bytes) → IsApplied plan (applied_run plan text) → (before after : Option Tree) (left printed told : Option Bytes) → PartSaved (files_written plan.folder text) before after → HasCut None teller (Ok (Applies plan)) (world before left printed told) (world after left printed told)
 cut_in_folder teller plan text may before after left printed told s = record {
   outputs = map stores (files_written plan.folder text) ++ Tells (report_of plan) ∷ [];
-  of_run = inr (applied_run plan text, may, refl);
+  of_run = inr (applied_run plan text, alone teller (Ok (Applies plan)) (applied_run plan text) may, refl);
   cut = folder_cut (files_written plan.folder text) (Tells (report_of plan) ∷ []) before after left printed told s;
 }
 
 -- the telling of the report ended on its way
-pub cut_in_report : (teller : Teller) (plan : Application) (before after : Option Tree) (left printed told told_after : Option Bytes) → Applied plan before after → AppendsPart (report_of plan) told told_after → HasCut teller (Ok (Applies plan)) (world before left printed told) (world after left printed told_after)
+pub cut_in_report : (teller : Teller) (plan : Application) (before after : Option Tree) (left printed told told_after : Option Bytes) → Applied plan before after → AppendsPart (report_of plan) told told_after → HasCut None teller (Ok (Applies plan)) (world before left printed told) (world after left printed told_after)
 cut_in_report teller plan before after left printed told told_after a p = record {
   outputs = map stores (files_written plan.folder a.text) ++ Tells (report_of plan) ∷ [];
-  of_run = inr (applied_run plan a.text, record { text = a.text; comes = a.result; holds = a.holds; is = refl }, refl);
+  of_run = inr (applied_run plan a.text, alone teller (Ok (Applies plan)) (applied_run plan a.text) (record { text = a.text; comes = a.result; holds = a.holds; is = refl }), refl);
   cut = record {
     whole = map stores (files_written plan.folder a.text);
     later = Tells (report_of plan) ∷ [];
@@ -135,20 +136,20 @@ cut_in_report teller plan before after left printed told told_after a p = record
 }
 
 -- the printing of a text ended on its way
-pub cut_in_text : (teller : Teller) (due : Result Plan Outcome) (text : Bytes) (tree tree' : Option Tree) (left printed printed_after told : Option Bytes) → due ≡ Ok (Prints text) → tree' ≡ tree → AppendsPart text printed printed_after → HasCut teller due (world tree left printed told) (world tree' left printed_after told)
+pub cut_in_text : (teller : Teller) (due : Result Plan Outcome) (text : Bytes) (tree tree' : Option Tree) (left printed printed_after told : Option Bytes) → due ≡ Ok (Prints text) → tree' ≡ tree → AppendsPart text printed printed_after → HasCut None teller due (world tree left printed told) (world tree' left printed_after told)
 cut_in_text teller due text tree tree' left printed printed_after told d e p = rw (d, e) (record {
   outputs = Writes text ∷ [];
-  of_run = inr (run_of (Writes text ∷ []) Done, refl, refl);
+  of_run = inr (run_of (Writes text ∷ []) Done, alone teller (Ok (Prints text)) (run_of (Writes text ∷ []) Done) refl, refl);
   cut = record { whole = []; later = Writes text ∷ []; split = refl; cut = printed_part tree left printed printed_after told text p };
 })
 
 -- ---- a run that has ended
 
 -- a plan that was due was carried out
-pub ended : (teller : Teller) (due : Result Plan Outcome) (before after : Option Tree) (left out_before out_after told_before told_after : Option Bytes) → WasDue due before after out_before out_after told_before told_after → HasEnded teller due Done (world before left out_before told_before) (world after left out_after told_after)
-ended teller due before after left out_before out_after told_before told_after w = subst (λ d. HasEnded teller d Done (world before left out_before told_before) (world after left out_after told_after)) (sym w.is_due) (of w.plan w.carried)
+pub ended : (teller : Teller) (due : Result Plan Outcome) (before after : Option Tree) (left out_before out_after told_before told_after : Option Bytes) → WasDue due before after out_before out_after told_before told_after → Came teller due Done (world before left out_before told_before) (world after left out_after told_after)
+ended teller due before after left out_before out_after told_before told_after w = subst (λ d. Came teller d Done (world before left out_before told_before) (world after left out_after told_after)) (sym w.is_due) (of w.plan w.carried)
   where
-    of : (plan : Plan) → IsCarriedOut plan before after out_before out_after told_before told_after → HasEnded teller (Ok plan) Done (world before left out_before told_before) (world after left out_after told_after)
+    of : (plan : Plan) → IsCarriedOut plan before after out_before out_after told_before told_after → Came teller (Ok plan) Done (world before left out_before told_before) (world after left out_after told_after)
     of (Applies plan) carried = record {
       run = applied_run plan carried.0.text;
       may = record { text = carried.0.text; comes = carried.0.result; holds = carried.0.holds; is = refl };

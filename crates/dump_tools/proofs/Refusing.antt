@@ -28,6 +28,8 @@ use Rattle.command_line.specs.declared.usage.UsageFault.{UsageFault}
 use Rattle.command_line.specs.Usage.{command_from}
 use Rattle.tool_words.specs.declared.words.Asked.{Asked}
 use Rattle.tool_words.specs.declared.words.Asked.TheVariants.{Psql, Dump, Compare}
+use Rattle.tool_words.specs.declared.words.ScriptSource.{ScriptSource}
+use Rattle.tool_words.specs.declared.words.ScriptSource.TheVariants.{File, Input}
 use Rattle.tool_words.specs.Words.{asked_of, built, asked_by, words_asked}
 use Rattle.schema_folders.specs.Naming.{boot}
 use Rattle.dump_ports.specs.declared.moment.Moment.{Moment}
@@ -41,7 +43,7 @@ use Rattle.schema_folders.specs.Folder.{is_bare, schemas_of, opening_in, opening
 use Rattle.tool_words.specs.Outcomes.{fault_outcome}
 use Rattle.exports.specs.Cells.{catalogue_with}
 use Rattle.exports.specs.Exports.{Exported, told, well_formed, have_rows, export_with, export_of}
-use Rattle.dump_tools.specs.Due.{script_limit, psql_due, database, dump_row, counted, dump_due, second_due, compare_due, asked_due, due}
+use Rattle.dump_tools.specs.Due.{script_limit, input_of, source_of, text_due, psql_due, database, dump_row, counted, dump_due, second_due, compare_due, asked_due, due}
 
 same : (A B : Type 0) (o : Outcome) → ◌≡◌ {A = Result B Outcome} (Err o) (Err Done) → ◌≡◌ {A = Result A Outcome} (Err o) (Err Done)
 same A B o e = ap Err (inner B o e)
@@ -123,13 +125,28 @@ script_never : (text : List ℕ) → script_of text ≡ Err Done → ⊥
 unfolding script_of
 script_never text e = scripted_never (statements_of text) e
 
-psql_never : (folder script : Bytes) (tree : Tree) → psql_due folder script tree ≡ Err Done → ⊥
-unfolding psql_due
-psql_never folder script tree e =
-    bind_never (file_of Script script_limit script tree) _ (file_never Script script_limit script tree)
-    (λ text. bind_never (script_of text) _ (script_never text)
+input_never : (what : Limit) (limit : ℕ) (input : Bytes) → input_of what limit input ≡ Err Done → ⊥
+unfolding input_of
+input_never what limit input e = by_length (nat_le (length input) limit) e
+  where
+    by_length : (b : Bool) → cond {A = Result Bytes Outcome} b (Ok input) (Err (TooLarge what (limit + 1))) ≡ Err Done → ⊥
+    by_length true h = cc
+    by_length false h = cc
+
+source_never : (script : ScriptSource) (tree : Tree) (input : Bytes) → source_of script tree input ≡ Err Done → ⊥
+source_never (File name) tree input e = file_never Script script_limit name tree e
+source_never Input tree input e = input_never Script script_limit input e
+
+text_never : (folder text : Bytes) (tree : Tree) → text_due folder text tree ≡ Err Done → ⊥
+unfolding text_due
+text_never folder text tree e =
+    bind_never (script_of text) _ (script_never text)
     (λ statements. bind_never (opening_of folder tree) _ (opening_never folder tree)
-    (λ rows h. ok_never _ h))) e
+    (λ rows h. ok_never _ h)) e
+
+psql_never : (folder : Bytes) (script : ScriptSource) (tree : Tree) (input : Bytes) → psql_due folder script tree input ≡ Err Done → ⊥
+unfolding psql_due
+psql_never folder script tree input e = bind_never (source_of script tree input) (λ text. text_due folder text tree) (source_never script tree input) (λ text h. text_never folder text tree h) e
 
 counted_never : (script : Bytes) (toc : Result (List Entry) ℕ) → counted script toc ≡ Err Done → ⊥
 counted_never script (Ok entries) e = cc
@@ -150,10 +167,10 @@ unfolding compare_due
 compare_never first second tree e =
     bind_never (export_of first tree) (λ one. second_due one second tree) (export_never first tree) (λ one h. second_never one second tree h) e
 
-asked_never : (asked : Asked) (moment : Moment) (tree : Tree) → asked_due asked moment tree ≡ Err Done → ⊥
-asked_never (Psql folder script) moment tree e = psql_never folder script tree e
-asked_never (Dump folder) moment tree e = dump_never folder moment tree e
-asked_never (Compare first second) moment tree e = compare_never first second tree e
+asked_never : (asked : Asked) (moment : Moment) (tree : Tree) (input : Bytes) → asked_due asked moment tree input ≡ Err Done → ⊥
+asked_never (Psql folder script) moment tree input e = psql_never folder script tree input e
+asked_never (Dump folder) moment tree input e = dump_never folder moment tree e
+asked_never (Compare first second) moment tree input e = compare_never first second tree e
 
 built_never : (asked : Option Asked) → built asked ≡ Err Done → ⊥
 built_never None e = cc
@@ -167,6 +184,6 @@ words_never : (words : List Bytes) → words_asked words ≡ Err Done → ⊥
 unfolding words_asked
 words_never words e = command_never (command_from words) e
 
--- what is due of the words and the files isn't Done as a refusal
-pub due_never : (words : List Bytes) (moment : Moment) (tree : Tree) → due words moment tree ≡ Err Done → ⊥
-due_never words moment tree e = bind_never (words_asked words) (λ asked. asked_due asked moment tree) (words_never words) (λ asked h. asked_never asked moment tree h) e
+-- what is due of the words, the files and standard input isn't Done as a refusal
+pub due_never : (words : List Bytes) (moment : Moment) (tree : Tree) (input : Bytes) → due words moment tree input ≡ Err Done → ⊥
+due_never words moment tree input e = bind_never (words_asked words) (λ asked. asked_due asked moment tree input) (words_never words) (λ asked h. asked_never asked moment tree input h) e

@@ -1,5 +1,5 @@
 -- What outputs leave as it was.
-use Rattle.std.proofs.Common.{◌≡◌, ◌≢◌, false, cond, List, [], ◌∷◌, ◌++◌, map, Option, Some, None, option_map, refl, sym, ap, subst, ◌∙◌, inl, inr, append-nil}
+use Rattle.std.proofs.Common.{◌≡◌, ◌≢◌, false, cond, List, [], ◌∷◌, ◌++◌, map, Option, Some, None, option_map, Result, Ok, Err, refl, sym, ap, subst, ◌∙◌, inl, inr, append-nil}
 use Rattle.std.specs.declared.cmp.Ordering.{Ordering}
 use Rattle.std.specs.declared.cmp.Ordering.TheVariants.{Less, Equal, Greater}
 use Rattle.std.specs.Ordering.{eq_by_cmp, is_eq}
@@ -7,10 +7,15 @@ use Rattle.std.specs.FinMap.{get-insert, insert, nat_cmp-IsAntisymmetric, slice_
 use Rattle.std.specs.Cmp.Lexicographic.{nat_list_cmp_total}
 use Rattle.dump_ports.specs.Tree.{Tree, text_at}
 use Rattle.cat_rows.specs.declared.table.SysTable.{SysTable}
-use Rattle.cat_model.specs.Values.{Bytes, bytes_cmp}
+use Rattle.cat_model.specs.Values.{Bytes, bytes_cmp, Named}
+use Rattle.tool_words.specs.declared.outcome.Outcome.{Outcome}
+use Rattle.tool_words.specs.declared.words.Teller.{Teller}
 use Rattle.schema_folders.specs.Folder.{File, IsElsewhere, all_tables, table_written, table_files, marker_written, files_written}
-use Rattle.dump_tools.specs.Outputs.{World, Output, Stores, Writes, Tells, with_text, performed, all_performed, IsPart, IsCut, CutShort, stores}
-use Rattle.dump_tools.specs.Stays.{IsOther, AreOthers, Keeps, IsSilent, AreSilent}
+use Rattle.dump_tools.specs.Outputs.{World, Output, Stores, Writes, Tells, Takes, with_text, performed, all_performed, IsPart, IsCut, CutShort, stores}
+use Rattle.dump_tools.specs.Runs.{Run, IsCompared, MayCome, MayRun}
+use Rattle.dump_tools.specs.Due.{Plan, Applies, Prints, Compares, report_of}
+use Rattle.dump_tools.specs.Stays.{IsOther, AreOthers, Keeps, IsSilent, AreSilent, TakesNone, AllTakeNone}
+use Rattle.dump_tools.proofs.Taking.{came}
 
 not_tied : (a b : Bytes) (o : Ordering) → bytes_cmp a b ≡ o → a ≢ b → is_eq o ≡ false
 not_tied a b Less e n = refl
@@ -34,11 +39,13 @@ one_keeps name (Stores file text) w n = of w.tree
     of (Some t) = ap Some (other_text name file text t n)
 one_keeps name (Writes text) w n = refl
 one_keeps name (Tells text) w n = refl
+one_keeps name (Takes text) w n = refl
 
 same_kind : (name : Bytes) (output : Output) (text : Bytes) → IsOther name output → IsOther name (with_text output text)
 same_kind name (Stores file old) text n = n
 same_kind name (Writes old) text n = tt
 same_kind name (Tells old) text n = tt
+same_kind name (Takes old) text n = tt
 
 all_keep : (name : Bytes) (outputs : List Output) (w : World) → AreOthers name outputs → Keeps name w (all_performed outputs w)
 all_keep name [] w n = refl
@@ -70,22 +77,40 @@ short_keeps outputs before after name s n =
 
 -- ---- standard input
 
-one_left : (output : Output) (w : World) → (performed output w).left ≡ w.left
-one_left (Stores file text) w = refl
-one_left (Writes text) w = refl
-one_left (Tells text) w = refl
+one_left : (output : Output) (w : World) → TakesNone output → (performed output w).left ≡ w.left
+one_left (Stores file text) w h = refl
+one_left (Writes text) w h = refl
+one_left (Tells text) w h = refl
+one_left (Takes text) w h = elim h [ ]
 
-all_left : (outputs : List Output) (w : World) → (all_performed outputs w).left ≡ w.left
-all_left [] w = refl
-all_left (output ∷ outputs) w = all_left outputs (performed output w) ∙ one_left output w
+still_none : (output : Output) (text : Bytes) → TakesNone output → TakesNone (with_text output text)
+still_none (Stores file old) text h = tt
+still_none (Writes old) text h = tt
+still_none (Tells old) text h = tt
+still_none (Takes old) text h = elim h [ ]
 
-cut_left : (outputs : List Output) (before after : World) → IsCut outputs before after → after.left ≡ before.left
-cut_left [] before after e = ap (λ w. w.left) e
-cut_left (output ∷ outputs) before after (inl e) = ap (λ w. w.left) e
-cut_left (output ∷ outputs) before after (inr p) = ap (λ w. w.left) p.put ∙ one_left (with_text output p.front) before
+all_left : (outputs : List Output) (w : World) → AllTakeNone outputs → (all_performed outputs w).left ≡ w.left
+all_left [] w h = refl
+all_left (output ∷ outputs) w h = all_left outputs (performed output w) h.1 ∙ one_left output w h.0
 
-pub short_left : (outputs : List Output) (before after : World) → CutShort outputs before after → after.left ≡ before.left
-short_left outputs before after s = cut_left s.later (all_performed s.whole before) after s.cut ∙ all_left s.whole before
+cut_left : (outputs : List Output) (before after : World) → AllTakeNone outputs → IsCut outputs before after → after.left ≡ before.left
+cut_left [] before after h e = ap (λ w. w.left) e
+cut_left (output ∷ outputs) before after h (inl e) = ap (λ w. w.left) e
+cut_left (output ∷ outputs) before after h (inr p) = ap (λ w. w.left) p.put ∙ one_left (with_text output p.front) before (still_none output p.front h.0)
+
+first_none : (xs ys : List Output) → AllTakeNone (xs ++ ys) → AllTakeNone xs
+first_none [] ys h = tt
+first_none (x ∷ xs) ys h = (h.0, first_none xs ys h.1)
+
+last_none : (xs ys : List Output) → AllTakeNone (xs ++ ys) → AllTakeNone ys
+last_none [] ys h = h
+last_none (x ∷ xs) ys h = last_none xs ys h.1
+
+pub short_left : (outputs : List Output) (before after : World) → CutShort outputs before after → AllTakeNone outputs → after.left ≡ before.left
+short_left outputs before after s n =
+    let all : AllTakeNone (s.whole ++ s.later) = subst (λ os. AllTakeNone os) s.split n in
+    cut_left s.later (all_performed s.whole before) after (last_none s.whole s.later all) s.cut
+    ∙ all_left s.whole before (first_none s.whole s.later all)
 
 -- ---- standard output
 
@@ -93,11 +118,13 @@ one_printed : (output : Output) (w : World) → IsSilent output → (performed o
 one_printed (Stores file text) w h = refl
 one_printed (Writes text) w h = elim h [ ]
 one_printed (Tells text) w h = refl
+one_printed (Takes text) w h = refl
 
 still_silent : (output : Output) (text : Bytes) → IsSilent output → IsSilent (with_text output text)
 still_silent (Stores file old) text h = tt
 still_silent (Writes old) text h = elim h [ ]
 still_silent (Tells old) text h = tt
+still_silent (Takes old) text h = tt
 
 all_printed : (outputs : List Output) (w : World) → AreSilent outputs → (all_performed outputs w).printed ≡ w.printed
 all_printed [] w h = refl
@@ -141,3 +168,25 @@ folder_silent folder namespaces report = of (files_written folder namespaces)
     of : (files : List File) → AreSilent (map stores files ++ Tells report ∷ [])
     of [] = (tt, tt)
     of (file ∷ files) = (tt, of files)
+
+-- ---- what takes nothing off standard input
+
+folder_none : (folder namespaces report : Bytes) → AllTakeNone (map stores (files_written folder namespaces) ++ Tells report ∷ [])
+folder_none folder namespaces report = of (files_written folder namespaces)
+  where
+    of : (files : List File) → AllTakeNone (map stores files ++ Tells report ∷ [])
+    of [] = (tt, tt)
+    of (file ∷ files) = (tt, of files)
+
+compared_none : (teller : Teller) (a b : Named) (run : Run) → IsCompared teller a b run → AllTakeNone run.outputs
+compared_none teller a b run (inl h) = subst (λ (r : Run). AllTakeNone r.outputs) (sym h.1) tt
+compared_none teller a b run (inr h) = subst (λ (r : Run). AllTakeNone r.outputs) (sym h.2) (tt, tt)
+
+pub later_none : (teller : Teller) (due : Result Plan Outcome) (run : Run) → MayCome teller due run → AllTakeNone run.outputs
+later_none teller (Err refusal) run may = subst (λ (r : Run). AllTakeNone r.outputs) (sym may) (tt, tt)
+later_none teller (Ok (Applies plan)) run may = subst (λ (r : Run). AllTakeNone r.outputs) (sym may.is) (folder_none plan.folder may.text (report_of plan))
+later_none teller (Ok (Prints text)) run may = subst (λ (r : Run). AllTakeNone r.outputs) (sym may) (tt, tt)
+later_none teller (Ok (Compares a b)) run may = compared_none teller a b run may
+
+pub unread_none : (teller : Teller) (due : Result Plan Outcome) (run : Run) → MayRun None teller due run → AllTakeNone run.outputs
+unread_none teller due run may = later_none teller due run (came teller due run may)

@@ -1,5 +1,5 @@
 -- What a call comes to once the line of an answer was told, or couldn't be told.
-use Rattle.std.proofs.Common.{◌≡◌, ℕ, List, [], ◌∷◌, Option, Result, Err, refl, sym, ap, subst, ◌∙◌, ◌⊎◌, inl, inr}
+use Rattle.std.proofs.Common.{◌≡◌, ℕ, List, [], ◌∷◌, Option, Result, Err, refl, sym, ap, subst, ◌⊎◌, inl, inr}
 use Rattle.dump_ports.specs.Tree.{Tree}
 use Rattle.dump_ports.specs.Faults.{HasRisen}
 use Rattle.dump_ports.specs.declared.moment.Moment.{Moment}
@@ -12,8 +12,9 @@ use Rattle.tool_words.specs.Answers.{IsRefusal, IsTold}
 use Rattle.tool_words.specs.Lines.{Appends, AppendsPart}
 use Rattle.tool_words.specs.Messages.{outcome_line}
 use Rattle.dump_tools.specs.Due.{Plan, IsAnswerDue, IsDifference, Counts, NoneRose, Counted, due}
-use Rattle.dump_tools.specs.Outputs.{World, world, Tells, performed, IsPart}
-use Rattle.dump_tools.specs.Runs.{told_run, MayCome, HasCut, IsEarly, HasEndedEarly, Ended, Answered}
+use Rattle.dump_tools.specs.Outputs.{World, world, Tells}
+use Rattle.dump_tools.specs.Runs.{told_run, MayCome, HasCut, IsEarly, HasEndedEarly, read_by, Ended, Answered}
+use Rattle.dump_tools.proofs.Taking.{Begun, alone, behind_ended, behind_cut}
 use Rattle.dump_tools.proofs.Putting.{told_part, told_whole}
 use Rattle.dump_tools.proofs.Counting.{none_early}
 
@@ -66,31 +67,31 @@ refuses d (Differs key) n h late = (tt, tt)
 refuses d Memory n h late = elim (late tt) [ ]
 
 -- by cases of the answer: what has ended, or was cut short, is what is answered
-as_answered : (answer : Outcome) (words : List Bytes) (moment : Moment) (tree : Tree) (before after : World) (lines lines_after : ℕ)
-    → (IsEarly answer → HasEndedEarly (teller_of words) (due words moment tree) answer before after lines lines_after)
-    → ((IsEarly answer → ⊥) → Ended words moment tree answer before after)
-    → Answered answer words moment tree before after lines lines_after
-as_answered Done words moment tree before after lines lines_after e w = w (λ h. h)
-as_answered (Usage word kind) words moment tree before after lines lines_after e w = w (λ h. h)
-as_answered ReadFault words moment tree before after lines lines_after e w = e tt
-as_answered WriteFault words moment tree before after lines lines_after e w = e tt
-as_answered (Missing name) words moment tree before after lines lines_after e w = w (λ h. h)
-as_answered (BadExport file line kind) words moment tree before after lines lines_after e w = w (λ h. h)
-as_answered (BadScript fault) words moment tree before after lines lines_after e w = w (λ h. h)
-as_answered (OutOfProfile what) words moment tree before after lines lines_after e w = w (λ h. h)
-as_answered (TooLarge what most) words moment tree before after lines lines_after e w = w (λ h. h)
-as_answered (Differs key) words moment tree before after lines lines_after e w = w (λ h. h)
-as_answered Memory words moment tree before after lines lines_after e w = e tt
+as_answered : (answer : Outcome) (words : List Bytes) (moment : Moment) (tree : Tree) (input : Bytes) (before after : World) (lines lines_after : ℕ)
+    → (IsEarly answer → HasEndedEarly (read_by words input) (teller_of words) (due words moment tree input) answer before after lines lines_after)
+    → ((IsEarly answer → ⊥) → Ended words moment tree input answer before after)
+    → Answered answer words moment tree input before after lines lines_after
+as_answered Done words moment tree input before after lines lines_after e w = w (λ h. h)
+as_answered (Usage word kind) words moment tree input before after lines lines_after e w = w (λ h. h)
+as_answered ReadFault words moment tree input before after lines lines_after e w = e tt
+as_answered WriteFault words moment tree input before after lines lines_after e w = e tt
+as_answered (Missing name) words moment tree input before after lines lines_after e w = w (λ h. h)
+as_answered (BadExport file line kind) words moment tree input before after lines lines_after e w = w (λ h. h)
+as_answered (BadScript fault) words moment tree input before after lines lines_after e w = w (λ h. h)
+as_answered (OutOfProfile what) words moment tree input before after lines lines_after e w = w (λ h. h)
+as_answered (TooLarge what most) words moment tree input before after lines lines_after e w = w (λ h. h)
+as_answered (Differs key) words moment tree input before after lines lines_after e w = w (λ h. h)
+as_answered Memory words moment tree input before after lines lines_after e w = e tt
 
 -- an answer whose line was told
-pub told_answer : (answer : Outcome) (words : List Bytes) (moment : Moment) (tree : Tree) (before : World) (files : Option Tree) (left printed told told_after : Option Bytes) (lines lines_after : ℕ)
-    → (due words moment tree ≡ Err Done → ⊥) → IsAnswerDue answer (due words moment tree)
-    → ((IsEarly answer → ⊥) → world files left printed told ≡ before)
-    → HasCut (teller_of words) (due words moment tree) before (world files left printed told)
+pub told_answer : (answer : Outcome) (words : List Bytes) (moment : Moment) (tree : Tree) (input : Bytes) (before : World) (files : Option Tree) (left printed told told_after : Option Bytes) (lines lines_after : ℕ)
+    → (due words moment tree input ≡ Err Done → ⊥) → IsAnswerDue answer (due words moment tree input)
+    → ((IsEarly answer → ⊥) → Begun (read_by words input) before (world files left printed told))
+    → HasCut (read_by words input) (teller_of words) (due words moment tree input) before (world files left printed told)
     → Appends (outcome_line (teller_of words) answer) told told_after
-    → Answered answer words moment tree before (world files left printed told_after) lines lines_after
-told_answer answer words moment tree before files left printed told told_after lines lines_after n d same cut line =
-    as_answered answer words moment tree before (world files left printed told_after) lines lines_after
+    → Answered answer words moment tree input before (world files left printed told_after) lines lines_after
+told_answer answer words moment tree input before files left printed told told_after lines lines_after n d same cut line =
+    as_answered answer words moment tree input before (world files left printed told_after) lines lines_after
     (λ early. record {
       between = world files left printed told;
       ended = cut;
@@ -98,25 +99,25 @@ told_answer answer words moment tree before files left printed told told_after l
       own = inl refl;
       line = told_whole files left printed told told_after (outcome_line (teller_of words) answer) line;
     })
-    (λ late. elim (may_tell (teller_of words) (due words moment tree) answer n d) [
+    (λ late. elim (may_tell (teller_of words) (due words moment tree input) answer n d) [
       | inl early ↦ elim (late early) [ ]
-      | inr may ↦ record {
+      | inr may ↦ behind_ended (read_by words input) (teller_of words) (due words moment tree input) answer before (world files left printed told) (world files left printed told_after) (same late) (record {
         run = told_run (teller_of words) answer;
         may = may;
         answers = refl;
-        put = ap (λ t. world files left printed t) line ∙ ap (λ w. performed (Tells (outcome_line (teller_of words) answer)) w) (same late);
-      }
+        put = ap (λ t. world files left printed t) line;
+      })
     ])
 
 -- an answer whose line couldn't be told
-pub untold_answer : (answer : Outcome) (words : List Bytes) (moment : Moment) (tree : Tree) (before : World) (files : Option Tree) (left printed told told_after : Option Bytes) (lines lines_after : ℕ)
-    → (due words moment tree ≡ Err Done → ⊥) → IsAnswerDue answer (due words moment tree)
-    → ((IsEarly answer → ⊥) → world files left printed told ≡ before)
-    → HasCut (teller_of words) (due words moment tree) before (world files left printed told)
+pub untold_answer : (answer : Outcome) (words : List Bytes) (moment : Moment) (tree : Tree) (input : Bytes) (before : World) (files : Option Tree) (left printed told told_after : Option Bytes) (lines lines_after : ℕ)
+    → (due words moment tree input ≡ Err Done → ⊥) → IsAnswerDue answer (due words moment tree input)
+    → ((IsEarly answer → ⊥) → Begun (read_by words input) before (world files left printed told))
+    → HasCut (read_by words input) (teller_of words) (due words moment tree input) before (world files left printed told)
     → AppendsPart (outcome_line (teller_of words) answer) told told_after
     → HasRisen lines lines_after
-    → Answered WriteFault words moment tree before (world files left printed told_after) lines lines_after
-untold_answer answer words moment tree before files left printed told told_after lines lines_after n d same cut line risen =
+    → Answered WriteFault words moment tree input before (world files left printed told_after) lines lines_after
+untold_answer answer words moment tree input before files left printed told told_after lines lines_after n d same cut line risen =
     elim (is_early answer) [
       | inl early ↦ record {
         between = world files left printed told;
@@ -125,20 +126,20 @@ untold_answer answer words moment tree before files left printed told told_after
         own = inr (refl, early, risen);
         line = told_part files left printed told told_after (outcome_line (teller_of words) answer) line;
       }
-      | inr late ↦ elim (may_tell (teller_of words) (due words moment tree) answer n d) [
+      | inr late ↦ elim (may_tell (teller_of words) (due words moment tree input) answer n d) [
         | inl early ↦ elim (late early) [ ]
         | inr may ↦ record {
           between = world files left printed told_after;
-          ended = record {
+          ended = behind_cut (read_by words input) (teller_of words) (due words moment tree input) before (world files left printed told) (world files left printed told_after) (same late) (record {
             outputs = Tells (outcome_line (teller_of words) answer) ∷ [];
-            of_run = inr (told_run (teller_of words) answer, may, refl);
+            of_run = inr (told_run (teller_of words) answer, alone (teller_of words) (due words moment tree input) (told_run (teller_of words) answer) may, refl);
             cut = record {
               whole = [];
               later = Tells (outcome_line (teller_of words) answer) ∷ [];
               split = refl;
-              cut = subst (λ w. IsPart (Tells (outcome_line (teller_of words) answer)) w (world files left printed told_after)) (same late) (told_part files left printed told told_after (outcome_line (teller_of words) answer) line);
+              cut = told_part files left printed told told_after (outcome_line (teller_of words) answer) line;
             };
-          };
+          });
           said = WriteFault;
           own = inl refl;
           line = inl refl;
@@ -160,15 +161,15 @@ untold_answer answer words moment tree before files left printed told told_after
     is_early Memory = inl tt
 
 -- where no count rose, what is answered has ended, or there was no memory
-pub completed : (answer : Outcome) (words : List Bytes) (moment : Moment) (tree : Tree) (before after : World) (lines lines_after : ℕ) (a b : Counts) → NoneRose a b → Counted answer a b → Answered answer words moment tree before after lines lines_after → Ended words moment tree answer before after ⊎ (answer ≡ Memory)
-completed Done words moment tree before after lines lines_after a b none c h = inl h
-completed (Usage word kind) words moment tree before after lines lines_after a b none c h = inl h
-completed ReadFault words moment tree before after lines lines_after a b none c h = elim (none_early ReadFault a b none c (inl refl)) [ ]
-completed WriteFault words moment tree before after lines lines_after a b none c h = elim (none_early WriteFault a b none c (inr refl)) [ ]
-completed (Missing name) words moment tree before after lines lines_after a b none c h = inl h
-completed (BadExport file line kind) words moment tree before after lines lines_after a b none c h = inl h
-completed (BadScript fault) words moment tree before after lines lines_after a b none c h = inl h
-completed (OutOfProfile what) words moment tree before after lines lines_after a b none c h = inl h
-completed (TooLarge what most) words moment tree before after lines lines_after a b none c h = inl h
-completed (Differs key) words moment tree before after lines lines_after a b none c h = inl h
-completed Memory words moment tree before after lines lines_after a b none c h = inr refl
+pub completed : (answer : Outcome) (words : List Bytes) (moment : Moment) (tree : Tree) (input : Bytes) (before after : World) (lines lines_after : ℕ) (a b : Counts) → NoneRose a b → Counted answer a b → Answered answer words moment tree input before after lines lines_after → Ended words moment tree input answer before after ⊎ (answer ≡ Memory)
+completed Done words moment tree input before after lines lines_after a b none c h = inl h
+completed (Usage word kind) words moment tree input before after lines lines_after a b none c h = inl h
+completed ReadFault words moment tree input before after lines lines_after a b none c h = elim (none_early ReadFault a b none c (inl refl)) [ ]
+completed WriteFault words moment tree input before after lines lines_after a b none c h = elim (none_early WriteFault a b none c (inr refl)) [ ]
+completed (Missing name) words moment tree input before after lines lines_after a b none c h = inl h
+completed (BadExport file line kind) words moment tree input before after lines lines_after a b none c h = inl h
+completed (BadScript fault) words moment tree input before after lines lines_after a b none c h = inl h
+completed (OutOfProfile what) words moment tree input before after lines lines_after a b none c h = inl h
+completed (TooLarge what most) words moment tree input before after lines lines_after a b none c h = inl h
+completed (Differs key) words moment tree input before after lines lines_after a b none c h = inl h
+completed Memory words moment tree input before after lines lines_after a b none c h = inr refl

@@ -1,6 +1,6 @@
--- What is due for the words of a command line and the files: the first refusal of its steps in their order, or a plan
--- that is carried out. And what the files hold once it is.
-use Rattle.std.specs.Prelude.{◌≡◌, ℕ, ◌≤◌, List, [], ◌++◌, map, Option, option_map, Result, Ok, Err, ◌⊎◌, codes}
+-- What is due for the words of a command line, the files and standard input: the first refusal of its steps in their
+-- order, or a plan that is carried out. And what the files hold once it is.
+use Rattle.std.specs.Prelude.{◌≡◌, ℕ, ◌+◌, ◌≤◌, List, [], ◌++◌, length, map, Option, option_map, Result, Ok, Err, ◌⊎◌, codes, nat_le, if◌then◌else◌}
 use Rattle.std.specs.List.{All, IsDistinct}
 use Rattle.std.specs.List.Sorted.{IsPermutation}
 use Rattle.cat_rows.specs.declared.table.SysTable.TheVariants.{PgNamespace}
@@ -15,12 +15,15 @@ use Rattle.cat_naming.specs.Texts.{rows_by_oid}
 use Rattle.cat_same.specs.Verdicts.{IsLeastDifference}
 use Rattle.schema_folders.specs.declared.schemas.SchemaRow.{SchemaRow}
 use Rattle.ddl_read.specs.declared.located.Located.{Located}
+use Rattle.tool_words.specs.declared.outcome.Limit.{Limit}
 use Rattle.tool_words.specs.declared.outcome.Limit.TheVariants.{Script, Entries}
 use Rattle.tool_words.specs.declared.outcome.Outcome.{Outcome}
 use Rattle.tool_words.specs.declared.outcome.Outcome.TheVariants.{ReadFault, WriteFault, TooLarge, Differs, Memory}
 use Rattle.tool_words.specs.Answers.{◌>>=◌, IsDue}
 use Rattle.tool_words.specs.declared.words.Asked.{Asked}
 use Rattle.tool_words.specs.declared.words.Asked.TheVariants.{Psql, Dump, Compare}
+use Rattle.tool_words.specs.declared.words.ScriptSource.{ScriptSource}
+use Rattle.tool_words.specs.declared.words.ScriptSource.TheVariants.{File, Input}
 use Rattle.tool_words.specs.Words.{words_asked}
 use Rattle.dump_ports.specs.declared.moment.Moment.{Moment}
 use Rattle.toc_entry.specs.declared.entry.Entry.{Entry}
@@ -56,13 +59,27 @@ pub data Plan : Type 0 where
 abbrev pub script_limit : ℕ
 script_limit = 268435456
 
--- psql: the script is read, then the folder
-unfoldable pub psql_due : Bytes → Bytes → Tree → Result Plan Outcome
-psql_due folder script tree = do
-  text ← file_of Script script_limit script tree
+-- all of standard input, which has at most so many bytes
+unfoldable pub input_of : Limit → ℕ → Bytes → Result Bytes Outcome
+input_of what limit input = if nat_le (length input) limit then Ok input else Err (TooLarge what (limit + 1))
+
+-- the text of a script, wherever it is read
+abbrev pub source_of : ScriptSource → Tree → Bytes → Result Bytes Outcome
+source_of (File name) tree input = file_of Script script_limit name tree
+source_of Input tree input = input_of Script script_limit input
+
+-- once the text of the script is read: its statements, then the folder
+unfoldable pub text_due : Bytes → Bytes → Tree → Result Plan Outcome
+text_due folder text tree = do
   statements ← script_of text
   rows ← opening_of folder tree
   Ok (Applies (record { folder = folder; statements = statements; rows = rows }))
+
+-- psql: the script is read, then the folder
+unfoldable pub psql_due : Bytes → ScriptSource → Tree → Bytes → Result Plan Outcome
+psql_due folder script tree input = do
+  text ← source_of script tree input
+  text_due folder text tree
 
 -- the one database of such a folder
 abbrev pub database : DatabaseRow
@@ -101,14 +118,14 @@ compare_due first second tree = do
   one ← export_of first tree
   second_due one second tree
 
-abbrev pub asked_due : Asked → Moment → Tree → Result Plan Outcome
-asked_due (Psql folder script) moment tree = psql_due folder script tree
-asked_due (Dump folder) moment tree = dump_due folder moment tree
-asked_due (Compare first second) moment tree = compare_due first second tree
+abbrev pub asked_due : Asked → Moment → Tree → Bytes → Result Plan Outcome
+asked_due (Psql folder script) moment tree input = psql_due folder script tree input
+asked_due (Dump folder) moment tree input = dump_due folder moment tree
+asked_due (Compare first second) moment tree input = compare_due first second tree
 
--- what is due for the words, the moment and the files
-abbrev pub due : List Bytes → Moment → Tree → Result Plan Outcome
-due words moment tree = words_asked words >>= λ asked. asked_due asked moment tree
+-- what is due for the words, the moment, the files and standard input
+abbrev pub due : List Bytes → Moment → Tree → Bytes → Result Plan Outcome
+due words moment tree input = words_asked words >>= λ asked. asked_due asked moment tree input
 
 -- the work that was read, as a script for a folder
 abbrev pub application_of : Bytes → Work → Application
@@ -183,34 +200,37 @@ IsAnswerDue outcome due = IsDue outcome due ⊎ IsDifference outcome due
 
 -- ---- counts of faults
 
--- the counts of reads of files, of writes of files, of writes to standard output and of writes to standard error that
--- failed
+-- the counts of reads of files, of reads of standard input, of writes of files, of writes to standard output and of writes
+-- to standard error that failed
 pub record Counts : Type 0 where
   pub reads : ℕ
+  pub inputs : ℕ
   pub writes : ℕ
   pub prints : ℕ
   pub lines : ℕ
 
-abbrev pub counts : ℕ → ℕ → ℕ → ℕ → Counts
-counts reads writes prints lines = record { reads = reads; writes = writes; prints = prints; lines = lines }
+abbrev pub counts : ℕ → ℕ → ℕ → ℕ → ℕ → Counts
+counts reads inputs writes prints lines = record { reads = reads; inputs = inputs; writes = writes; prints = prints; lines = lines }
 
 -- none of them rose
 pub record NoneRose (before after : Counts) : Type 0 where
   pub reads : HasNotRisen before.reads after.reads
+  pub inputs : HasNotRisen before.inputs after.inputs
   pub writes : HasNotRisen before.writes after.writes
   pub prints : HasNotRisen before.prints after.prints
   pub lines : HasNotRisen before.lines after.lines
 
 pub record NoneFell (before after : Counts) : Type 0 where
   pub reads : before.reads ≤ after.reads
+  pub inputs : before.inputs ≤ after.inputs
   pub writes : before.writes ≤ after.writes
   pub prints : before.prints ≤ after.prints
   pub lines : before.lines ≤ after.lines
 
--- A count of reads rose where the answer is ReadFault, one of writes where it is WriteFault, and all stayed where it is
--- neither.
+-- A count of reads, of files or of standard input, rose where the answer is ReadFault, one of writes where it is
+-- WriteFault, and all stayed where it is neither.
 abbrev pub Counted : Outcome → Counts → Counts → Type 0
-Counted ReadFault before after = NoneFell before after × HasRisen before.reads after.reads
+Counted ReadFault before after = NoneFell before after × (HasRisen before.reads after.reads ⊎ HasRisen before.inputs after.inputs)
 Counted WriteFault before after = NoneFell before after × (HasRisen before.writes after.writes ⊎ HasRisen before.prints after.prints ⊎ HasRisen before.lines after.lines)
 Counted _ before after = after ≡ before
 

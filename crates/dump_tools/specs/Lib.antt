@@ -1,4 +1,5 @@
 pub mod Due
+pub mod Inputs
 pub mod Outputs
 pub mod Runs
 pub mod Stays

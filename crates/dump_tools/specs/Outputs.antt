@@ -1,6 +1,6 @@
 -- What a call of the program puts out: a list of outputs in order. And what the outside holds once some of them were put
--- out, whole or in part.
-use Rattle.std.specs.Prelude.{◌≡◌, ◌++◌, List, [], ◌∷◌, Option, option_map, ◌⊎◌}
+-- out, whole or in part. What is taken of standard input stands among them, at its place in the order.
+use Rattle.std.specs.Prelude.{◌≡◌, ◌++◌, List, [], ◌∷◌, length, drop, Option, option_map, ◌⊎◌}
 use Rattle.std.specs.FinMap.{insert}
 use Rattle.dump_ports.specs.Tree.{Tree}
 use Rattle.cat_model.specs.Values.{Bytes}
@@ -17,29 +17,34 @@ pub record World : Type 0 where
 abbrev pub world : Option Tree → Option Bytes → Option Bytes → Option Bytes → World
 world tree left printed told = record { tree = tree; left = left; printed = printed; told = told }
 
--- a file is made anew and its text added, a text is printed, a text is told on standard error
+-- a file is made anew and its text added, a text is printed, a text is told on standard error; and a text is taken off
+-- standard input
 pub data Output : Type 0 where
   Stores : Bytes → Bytes → Output
   Writes : Bytes → Output
   Tells : Bytes → Output
+  Takes : Bytes → Output
 
 -- the text of an output
 abbrev pub text_of : Output → Bytes
 text_of (Stores name text) = text
 text_of (Writes text) = text
 text_of (Tells text) = text
+text_of (Takes text) = text
 
 -- the same output with another text
 abbrev pub with_text : Output → Bytes → Output
 with_text (Stores name text) other = Stores name other
 with_text (Writes text) other = Writes other
 with_text (Tells text) other = Tells other
+with_text (Takes text) other = Takes other
 
 -- once an output was put out
 abbrev pub performed : Output → World → World
 performed (Stores name text) w = world (option_map (λ tree. insert tree name text) w.tree) w.left w.printed w.told
 performed (Writes text) w = world w.tree w.left (option_map (λ printed. printed ++ text) w.printed) w.told
 performed (Tells text) w = world w.tree w.left w.printed (option_map (λ told. told ++ text) w.told)
+performed (Takes text) w = world w.tree (option_map (λ left. drop (length text) left) w.left) w.printed w.told
 
 -- once all of them were, one after another
 abbrev pub all_performed : List Output → World → World

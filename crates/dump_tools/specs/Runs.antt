@@ -1,6 +1,6 @@
--- Which runs of the program may come: what it puts out, in order, and what it answers.
+-- Which runs of the program may come: what it takes and puts out, in order, and what it answers.
 -- Where nothing is free that is one run; a script that makes schemas may make them under any new oids.
-use Rattle.std.specs.Prelude.{◌≡◌, ℕ, ◌++◌, List, [], ◌∷◌, map, Result, Ok, Err, ◌⊎◌}
+use Rattle.std.specs.Prelude.{◌≡◌, ℕ, ◌++◌, List, [], ◌∷◌, map, Option, Some, None, Result, Ok, Err, ◌⊎◌}
 use Rattle.dump_ports.specs.Tree.{Tree}
 use Rattle.dump_ports.specs.Faults.{HasRisen}
 use Rattle.dump_ports.specs.declared.moment.Moment.{Moment}
@@ -11,10 +11,11 @@ use Rattle.schema_folders.specs.Folder.{files_written, folder_saved, schemas_alo
 use Rattle.tool_words.specs.declared.outcome.Outcome.{Outcome}
 use Rattle.tool_words.specs.declared.outcome.Outcome.TheVariants.{Done, ReadFault, WriteFault, Memory, Differs}
 use Rattle.tool_words.specs.declared.words.Teller.{Teller}
-use Rattle.tool_words.specs.Words.{teller_of}
+use Rattle.tool_words.specs.Words.{teller_of, reads_input}
 use Rattle.tool_words.specs.Messages.{outcome_line}
 use Rattle.dump_tools.specs.Due.{Application, Plan, Applies, Prints, Compares, Comes, report_of, due}
-use Rattle.dump_tools.specs.Outputs.{World, Output, Writes, Tells, all_performed, IsPart, CutShort, stores}
+use Rattle.dump_tools.specs.Inputs.{where_read, IsTaken, HasTaken}
+use Rattle.dump_tools.specs.Outputs.{World, Output, Writes, Tells, Takes, all_performed, IsPart, CutShort, stores}
 
 -- what is put out, in order, and the answer
 pub record Run : Type 0 where
@@ -47,21 +48,34 @@ MayCome teller (Ok (Applies plan)) run = IsApplied plan run
 MayCome teller (Ok (Prints text)) run = run ≡ run_of (Writes text ∷ []) Done
 MayCome teller (Ok (Compares a b)) run = IsCompared teller a b run
 
+-- What comes first of a run: it takes the input that it reads, or nothing where it reads none.
+abbrev pub Begins : Option Bytes → List Output → Type 0
+Begins None first = first ≡ []
+Begins (Some input) first = (text : Bytes) × IsTaken input text × (first ≡ Takes text ∷ [])
+
+-- A run that may come: it takes the input that it reads, and then comes what may come of what is due.
+pub record MayRun (reads : Option Bytes) (teller : Teller) (due : Result Plan Outcome) (run : Run) : Type 0 where
+  pub first : List Output
+  pub begins : Begins reads first
+  pub later : Run
+  pub may : MayCome teller due later
+  pub is : run ≡ run_of (first ++ later.outputs) later.answer
+
 -- a run that may come has ended: all its outputs were put out, in order, and its answer was given
-pub record HasEnded (teller : Teller) (due : Result Plan Outcome) (answer : Outcome) (before after : World) : Type 0 where
+pub record HasEnded (reads : Option Bytes) (teller : Teller) (due : Result Plan Outcome) (answer : Outcome) (before after : World) : Type 0 where
   pub run : Run
-  pub may : MayCome teller due run
+  pub may : MayRun reads teller due run
   pub answers : answer ≡ run.answer
   pub put : after ≡ all_performed run.outputs before
 
--- the outputs of a run that may come, or none
-abbrev pub AreOfRun : Teller → Result Plan Outcome → List Output → Type 0
-AreOfRun teller due outputs = (outputs ≡ []) ⊎ ((run : Run) × MayCome teller due run × (outputs ≡ run.outputs))
+-- the outputs of a run that may come, or only what comes first of one
+abbrev pub AreOfRun : Option Bytes → Teller → Result Plan Outcome → List Output → Type 0
+AreOfRun reads teller due outputs = Begins reads outputs ⊎ ((run : Run) × MayRun reads teller due run × (outputs ≡ run.outputs))
 
 -- such outputs were cut short
-pub record HasCut (teller : Teller) (due : Result Plan Outcome) (before after : World) : Type 0 where
+pub record HasCut (reads : Option Bytes) (teller : Teller) (due : Result Plan Outcome) (before after : World) : Type 0 where
   pub outputs : List Output
-  pub of_run : AreOfRun teller due outputs
+  pub of_run : AreOfRun reads teller due outputs
   pub cut : CutShort outputs before after
 
 -- by these answers the work may have ended on its way
@@ -71,6 +85,11 @@ IsEarly WriteFault = Unit {0}
 IsEarly Memory = Unit {0}
 IsEarly answer = ⊥
 
+-- a step that passed or refused has taken what the run reads; one that ended on its way may have taken a part
+abbrev pub StepTakes : {X : Type 0} → Result X Outcome → Option Bytes → Option Bytes → Option Bytes → Type 0
+StepTakes (Ok x) reads before after = HasTaken reads before after
+StepTakes (Err outcome) reads before after = (IsEarly outcome → ⊥) → HasTaken reads before after
+
 -- The line that follows is the answer's own. It is that of ReadFault or Memory where it couldn't be told, so that the
 -- answer became WriteFault.
 abbrev pub IsOwnLine : Outcome → Outcome → ℕ → ℕ → Type 0
@@ -78,23 +97,27 @@ IsOwnLine said answer lines after = (said ≡ answer) ⊎ ((answer ≡ WriteFaul
 
 -- A run that may come was cut short: some of its outputs are whole, the next one is cut, and a first part of a line
 -- follows. The two numbers count the writes to standard error that failed, before and after.
-pub record HasEndedEarly (teller : Teller) (due : Result Plan Outcome) (answer : Outcome) (before after : World) (lines lines_after : ℕ) : Type 0 where
+pub record HasEndedEarly (reads : Option Bytes) (teller : Teller) (due : Result Plan Outcome) (answer : Outcome) (before after : World) (lines lines_after : ℕ) : Type 0 where
   pub between : World
-  pub ended : HasCut teller due before between
+  pub ended : HasCut reads teller due before between
   pub said : Outcome
   pub own : IsOwnLine said answer lines lines_after
   pub line : IsPart (Tells (outcome_line teller said)) between after
 
--- what is due for the words, the moment and the files, and who tells it
-abbrev pub Ended : List Bytes → Moment → Tree → Outcome → World → World → Type 0
-Ended words moment tree answer before after = HasEnded (teller_of words) (due words moment tree) answer before after
+-- standard input, where the words ask for what reads it
+abbrev pub read_by : List Bytes → Bytes → Option Bytes
+read_by words input = where_read (reads_input words) input
 
-abbrev pub EndedEarly : List Bytes → Moment → Tree → Outcome → World → World → ℕ → ℕ → Type 0
-EndedEarly words moment tree answer before after lines lines_after = HasEndedEarly (teller_of words) (due words moment tree) answer before after lines lines_after
+-- what is due for the words, the moment, the files and standard input, and who tells it
+abbrev pub Ended : List Bytes → Moment → Tree → Bytes → Outcome → World → World → Type 0
+Ended words moment tree input answer before after = HasEnded (read_by words input) (teller_of words) (due words moment tree input) answer before after
+
+abbrev pub EndedEarly : List Bytes → Moment → Tree → Bytes → Outcome → World → World → ℕ → ℕ → Type 0
+EndedEarly words moment tree input answer before after lines lines_after = HasEndedEarly (read_by words input) (teller_of words) (due words moment tree input) answer before after lines lines_after
 
 -- the answer of a call: a run that may come has ended, or it was cut short
-abbrev pub Answered : Outcome → List Bytes → Moment → Tree → World → World → ℕ → ℕ → Type 0
-Answered ReadFault words moment tree before after lines lines_after = EndedEarly words moment tree ReadFault before after lines lines_after
-Answered WriteFault words moment tree before after lines lines_after = EndedEarly words moment tree WriteFault before after lines lines_after
-Answered Memory words moment tree before after lines lines_after = EndedEarly words moment tree Memory before after lines lines_after
-Answered answer words moment tree before after lines lines_after = Ended words moment tree answer before after
+abbrev pub Answered : Outcome → List Bytes → Moment → Tree → Bytes → World → World → ℕ → ℕ → Type 0
+Answered ReadFault words moment tree input before after lines lines_after = EndedEarly words moment tree input ReadFault before after lines lines_after
+Answered WriteFault words moment tree input before after lines lines_after = EndedEarly words moment tree input WriteFault before after lines lines_after
+Answered Memory words moment tree input before after lines lines_after = EndedEarly words moment tree input Memory before after lines lines_after
+Answered answer words moment tree input before after lines lines_after = Ended words moment tree input answer before after

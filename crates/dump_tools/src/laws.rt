@@ -1,21 +1,28 @@
 //! Laws of the definitions, each the contract of a function that does nothing.
-ghost use Rattle.std.specs.Prelude.{◌≡◌, ◌++◌, ◌∷◌, [], List, map, option_map};
+ghost use Rattle.std.specs.Prelude.{◌≡◌, ◌++◌, ◌∷◌, [], List, None, Result, map, option_map};
 ghost use Rattle.cat_model.specs.Values.{Bytes};
 ghost use Rattle.schema_folders.specs.Folder.{IsElsewhere, files_written, folder_saved};
 ghost use Rattle.tool_words.specs.Messages.{outcome_line};
 ghost use Rattle.tool_words.specs.declared.outcome.Outcome.{Outcome};
 ghost use Rattle.tool_words.specs.declared.words.Teller.{Teller};
 ghost use Rattle.dump_tools.specs.Outputs.{World, world, Output, Tells, all_performed, CutShort, stores};
-ghost use Rattle.dump_tools.specs.Due.{Application, report_of};
-ghost use Rattle.dump_tools.specs.Runs.{Run, told_run, IsApplied};
-ghost use Rattle.dump_tools.specs.Stays.{AreOthers, Keeps, AreSilent};
+ghost use Rattle.dump_tools.specs.Due.{Application, Plan, report_of};
+ghost use Rattle.dump_tools.specs.Runs.{Run, told_run, IsApplied, MayCome, MayRun};
+ghost use Rattle.dump_tools.specs.Stays.{AreOthers, Keeps, AreSilent, AllTakeNone};
 
-/// However far a run came, each file that none of its outputs makes holds what it held, and standard input has what it
-/// had; standard output too, where none of its outputs is printed.
+/// However far a run came, each file that none of its outputs makes holds what it held; standard input has what it had,
+/// where none of its outputs takes anything off it, and standard output too, where none is printed.
 pub fn the_rest_stays()
     ensures files { (outputs : List Output) (before after : World) (name : Bytes) → CutShort outputs before after → AreOthers name outputs → Keeps name before after }
-    ensures input { (outputs : List Output) (before after : World) → CutShort outputs before after → after.left ≡ before.left }
+    ensures input { (outputs : List Output) (before after : World) → CutShort outputs before after → AllTakeNone outputs → after.left ≡ before.left }
     ensures printed { (outputs : List Output) (before after : World) → CutShort outputs before after → AreSilent outputs → after.printed ≡ before.printed }
+{}
+
+/// Whatever is due, nothing is taken off standard input but what comes first of a run; and nothing comes first of a run
+/// that doesn't read it.
+pub fn standard_input_is_taken_first()
+    ensures later { (teller : Teller) (due : Result Plan Outcome) (run : Run) → MayCome teller due run → AllTakeNone run.outputs }
+    ensures unread { (teller : Teller) (due : Result Plan Outcome) (run : Run) → MayRun None teller due run → AllTakeNone run.outputs }
 {}
 
 /// A run of all its outputs is one that is cut behind the last of them.

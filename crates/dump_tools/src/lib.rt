@@ -3,6 +3,7 @@
 
 mod dumping;
 pub mod laws;
+mod scripts;
 mod tools;
 
 pub use tools::run_tools;

@@ -1,19 +1,22 @@
 //! The tools of the command line.
-ghost use Rattle.std.specs.Prelude.{◌≡◌, ℕ, ◌≤◌, ◌++◌, ◌⊎◌, List, Option, Some, true, option_map, IfOk, IfErr, OnOk, OnErr, Result, Ok, Err};
+ghost use Rattle.std.specs.Prelude.{◌≡◌, ℕ, ◌≤◌, ◌++◌, ◌⊎◌, List, Option, Some, None, true, false, option_map, IfOk, IfErr, OnOk, OnErr, Result, Ok, Err};
 ghost use Rattle.tool_words.specs.declared.words.Teller.{Teller};
 ghost use Rattle.dump_ports.specs.Tree.{Tree};
 ghost use Rattle.dump_ports.specs.Faults.{CountsFault};
 ghost use Rattle.tool_words.specs.Answers.{Gives, CountsRead, IsDue, IsLate, IsRefusal, IsTold};
-ghost use Rattle.cat_model.specs.Values.{Named};
+ghost use Rattle.cat_model.specs.Values.{Bytes, Named};
 ghost use Rattle.cat_same.specs.Verdicts.{IsVerdict, IsLeastDifference};
 ghost use Rattle.tool_words.specs.Lines.{Appends, AppendsPart};
+ghost use Rattle.tool_words.specs.Words.{is_input, reads_input};
 ghost use Rattle.tool_words.specs.Messages.{outcome_line};
 ghost use Rattle.schema_folders.specs.Statements.{are_taken};
-ghost use Rattle.dump_tools.specs.Due.{Prints, plan_of, psql_due, dump_due, export_named, second_due, compare_due, IsUnequal, due, IsAnswerDue, IsCarriedOut, WasDue, counts, NoneRose, Counted, CountsStep, CountsWrites};
+ghost use Rattle.dump_tools.specs.Due.{Prints, plan_of, text_due, psql_due, dump_due, export_named, second_due, compare_due, IsUnequal, due, IsAnswerDue, IsCarriedOut, WasDue, counts, NoneRose, Counted, CountsStep, CountsWrites};
+ghost use Rattle.dump_tools.specs.Inputs.{where_read, TellsLeft};
 ghost use Rattle.dump_tools.specs.Outputs.{world};
-ghost use Rattle.dump_tools.specs.Runs.{HasCut, Ended, Answered};
+ghost use Rattle.dump_tools.specs.Runs.{read_by, StepTakes, HasCut, Ended, Answered};
 
 use crate::dumping::dump_text;
+use crate::scripts::read_source;
 use cat_model::Key;
 use cat_same::{Verdict, same};
 use copy_text::Text;
@@ -21,15 +24,12 @@ use ddl_read::Located;
 use dump_ports::{Failed, Files, Gate, Moment, Sink, Source};
 use exports::{Export, read_export};
 use schema_folders::{
-    Schemas, namespaces_text, read_file, read_folder, read_script, run_script, write_folder,
+    Schemas, namespaces_text, read_folder, read_script, run_script, write_folder,
 };
 use std::alloc::{AllocError, Global};
 use tool_words::{
-    Asked, Difference, Limit, Outcome, Teller, read_asked, tell, teller_of, write_bytes,
+    Asked, Difference, Outcome, ScriptSource, Teller, read_asked, tell, teller_of, write_bytes,
 };
-
-/// The most bytes of a script.
-const SCRIPT_LIMIT: u64 = 268_435_456;
 
 /// What psql carries out: the statements of a script, and the schemas of a folder.
 #[derive(Drop)]
@@ -38,22 +38,21 @@ struct Work {
     schemas: Schemas,
 }
 
-/// Reads the script, then the folder.
-#[tactic(auto, unfolding(crate::specs::Due::psql_due))]
+/// Reads the statements of a script, then the folder.
+#[tactic(auto, unfolding(crate::specs::Due::text_due))]
 fn read_plan<F: Files>(
     alloc: Global,
     files: &mut F,
     folder: &Text,
-    script: &Text,
+    text: &[u8],
 ) -> Result<Work, Outcome>
-    ensures due { (tree : Tree) → F.tree files.old ≡ Some tree → Gives (plan_of folder.now) result (psql_due folder.now script.now tree) }
+    ensures due { (tree : Tree) → F.tree files.old ≡ Some tree → Gives (plan_of folder.now) result (text_due folder.now text.now tree) }
     ensures taken { IfOk result (λ work. are_taken work.statements.items ≡ true) }
     ensures kept { F.tree files.new ≡ F.tree files.old }
     ensures read_count { CountsRead result (F.read_faults files.old) (F.read_faults files.new) }
     ensures write_count { F.write_faults files.new ≡ F.write_faults files.old }
 {
-    let text = read_file(alloc, files, script, Limit::Script, SCRIPT_LIMIT)?;
-    let statements = read_script(alloc, &text)?;
+    let statements = read_script(alloc, text)?;
     let schemas = read_folder(alloc, files, folder)?;
     Ok(Work {
         statements,
@@ -72,7 +71,7 @@ fn carry_out<F: Files, E: Sink>(
     requires taken { are_taken work.statements.items ≡ true }
     ensures ok { OnOk result ((printed : Option (List ℕ)) → IsCarriedOut (plan_of folder.now work) (F.tree files.old) (F.tree files.new) printed printed (E.written err.old) (E.written err.new)) }
     ensures late { IfErr result IsLate }
-    ensures cut { OnErr result ((teller : Teller) (left printed : Option (List ℕ)) → HasCut teller (Ok (plan_of folder.now work)) (world (F.tree files.old) left printed (E.written err.old)) (world (F.tree files.new) left printed (E.written err.new))) }
+    ensures cut { OnErr result ((teller : Teller) (left printed : Option (List ℕ)) → HasCut None teller (Ok (plan_of folder.now work)) (world (F.tree files.old) left printed (E.written err.old)) (world (F.tree files.new) left printed (E.written err.new))) }
     ensures silent { IfErr result (λ outcome. IsTold outcome → E.written err.new ≡ E.written err.old) }
     ensures read_count { F.read_faults files.new ≡ F.read_faults files.old }
     ensures write_count { CountsWrites result (F.write_faults files.old) (F.write_faults files.new) (E.faults err.old) (E.faults err.new) }
@@ -101,21 +100,43 @@ fn write_report<S: Sink>(stream: &mut S, report: &[u8]) -> Result<(), Outcome>
 }
 
 /// Applies a script to a folder of schemas.
-fn psql<F: Files, E: Sink>(
+fn psql<F: Files, I: Source, E: Sink>(
+    alloc: Global,
+    files: &mut F,
+    input: &mut I,
+    err: &mut E,
+    folder: &Text,
+    script: &ScriptSource,
+) -> Result<(), Outcome>
+    ensures done { OnOk result ((tree : Tree) (bytes : Bytes) (printed : Option (List ℕ)) → F.tree files.old ≡ Some tree → TellsLeft (is_input script.now) (I.left input.old) bytes → WasDue (psql_due folder.now script.now tree bytes) (F.tree files.old) (F.tree files.new) printed printed (E.written err.old) (E.written err.new)) }
+    ensures refused { IfErr result (λ outcome. (tree : Tree) (bytes : Bytes) → F.tree files.old ≡ Some tree → TellsLeft (is_input script.now) (I.left input.old) bytes → IsDue outcome (psql_due folder.now script.now tree bytes)) }
+    ensures kept { IfErr result (λ outcome. IsRefusal outcome → F.tree files.new ≡ F.tree files.old) }
+    ensures unread { is_input script.now ≡ false → input.new ≡ input.old }
+    ensures taken { (bytes : Bytes) → TellsLeft (is_input script.now) (I.left input.old) bytes → StepTakes result (where_read (is_input script.now) bytes) (I.left input.old) (I.left input.new) }
+    ensures cut { OnErr result ((teller : Teller) (tree : Tree) (bytes : Bytes) (printed : Option (List ℕ)) → F.tree files.old ≡ Some tree → TellsLeft (is_input script.now) (I.left input.old) bytes → HasCut (where_read (is_input script.now) bytes) teller (psql_due folder.now script.now tree bytes) (world (F.tree files.old) (I.left input.old) printed (E.written err.old)) (world (F.tree files.new) (I.left input.new) printed (E.written err.new))) }
+    ensures silent { IfErr result (λ outcome. IsTold outcome → E.written err.new ≡ E.written err.old) }
+    ensures counted { (prints : ℕ) → CountsStep result (counts (F.read_faults files.old) (I.faults input.old) (F.write_faults files.old) prints (E.faults err.old)) (counts (F.read_faults files.new) (I.faults input.new) (F.write_faults files.new) prints (E.faults err.new)) }
+{
+    let text = read_source(alloc, files, input, script)?;
+    apply(alloc, files, err, folder, &text)
+}
+
+/// Applies the text of a script to a folder of schemas.
+fn apply<F: Files, E: Sink>(
     alloc: Global,
     files: &mut F,
     err: &mut E,
     folder: &Text,
-    script: &Text,
+    text: &[u8],
 ) -> Result<(), Outcome>
-    ensures done { OnOk result ((tree : Tree) (printed : Option (List ℕ)) → F.tree files.old ≡ Some tree → WasDue (psql_due folder.now script.now tree) (F.tree files.old) (F.tree files.new) printed printed (E.written err.old) (E.written err.new)) }
-    ensures refused { IfErr result (λ outcome. (tree : Tree) → F.tree files.old ≡ Some tree → IsDue outcome (psql_due folder.now script.now tree)) }
+    ensures done { OnOk result ((tree : Tree) (printed : Option (List ℕ)) → F.tree files.old ≡ Some tree → WasDue (text_due folder.now text.now tree) (F.tree files.old) (F.tree files.new) printed printed (E.written err.old) (E.written err.new)) }
+    ensures refused { IfErr result (λ outcome. (tree : Tree) → F.tree files.old ≡ Some tree → IsDue outcome (text_due folder.now text.now tree)) }
     ensures kept { IfErr result (λ outcome. IsRefusal outcome → F.tree files.new ≡ F.tree files.old) }
-    ensures cut { OnErr result ((teller : Teller) (tree : Tree) (left printed : Option (List ℕ)) → F.tree files.old ≡ Some tree → HasCut teller (psql_due folder.now script.now tree) (world (F.tree files.old) left printed (E.written err.old)) (world (F.tree files.new) left printed (E.written err.new))) }
+    ensures cut { OnErr result ((teller : Teller) (tree : Tree) (left printed : Option (List ℕ)) → F.tree files.old ≡ Some tree → HasCut None teller (text_due folder.now text.now tree) (world (F.tree files.old) left printed (E.written err.old)) (world (F.tree files.new) left printed (E.written err.new))) }
     ensures silent { IfErr result (λ outcome. IsTold outcome → E.written err.new ≡ E.written err.old) }
-    ensures counted { (prints : ℕ) → CountsStep result (counts (F.read_faults files.old) (F.write_faults files.old) prints (E.faults err.old)) (counts (F.read_faults files.new) (F.write_faults files.new) prints (E.faults err.new)) }
+    ensures counted { (inputs prints : ℕ) → CountsStep result (counts (F.read_faults files.old) inputs (F.write_faults files.old) prints (E.faults err.old)) (counts (F.read_faults files.new) inputs (F.write_faults files.new) prints (E.faults err.new)) }
 {
-    let work = read_plan(alloc, files, folder, script)?;
+    let work = read_plan(alloc, files, folder, text)?;
     carry_out(alloc, files, err, folder, work)
 }
 
@@ -132,8 +153,8 @@ fn pg_dump<F: Files, O: Sink>(
     ensures refused { IfErr result (λ outcome. (tree : Tree) → F.tree files.old ≡ Some tree → IsDue outcome (dump_due folder.now moment tree)) }
     ensures kept { F.tree files.new ≡ F.tree files.old }
     ensures quiet { IfErr result (λ outcome. IsRefusal outcome → O.written out.new ≡ O.written out.old) }
-    ensures cut { OnErr result ((teller : Teller) (tree : Tree) (left told : Option (List ℕ)) → F.tree files.old ≡ Some tree → HasCut teller (dump_due folder.now moment tree) (world (F.tree files.old) left (O.written out.old) told) (world (F.tree files.new) left (O.written out.new) told)) }
-    ensures counted { (lines : ℕ) → CountsStep result (counts (F.read_faults files.old) (F.write_faults files.old) (O.faults out.old) lines) (counts (F.read_faults files.new) (F.write_faults files.new) (O.faults out.new) lines) }
+    ensures cut { OnErr result ((teller : Teller) (tree : Tree) (left told : Option (List ℕ)) → F.tree files.old ≡ Some tree → HasCut None teller (dump_due folder.now moment tree) (world (F.tree files.old) left (O.written out.old) told) (world (F.tree files.new) left (O.written out.new) told)) }
+    ensures counted { (inputs lines : ℕ) → CountsStep result (counts (F.read_faults files.old) inputs (F.write_faults files.old) (O.faults out.old) lines) (counts (F.read_faults files.new) inputs (F.write_faults files.new) (O.faults out.new) lines) }
 {
     let text = read_dump(alloc, files, folder, moment)?;
     write_report(out, &text)
@@ -240,25 +261,28 @@ fn compare(alloc: Global, one: &Export, other: &Export) -> Result<Verdict, Alloc
 }
 
 /// Does what the words ask for.
-fn perform<F: Files, O: Sink, E: Sink>(
+fn perform<F: Files, I: Source, O: Sink, E: Sink>(
     alloc: Global,
     words: &[Text],
     files: &mut F,
+    input: &mut I,
     out: &mut O,
     err: &mut E,
     moment: Moment,
 ) -> Result<(), Outcome>
-    ensures done { OnOk result ((tree : Tree) → F.tree files.old ≡ Some tree → WasDue (due words.now moment tree) (F.tree files.old) (F.tree files.new) (O.written out.old) (O.written out.new) (E.written err.old) (E.written err.new)) }
-    ensures refused { IfErr result (λ outcome. (tree : Tree) → F.tree files.old ≡ Some tree → IsAnswerDue outcome (due words.now moment tree)) }
+    ensures done { OnOk result ((tree : Tree) (bytes : Bytes) → F.tree files.old ≡ Some tree → TellsLeft (reads_input words.now) (I.left input.old) bytes → WasDue (due words.now moment tree bytes) (F.tree files.old) (F.tree files.new) (O.written out.old) (O.written out.new) (E.written err.old) (E.written err.new)) }
+    ensures refused { IfErr result (λ outcome. (tree : Tree) (bytes : Bytes) → F.tree files.old ≡ Some tree → TellsLeft (reads_input words.now) (I.left input.old) bytes → IsAnswerDue outcome (due words.now moment tree bytes)) }
     ensures kept { IfErr result (λ outcome. IsRefusal outcome → F.tree files.new ≡ F.tree files.old) }
     ensures quiet { IfErr result (λ outcome. IsRefusal outcome → O.written out.new ≡ O.written out.old) }
-    ensures cut { OnErr result ((teller : Teller) (tree : Tree) (left : Option (List ℕ)) → F.tree files.old ≡ Some tree → HasCut teller (due words.now moment tree) (world (F.tree files.old) left (O.written out.old) (E.written err.old)) (world (F.tree files.new) left (O.written out.new) (E.written err.new))) }
+    ensures unread { reads_input words.now ≡ false → input.new ≡ input.old }
+    ensures taken { (bytes : Bytes) → TellsLeft (reads_input words.now) (I.left input.old) bytes → StepTakes result (read_by words.now bytes) (I.left input.old) (I.left input.new) }
+    ensures cut { OnErr result ((teller : Teller) (tree : Tree) (bytes : Bytes) → F.tree files.old ≡ Some tree → TellsLeft (reads_input words.now) (I.left input.old) bytes → HasCut (read_by words.now bytes) teller (due words.now moment tree bytes) (world (F.tree files.old) (I.left input.old) (O.written out.old) (E.written err.old)) (world (F.tree files.new) (I.left input.new) (O.written out.new) (E.written err.new))) }
     ensures silent { IfErr result (λ outcome. IsTold outcome → E.written err.new ≡ E.written err.old) }
-    ensures counted { CountsStep result (counts (F.read_faults files.old) (F.write_faults files.old) (O.faults out.old) (E.faults err.old)) (counts (F.read_faults files.new) (F.write_faults files.new) (O.faults out.new) (E.faults err.new)) }
+    ensures counted { CountsStep result (counts (F.read_faults files.old) (I.faults input.old) (F.write_faults files.old) (O.faults out.old) (E.faults err.old)) (counts (F.read_faults files.new) (I.faults input.new) (F.write_faults files.new) (O.faults out.new) (E.faults err.new)) }
 {
     let asked = read_asked(alloc, words)?;
     match &asked {
-        Asked::Psql { folder, script } => psql(alloc, files, err, folder, script),
+        Asked::Psql { folder, script } => psql(alloc, files, input, err, folder, script),
         Asked::Dump { folder } => pg_dump(alloc, files, out, folder, moment),
         Asked::Compare { first, second } => pg_catcmp(alloc, files, first, second),
     }
@@ -283,11 +307,12 @@ fn tell_outcome<E: Sink>(err: &mut E, teller: Teller, outcome: Outcome) -> Resul
 /// Does what the words ask for, over these files and streams, and answers what it came to.
 ///
 /// What a call puts out is a list of outputs in order: files that are made and written, texts that are printed, texts that
-/// are told on standard error. Where no count of faults rose, a run that may come of the words, the moment and the files
-/// has ended: all its outputs were put out, in order, and its answer was given; or memory ran out. Any answer but
-/// `ReadFault`, `WriteFault` and `Memory` has all its outputs put out. With those three some first outputs of such a run
-/// are whole, the next one is cut, and a first part of the answer's own line stands on standard error; that of `Memory` or
-/// `ReadFault` where this line couldn't be told, so that the answer is `WriteFault`. Standard input isn't used.
+/// are told on standard error; what it takes of standard input stands first among them. Where no count of faults rose, a run
+/// that may come of the words, the moment, the files and the input has ended: all its outputs were put out, in order, and
+/// its answer was given; or memory ran out. Any answer but `ReadFault`, `WriteFault` and `Memory` has all its outputs put
+/// out. With those three some first outputs of such a run are whole, the next one is cut, and a first part of the answer's
+/// own line stands on standard error; that of `Memory` or `ReadFault` where this line couldn't be told, so that the answer
+/// is `WriteFault`. Standard input is read where the words ask for what reads it, and isn't used else.
 pub fn run_tools<F: Files, I: Source, O: Sink, E: Sink, G: Gate + Sync>(
     alloc: Global,
     words: &[Text],
@@ -298,16 +323,16 @@ pub fn run_tools<F: Files, I: Source, O: Sink, E: Sink, G: Gate + Sync>(
     moment: Moment,
     _gate: &G,
 ) -> Outcome
-    ensures complete { (tree : Tree) → F.tree files.old ≡ Some tree
-        → NoneRose (counts (F.read_faults files.old) (F.write_faults files.old) (O.faults out.old) (E.faults err.old)) (counts (F.read_faults files.new) (F.write_faults files.new) (O.faults out.new) (E.faults err.new))
-        → Ended words.now moment tree result (world (F.tree files.old) (I.left input.old) (O.written out.old) (E.written err.old)) (world (F.tree files.new) (I.left input.new) (O.written out.new) (E.written err.new)) ⊎ (result ≡ Outcome.Memory) }
-    ensures answered { (tree : Tree) → F.tree files.old ≡ Some tree
-        → Answered result words.now moment tree (world (F.tree files.old) (I.left input.old) (O.written out.old) (E.written err.old)) (world (F.tree files.new) (I.left input.new) (O.written out.new) (E.written err.new)) (E.faults err.old) (E.faults err.new) }
-    ensures counted { Counted result (counts (F.read_faults files.old) (F.write_faults files.old) (O.faults out.old) (E.faults err.old)) (counts (F.read_faults files.new) (F.write_faults files.new) (O.faults out.new) (E.faults err.new)) }
-    ensures unread { input.new ≡ input.old }
+    ensures complete { (tree : Tree) (bytes : Bytes) → F.tree files.old ≡ Some tree → TellsLeft (reads_input words.now) (I.left input.old) bytes
+        → NoneRose (counts (F.read_faults files.old) (I.faults input.old) (F.write_faults files.old) (O.faults out.old) (E.faults err.old)) (counts (F.read_faults files.new) (I.faults input.new) (F.write_faults files.new) (O.faults out.new) (E.faults err.new))
+        → Ended words.now moment tree bytes result (world (F.tree files.old) (I.left input.old) (O.written out.old) (E.written err.old)) (world (F.tree files.new) (I.left input.new) (O.written out.new) (E.written err.new)) ⊎ (result ≡ Outcome.Memory) }
+    ensures answered { (tree : Tree) (bytes : Bytes) → F.tree files.old ≡ Some tree → TellsLeft (reads_input words.now) (I.left input.old) bytes
+        → Answered result words.now moment tree bytes (world (F.tree files.old) (I.left input.old) (O.written out.old) (E.written err.old)) (world (F.tree files.new) (I.left input.new) (O.written out.new) (E.written err.new)) (E.faults err.old) (E.faults err.new) }
+    ensures counted { Counted result (counts (F.read_faults files.old) (I.faults input.old) (F.write_faults files.old) (O.faults out.old) (E.faults err.old)) (counts (F.read_faults files.new) (I.faults input.new) (F.write_faults files.new) (O.faults out.new) (E.faults err.new)) }
+    ensures unread { reads_input words.now ≡ false → input.new ≡ input.old }
 {
     let teller = teller_of(words);
-    match perform(alloc, words, files, out, err, moment) {
+    match perform(alloc, words, files, input, out, err, moment) {
         Ok(()) => Outcome::Done,
         Err(outcome) => match tell_outcome(err, teller, outcome) {
             Ok(outcome) => outcome,

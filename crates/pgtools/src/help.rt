@@ -33,7 +33,7 @@ Usage: pgtools psql [OPTION]... [FOLDER]
   -f, --file=FILE       the script
   -v ON_ERROR_STOP=1    end at the first refused statement (not built yet)
 
-Without -f, or with -f -, the script is standard input (not built yet).
+Without -f, or with -f -, the script is standard input.
 A refused statement changes nothing; its line stands on standard error.
 ";
 

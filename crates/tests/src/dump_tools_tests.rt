@@ -1,5 +1,5 @@
 use copy_text::Text;
-use dump_ports::{MemFiles, MemSink, MemSource, OpenGate};
+use dump_ports::{MemFiles, MemSink, MemSource, OpenGate, read_all};
 use dump_tools::run_tools;
 use os_ports::moment_now;
 use std::alloc::Global;
@@ -29,14 +29,15 @@ const EMPTY: [(&str, &[u8]); 16] = [
     ("D/format", b"1\n"),
 ];
 
-/// A run over files in memory: its exit status, what the files hold, and what was written to standard output and
-/// standard error.
+/// A run over files in memory: its exit status, what the files hold, what was written to standard output and standard
+/// error, and standard input.
 #[derive(Drop)]
 struct Run {
     status: u8,
     files: MemFiles,
     out: MemSink,
     told: MemSink,
+    input: MemSource,
 }
 
 /// Applies a script to the empty export, where these calls of the files fail.
@@ -64,7 +65,19 @@ fn call(
     fail_told: Vec<u64>,
 ) -> Result<Run, Fail> {
     let words = words_of(rt.alloc(), spelled)?;
-    Ok(run_words(rt, &words, files, fail_out, fail_told))
+    let input = MemSource::new(Vec::new(rt.alloc()), 1, Vec::new(rt.alloc()));
+    Ok(run_words(rt, &words, files, input, fail_out, fail_told))
+}
+
+/// Applies what standard input gives to the empty export.
+fn apply_input(rt: &HostRuntime, input: MemSource) -> Result<Run, Fail> {
+    let words = words_of(rt.alloc(), &["psql", "-d", "D"])?;
+    let mut files = MemFiles::new(rt.alloc(), Vec::new(rt.alloc()));
+    for (name, text) in EMPTY {
+        files.put(name, text)?;
+    }
+    let none = Vec::new(rt.alloc());
+    Ok(run_words(rt, &words, files, input, none, Vec::new(rt.alloc())))
 }
 
 fn words_of(alloc: Global, spelled: &[&str]) -> Result<Vec<Text>, Fail> {
@@ -81,11 +94,11 @@ fn run_words(
     rt: &HostRuntime,
     words: &[Text],
     mut files: MemFiles,
+    mut input: MemSource,
     fail_out: Vec<u64>,
     fail_told: Vec<u64>,
 ) -> Run {
     let alloc = rt.alloc();
-    let mut input = MemSource::new(Vec::new(alloc), 1, Vec::new(alloc));
     let mut out = MemSink::new(alloc, fail_out);
     let mut told = MemSink::new(alloc, fail_told);
     let moment = moment_now(rt);
@@ -97,6 +110,7 @@ fn run_words(
         files,
         out,
         told,
+        input,
     }
 }
 
@@ -244,6 +258,70 @@ fn each_write_to_standard_output_fails_in_turn(rt: HostRuntime) -> Result<(), Fa
         }
         assert!(rt; whole.out.text().starts_with(run.out.text()));
         assert!(rt; run.told.text() == b"pg_dump: error: could not write\n".as_slice());
+    }
+    Ok(())
+}
+
+/// A script that makes `a` twice.
+const TWICE: &[u8] = b"CREATE SCHEMA a; CREATE SCHEMA a;";
+
+/// Whether a run over standard input has applied that script.
+fn is_applied(run: &Run) -> bool {
+    run.status == 0
+        && run.told.text() == b"psql: error: at 17: schema a already exists\n".as_slice()
+        && EMPTY.into_iter().enumerate().all(|(number, (name, old))| may_hold(
+            16,
+            number,
+            text(&run.files, name),
+            old,
+        ))
+}
+
+/// Whether the folder is as it was.
+fn is_untouched(run: &Run) -> bool {
+    EMPTY
+        .into_iter()
+        .all(|(name, old)| text(&run.files, name) == old)
+}
+
+/// How many bytes standard input has left.
+fn left_of(alloc: Global, mut input: MemSource) -> usize {
+    match read_all(alloc, &mut input, 1 << 20) {
+        Ok(left) => left.len(),
+        Err(_) => usize::MAX,
+    }
+}
+
+#[test]
+fn each_read_of_the_input_fails_in_turn(rt: HostRuntime) -> Result<(), Fail> {
+    let alloc = rt.alloc();
+    for number in 1..u64::MAX {
+        let mut fail = Vec::new(alloc);
+        fail.push(number)?;
+        let run = apply_input(&rt, MemSource::new(TWICE.to_vec(alloc)?, 1, fail))?;
+        if run.status == 0 {
+            assert_eq!(rt; number, 35);
+            assert!(rt; is_applied(&run));
+            break;
+        }
+        assert!(rt; run.told.text() == b"psql: error: could not read\n".as_slice());
+        assert!(rt; is_untouched(&run));
+        let left = left_of(alloc, run.input) as u64;
+        assert_eq!(rt; left.saturating_add(number), 34);
+    }
+    Ok(())
+}
+
+#[test]
+fn the_input_comes_in_pieces(rt: HostRuntime) -> Result<(), Fail> {
+    let alloc = rt.alloc();
+    for step in [1, 2, 7, 33, 34, 1000] {
+        let run = apply_input(
+            &rt,
+            MemSource::new(TWICE.to_vec(alloc)?, step, Vec::new(alloc)),
+        )?;
+        assert!(rt; is_applied(&run));
+        assert_eq!(rt; left_of(alloc, run.input), 0);
     }
     Ok(())
 }

@@ -18,10 +18,9 @@ use Rattle.schema_folders.specs.declared.schemas.SchemaRow.{SchemaRow}
 use Rattle.schema_folders.specs.Folder.{opening_of, cells_of_row}
 use Rattle.schema_folders.specs.Run.{IsUsers}
 use Rattle.schema_folders.specs.Statements.{script_of}
-use Rattle.schema_folders.specs.Texts.{file_of}
-use Rattle.tool_words.specs.declared.outcome.Limit.TheVariants.{Script}
+use Rattle.tool_words.specs.declared.words.ScriptSource.{ScriptSource}
 use Rattle.tool_words.specs.declared.outcome.Outcome.{Outcome}
-use Rattle.dump_tools.specs.Due.{Plan, Application, Applies, Comes, script_limit, psql_due}
+use Rattle.dump_tools.specs.Due.{Plan, Application, Applies, Comes, source_of, text_due, psql_due}
 use Rattle.tool_laws.specs.Opening.{AreSchemas, WereRead}
 use Rattle.tool_laws.proofs.Opened.{bind_ok}
 
@@ -72,10 +71,10 @@ abbrev pub OpenLaw : Type 0
 OpenLaw = (folder : Bytes) (tree : Tree) (rows : List SchemaRow) → opening_of folder tree ≡ Ok rows → WereRead rows
 
 -- the rows of a plan of psql were read
-pub plan_read : OpenLaw → (folder script : Bytes) (tree : Tree) (plan : Application) → psql_due folder script tree ≡ Ok (Applies plan) → WereRead plan.rows
-unfolding psql_due
-plan_read opened folder script tree plan e =
-    let text = bind_ok (file_of Script script_limit script tree) _ (Applies plan) e in
+pub plan_read : OpenLaw → (folder : Bytes) (script : ScriptSource) (tree : Tree) (input : Bytes) (plan : Application) → psql_due folder script tree input ≡ Ok (Applies plan) → WereRead plan.rows
+unfolding psql_due text_due
+plan_read opened folder script tree input plan e =
+    let text = bind_ok (source_of script tree input) _ (Applies plan) e in
     let statements = bind_ok (script_of text.0) _ (Applies plan) text.2 in
     let rows = bind_ok (opening_of folder tree) (λ rows. Ok (Applies (record { folder = folder; statements = statements.0; rows = rows }))) (Applies plan) statements.2 in
     subst WereRead (inner (record { folder = folder; statements = statements.0; rows = rows.0 }) rows.2) (opened folder tree rows.0 rows.1)

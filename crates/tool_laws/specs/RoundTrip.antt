@@ -1,5 +1,5 @@
 -- A script that makes schemas anew: what it leaves of the catalogue of a fresh folder, whose one schema is public.
-use Rattle.std.specs.Prelude.{◌≡◌, ℕ, List, [], ◌∷◌, true, false, Some, Result, Ok, codes}
+use Rattle.std.specs.Prelude.{◌≡◌, ℕ, List, [], ◌∷◌, true, false, Option, Some, Result, Ok, codes}
 use Rattle.std.specs.Ordering.{eq_by_cmp}
 use Rattle.std.specs.List.{AllByRecursion, IsDistinct}
 use Rattle.std.specs.Option.{option_or}
@@ -12,16 +12,16 @@ use Rattle.cat_model.specs.References.{is_system}
 use Rattle.cat_model.specs.Values.{Bytes, bytes_cmp, Named}
 use Rattle.schema_folders.specs.declared.schemas.SchemaRow.{SchemaRow}
 use Rattle.ddl_read.specs.declared.located.Located.{Located}
-use Rattle.tool_words.specs.declared.outcome.Limit.TheVariants.{Script}
+use Rattle.tool_words.specs.declared.words.ScriptSource.{ScriptSource}
 use Rattle.tool_words.specs.declared.outcome.Outcome.{Outcome}
 use Rattle.tool_words.specs.Lines.{Appends}
 use Rattle.dump_tools.specs.Outputs.{World}
-use Rattle.dump_tools.specs.Due.{Plan, Application, Applies, Prints, script_limit, dump_due}
+use Rattle.dump_tools.specs.Due.{Plan, Application, Applies, Prints, source_of, dump_due}
+use Rattle.dump_tools.specs.Inputs.{HasTaken}
 use Rattle.schema_folders.specs.Folder.{has_public, opening_of, schemas_alone, Holds}
 use Rattle.schema_folders.specs.Naming.{boot, named}
 use Rattle.schema_folders.specs.Run.{catalogue_after, refusals}
 use Rattle.schema_folders.specs.Statements.{script_of}
-use Rattle.schema_folders.specs.Texts.{file_of}
 
 -- the schema that each database has from the start; its oid occurs in no catalogue by names
 abbrev pub fresh_rows : List SchemaRow
@@ -56,12 +56,12 @@ abbrev pub public_alone : ℕ → List SchemaRow
 public_alone oid = record { oid = oid; name = codes "public" } ∷ []
 
 -- A dump and its way back. The folder source holds these rows. pg_dump prints the text, which is the script that psql is
--- to apply to the folder target, whose one schema is public.
-pub record GoesBack (source : Bytes) (moment : Moment) (first : Tree) (rows : List SchemaRow) (target script : Bytes) (second : Tree) : Type 0 where
+-- to apply, from a file or from standard input, to the folder target, whose one schema is public.
+pub record GoesBack (source : Bytes) (moment : Moment) (first : Tree) (rows : List SchemaRow) (target : Bytes) (script : ScriptSource) (second : Tree) (input : Bytes) : Type 0 where
   pub opened : opening_of source first ≡ Ok rows
   pub text : Bytes
   pub dumped : dump_due source moment first ≡ Ok (Prints text)
-  pub passed : file_of Script script_limit script second ≡ Ok text
+  pub passed : source_of script second input ≡ Ok text
   pub oid : ℕ
   pub fresh : opening_of target second ≡ Ok (public_alone oid)
 
@@ -83,12 +83,12 @@ pub record StandsFor (folder : Bytes) (tree : Tree) (rows : List SchemaRow) : Ty
 abbrev pub public_and_a : List SchemaRow
 public_and_a = record { oid = 2200; name = codes "public" } ∷ record { oid = 16384; name = codes "a" } ∷ []
 
--- What was before is laid out anew: the folder stands for the rows, standard input and standard output are as they were,
--- and nothing was told.
-pub record Restores (target : Bytes) (rows : List SchemaRow) (before after : World) : Type 0 where
+-- What was before is laid out anew: the folder stands for the rows, what is read of standard input was taken, standard
+-- output is as it was, and nothing was told.
+pub record Restores (target : Bytes) (rows : List SchemaRow) (reads : Option Bytes) (before after : World) : Type 0 where
   pub tree : Tree
   pub is : after.tree ≡ Some tree
   pub stands : StandsFor target tree rows
-  pub left : after.left ≡ before.left
+  pub left : HasTaken reads before.left after.left
   pub printed : after.printed ≡ before.printed
   pub told : Appends [] before.told after.told

@@ -10,8 +10,11 @@ ghost use Rattle.dump_laws.specs.Examples.{script_of_two};
 ghost use Rattle.schema_folders.specs.declared.schemas.SchemaRow.{SchemaRow};
 ghost use Rattle.dump_tools.specs.Due.{Application, Applies, dump_row, export_named, psql_due, compare_due};
 ghost use Rattle.dump_tools.specs.Outputs.{World, all_performed};
-ghost use Rattle.dump_tools.specs.Runs.{Run, run_of, IsApplied, MayCome};
+ghost use Rattle.dump_tools.specs.Inputs.{where_read};
+ghost use Rattle.dump_tools.specs.Runs.{Run, run_of, IsApplied, MayCome, MayRun};
 ghost use Rattle.tool_words.specs.declared.outcome.Outcome.TheVariants.{Done};
+ghost use Rattle.tool_words.specs.Words.{is_input};
+ghost use Rattle.tool_words.specs.declared.words.ScriptSource.{ScriptSource};
 ghost use Rattle.tool_words.specs.declared.words.Teller.{Teller};
 ghost use Rattle.cat_rows.specs.declared.table.SysTable.TheVariants.{PgNamespace};
 ghost use Rattle.cat_rows.specs.Reading.{table_of};
@@ -69,17 +72,17 @@ pub fn folders_of_schemas_have_one_meaning()
 /// catalogue by names; and it is read as an export, by every tool, and as an opening by psql and pg_dump, where the file
 /// of pg_namespace is within the limit of a table's file.
 pub fn psql_leaves_an_export()
-    ensures formed { (folder script : Bytes) (tree : Tree) (plan : Application) (run : Run) (applied : IsApplied plan run)
-        → psql_due folder script tree ≡ Ok (Applies plan)
+    ensures formed { (folder : Bytes) (script : ScriptSource) (tree : Tree) (input : Bytes) (plan : Application) (run : Run) (applied : IsApplied plan run)
+        → psql_due folder script tree input ≡ Ok (Applies plan)
         → catalogue_fault (schemas_alone applied.comes.rows) ≡ None }
     ensures named { (plan : Application) (run : Run) (applied : IsApplied plan run)
         → export_named (record { cat = schemas_alone applied.comes.rows; rows = empty }) ≡ catalogue_after boot plan.statements (named plan.rows) }
-    ensures read { (folder script : Bytes) (tree : Tree) (plan : Application) (run : Run) (applied : IsApplied plan run) (after : Tree)
-        → psql_due folder script tree ≡ Ok (Applies plan)
+    ensures read { (folder : Bytes) (script : ScriptSource) (tree : Tree) (input : Bytes) (plan : Application) (run : Run) (applied : IsApplied plan run) (after : Tree)
+        → psql_due folder script tree input ≡ Ok (Applies plan)
         → length applied.text ≤ table_limit
         → export_of plan.folder (folder_saved plan.folder applied.text after) ≡ Ok (record { cat = schemas_alone applied.comes.rows; rows = empty }) }
-    ensures opened { (folder script : Bytes) (tree : Tree) (plan : Application) (run : Run) (applied : IsApplied plan run) (after : Tree)
-        → psql_due folder script tree ≡ Ok (Applies plan)
+    ensures opened { (folder : Bytes) (script : ScriptSource) (tree : Tree) (input : Bytes) (plan : Application) (run : Run) (applied : IsApplied plan run) (after : Tree)
+        → psql_due folder script tree input ≡ Ok (Applies plan)
         → length applied.text ≤ table_limit
         → opening_of plan.folder (folder_saved plan.folder applied.text after) ≡ Ok applied.comes.rows }
 {
@@ -96,17 +99,18 @@ pub fn pg_catcmp_finds_the_same_schemas_the_same()
         → (teller : Teller) (run : Run) → MayCome teller (compare_due source target tree) run → run ≡ run_of [] Done }
 {}
 
-/// What pg_dump prints of a folder, psql applies to a folder whose one schema is public: nothing is refused, and each run
-/// that may come of it is done and leaves the folder standing for the same catalogue by names, with nothing told.
+/// What pg_dump prints of a folder, psql applies to a folder whose one schema is public, from a file or from standard input:
+/// nothing is refused, and each run that may come of it is done and leaves the folder standing for the same catalogue by
+/// names, with nothing told.
 pub fn psql_restores_what_pg_dump_prints()
-    ensures due { (source : Bytes) (moment : Moment) (first : Tree) (rows : List SchemaRow) (target script : Bytes) (second : Tree)
-        → GoesBack source moment first rows target script second
-        → MakesSame (psql_due target script second) rows }
-    ensures done { (source : Bytes) (moment : Moment) (first : Tree) (rows : List SchemaRow) (target script : Bytes) (second : Tree) (teller : Teller) (run : Run) (before : World)
-        → GoesBack source moment first rows target script second
+    ensures due { (source : Bytes) (moment : Moment) (first : Tree) (rows : List SchemaRow) (target : Bytes) (script : ScriptSource) (second : Tree) (input : Bytes)
+        → GoesBack source moment first rows target script second input
+        → MakesSame (psql_due target script second input) rows }
+    ensures done { (source : Bytes) (moment : Moment) (first : Tree) (rows : List SchemaRow) (target : Bytes) (script : ScriptSource) (second : Tree) (input : Bytes) (teller : Teller) (run : Run) (before : World)
+        → GoesBack source moment first rows target script second input
         → before.tree ≡ Some second
-        → MayCome teller (psql_due target script second) run
-        → (run.answer ≡ Done) × Restores target rows before (all_performed run.outputs before) }
+        → MayRun (where_read (is_input script) input) teller (psql_due target script second input) run
+        → (run.answer ≡ Done) × Restores target rows (where_read (is_input script) input) before (all_performed run.outputs before) }
 {
     the_dumped_script_makes_the_schemas();
     openings_are_schemas();

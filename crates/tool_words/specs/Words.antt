@@ -21,6 +21,8 @@ use Rattle.tool_words.specs.declared.outcome.Outcome.{Outcome}
 use Rattle.tool_words.specs.declared.outcome.Outcome.TheVariants.{Usage, OutOfProfile}
 use Rattle.tool_words.specs.declared.words.Asked.{Asked}
 use Rattle.tool_words.specs.declared.words.Asked.TheVariants.{Psql, Dump, Compare}
+use Rattle.tool_words.specs.declared.words.ScriptSource.{ScriptSource}
+use Rattle.tool_words.specs.declared.words.ScriptSource.TheVariants.{File, Input}
 use Rattle.tool_words.specs.declared.words.Teller.{Teller}
 use Rattle.tool_words.specs.declared.words.Teller.TheVariants as teller
 
@@ -31,18 +33,14 @@ abbrev pub folder_named : Folder → Bytes
 folder_named (folder.Dbname name) = name
 folder_named (folder.Word name) = name
 
--- a file, and not standard input or output
-abbrev pub file_named : Option Bytes → Option Bytes
-file_named None = None
-file_named (Some name) = if bytes_eq name (codes "-") then None else Some name
+-- where psql's script is read: the file that is named; standard input where none is, or `-`
+abbrev pub script_from : Option Bytes → ScriptSource
+script_from None = Input
+script_from (Some name) = if bytes_eq name (codes "-") then Input else File name
 
--- psql applies a script in a file, to its end
-abbrev pub script_asked : Bytes → Option Bytes → Option Asked
-script_asked folder None = None
-script_asked folder (Some script) = Some (Psql folder script)
-
+-- psql applies a script to its end
 abbrev pub psql_asked : PsqlWords → Option Asked
-psql_asked words = if words.on_error_stop then None else script_asked (folder_named words.folder) (file_named words.file)
+psql_asked words = if words.on_error_stop then None else Some (Psql (folder_named words.folder) (script_from words.file))
 
 -- something is left out of a dump by a flag, or each pattern has to hit
 abbrev pub is_flagged : Choice → Bool
@@ -95,6 +93,26 @@ asked_by (Ok command) = built (asked_of command)
 -- refused at once.
 unfoldable pub words_asked : List Bytes → Result Asked Outcome
 words_asked words = asked_by (command_from words)
+
+-- ---- what reads standard input
+
+abbrev pub is_input : ScriptSource → Bool
+is_input (File name) = false
+is_input Input = true
+
+-- only psql reads standard input, where its script stands there
+abbrev pub asks_for_input : Asked → Bool
+asks_for_input (Psql folder script) = is_input script
+asks_for_input (Dump folder) = false
+asks_for_input (Compare first second) = false
+
+abbrev pub asked_input : Result Asked Outcome → Bool
+asked_input (Err refusal) = false
+asked_input (Ok asked) = asks_for_input asked
+
+-- whether the words ask for what reads standard input
+abbrev pub reads_input : List Bytes → Bool
+reads_input words = asked_input (words_asked words)
 
 -- ---- who tells a refusal
 

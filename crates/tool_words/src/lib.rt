@@ -9,4 +9,4 @@ mod words;
 pub use keys::Difference;
 pub use outcome::{ExportFault, Limit, Outcome};
 pub use telling::{tell, write_bytes};
-pub use words::{Asked, Teller, read_asked, teller_of};
+pub use words::{Asked, ScriptSource, Teller, read_asked, teller_of};

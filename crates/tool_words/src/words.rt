@@ -2,7 +2,7 @@
 ghost use Rattle.std.specs.Prelude.{◌≡◌, ℕ, List, Option, Some, None, Result, Ok, Err, MatchResult};
 ghost use Rattle.cat_names.specs.Rights.{is_empty_list};
 ghost use Rattle.tool_words.specs.Answers.{Gives, CountsRead};
-ghost use Rattle.tool_words.specs.Words.{folder_named, file_named, script_asked, psql_asked, is_flagged, names_none, takes_all, is_script, is_printed, dump_asked, asked_of, built, words_asked, told_by, teller_of};
+ghost use Rattle.tool_words.specs.Words.{folder_named, script_from, psql_asked, is_flagged, names_none, takes_all, is_script, is_printed, dump_asked, asked_of, built, words_asked, told_by, teller_of};
 ghost use Rattle.tool_words.specs.Messages.{teller_name};
 
 use crate::outcome::Outcome;
@@ -14,6 +14,15 @@ use command_line::{
 use copy_text::Text;
 use std::alloc::Global;
 
+/// Where a script is read.
+#[derive(Debug, Drop)]
+pub enum ScriptSource {
+    /// The file of this name.
+    File(Text),
+    /// Standard input.
+    Input,
+}
+
 /// What the words ask for, where that is built.
 #[derive(Debug, Drop)]
 pub enum Asked {
@@ -21,8 +30,8 @@ pub enum Asked {
     Psql {
         /// The folder.
         folder: Text,
-        /// The file of the script.
-        script: Text,
+        /// Where the script is read.
+        script: ScriptSource,
     },
     /// pg_dump prints the script of a folder.
     Dump {
@@ -126,25 +135,19 @@ fn psql_asked(words: PsqlWords) -> Option<Asked>
     if on_error_stop {
         return None;
     }
-    script_asked(folder_named(folder), file_named(file))
+    Some(Asked::Psql {
+        folder: folder_named(folder),
+        script: script_from(file),
+    })
 }
 
-fn script_asked(folder: Text, script: Option<Text>) -> Option<Asked>
-    ensures { result ≡ script_asked folder script }
-{
-    match script {
-        Some(script) => Some(Asked::Psql { folder, script }),
-        None => None,
-    }
-}
-
-/// A file, and not standard input.
-fn file_named(file: Option<Text>) -> Option<Text>
-    ensures { result ≡ file_named file }
+/// Standard input where no file is named, or `-`.
+fn script_from(file: Option<Text>) -> ScriptSource
+    ensures { result ≡ script_from file }
 {
     match file {
-        Some(name) if name.as_str() != "-" => Some(name),
-        _ => None,
+        Some(name) if name.as_str() != "-" => ScriptSource::File(name),
+        _ => ScriptSource::Input,
     }
 }
 

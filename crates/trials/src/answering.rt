@@ -54,6 +54,7 @@ fn answer(alloc: Global, block: &Block, line: &str, out: &mut Vec<u8>) -> Result
         Kind::Change => changes::with_line(alloc, &block.base, line, out),
         Kind::PgCatcmp => tools::pg_catcmp(alloc, &block.base, line, out),
         Kind::Run => tools::words(alloc, &block.base, line, out),
+        Kind::Input => tools::input(alloc, &block.base, line, out),
         _ => match decoded(alloc, line)? {
             Some(text) => of_bytes(alloc, block, &text, out),
             None => out.extend_from_slice(b"?"),

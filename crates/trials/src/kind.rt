@@ -29,6 +29,8 @@ pub(crate) enum Kind {
     PgCatcmp,
     /// Words: what the program tells.
     Run,
+    /// Words and the text of standard input: what the program tells and writes, and what is left of the input.
+    Input,
 }
 
 /// The tables that are checked together.
@@ -79,6 +81,7 @@ fn other_of(name: &str) -> Kind {
         "pg_dump" => Kind::PgDump,
         "pg_catcmp" => Kind::PgCatcmp,
         "run" => Kind::Run,
+        "input" => Kind::Input,
         _ => text_kind(name).map_or(Kind::Unknown, Kind::Text),
     }
 }

@@ -2,19 +2,26 @@
 use crate::base::Base;
 use cat_rows::SysTable;
 use copy_text::Text;
-use dump_ports::{MemFiles, MemSink, MemSource, Moment, OpenGate};
+use dump_ports::{MemFiles, MemSink, MemSource, Moment, OpenGate, read_all};
 use dump_tools::run_tools;
 use std::alloc::{AllocError, Global};
 use text_cases::decoded;
 use tool_words::Outcome;
 
-/// What a run came to: its exit status, the files, and what was printed and told.
+/// How many bytes of standard input a read gives.
+const STEP: usize = 7;
+
+/// How many bytes standard input may have.
+const LIMIT: u64 = 1 << 27;
+
+/// What a run came to: its exit status, the files, what was printed and told, and what is left of standard input.
 #[derive(Drop)]
 struct Run {
     status: u8,
     files: MemFiles,
     out: MemSink,
     told: MemSink,
+    left: Vec<u8>,
 }
 
 fn exit_status(outcome: Outcome) -> u8 {
@@ -33,28 +40,52 @@ fn words_of(alloc: Global, spelled: &str) -> Result<Vec<Text>, AllocError> {
     Ok(words)
 }
 
-fn run_over(alloc: Global, words: &[Text], mut files: MemFiles, moment: Moment) -> Run {
-    let mut input = MemSource::new(Vec::new(alloc), 1, Vec::new(alloc));
-    let mut out = MemSink::new(alloc, Vec::new(alloc));
-    let mut told = MemSink::new(alloc, Vec::new(alloc));
-    let outcome = run_tools(
-        alloc, words, &mut files, &mut input, &mut out, &mut told, moment, &OpenGate,
-    );
-    Run {
-        status: exit_status(outcome),
-        files,
-        out,
-        told,
+fn left_of(alloc: Global, input: &mut MemSource) -> Result<Vec<u8>, AllocError> {
+    match read_all(alloc, input, LIMIT) {
+        Ok(left) => Ok(left),
+        Err(_) => Err(AllocError),
     }
 }
 
-// Runs the program with these words on the first of 1970.
-fn run_words(alloc: Global, spelled: &str, files: MemFiles) -> Result<Run, AllocError> {
+fn run_over(
+    alloc: Global,
+    words: &[Text],
+    mut files: MemFiles,
+    given: Vec<u8>,
+    moment: Moment,
+) -> Result<Run, AllocError> {
+    let mut input = MemSource::new(given, STEP, Vec::new(alloc));
+    let mut out = MemSink::new(alloc, Vec::new(alloc));
+    let mut told = MemSink::new(alloc, Vec::new(alloc));
+    let status = exit_status(run_tools(
+        alloc, words, &mut files, &mut input, &mut out, &mut told, moment, &OpenGate,
+    ));
+    let left = left_of(alloc, &mut input)?;
+    Ok(Run {
+        status,
+        files,
+        out,
+        told,
+        left,
+    })
+}
+
+// Runs the program with these words and this standard input on the first of 1970.
+fn run_fed(
+    alloc: Global,
+    spelled: &str,
+    files: MemFiles,
+    given: Vec<u8>,
+) -> Result<Run, AllocError> {
     let words = words_of(alloc, spelled)?;
     match Moment::new([0, 0, 0, 1, 0, 70, 0]) {
-        Some(moment) => Ok(run_over(alloc, &words, files, moment)),
+        Some(moment) => run_over(alloc, &words, files, given, moment),
         None => Err(AllocError),
     }
+}
+
+fn run_words(alloc: Global, spelled: &str, files: MemFiles) -> Result<Run, AllocError> {
+    run_fed(alloc, spelled, files, Vec::new(alloc))
 }
 
 // Puts the base into a folder, but for one file.
@@ -111,7 +142,15 @@ fn put_run(alloc: Global, base: &Base, run: &Run, out: &mut Vec<u8>) -> Result<(
     if !run.out.text().is_empty() {
         put_quoted(b"printed", run.out.text(), out)?;
     }
-    put_written(alloc, base, &run.files, out)
+    put_written(alloc, base, &run.files, out)?;
+    put_left(&run.left, out)
+}
+
+fn put_left(left: &[u8], out: &mut Vec<u8>) -> Result<(), AllocError> {
+    if left.is_empty() {
+        return Ok(());
+    }
+    put_quoted(b"left", left, out)
 }
 
 fn applied(alloc: Global, base: &Base, script: &[u8]) -> Result<Run, AllocError> {
@@ -155,6 +194,25 @@ pub(crate) fn words(
     let mut files = MemFiles::new(alloc, Vec::new(alloc));
     put_folder(alloc, base, "D", "", &mut files)?;
     put_run(alloc, base, &run_words(alloc, line, files)?, out)
+}
+
+/// Words, ` < ` and the text of standard input: what the program answers, tells, prints and writes, and what is left of the
+/// input.
+pub(crate) fn input(
+    alloc: Global,
+    base: &Base,
+    line: &str,
+    out: &mut Vec<u8>,
+) -> Result<(), AllocError> {
+    let Some((words, rest)) = line.split_once(" < ") else {
+        return out.extend_from_slice(b"?");
+    };
+    let Some(given) = decoded(alloc, rest)? else {
+        return out.extend_from_slice(b"?");
+    };
+    let mut files = MemFiles::new(alloc, Vec::new(alloc));
+    put_folder(alloc, base, "D", "", &mut files)?;
+    put_run(alloc, base, &run_fed(alloc, words, files, given)?, out)
 }
 
 /// A file and its text, or `without` and a file: what pg_catcmp tells of the base and of the base with it.
