@@ -1,8 +1,7 @@
 -- How rows are found by their places.
-use Rattle.std.proofs.Common.{◌≡◌, ℕ, suc, ℤ, pos, Bool, true, false, cond, List, [], ◌∷◌, ◌++◌, length, map, Option, Some, None, option_map, option_and_then, refl, sym, ap, ◌∙◌}
+use Rattle.std.proofs.Common.{◌≡◌, ℕ, suc, pos, Bool, true, false, cond, List, [], ◌∷◌, map, Option, Some, None, option_map, option_and_then, refl, sym, ap, ◌∙◌}
 use Rattle.std.specs.Prelude.{◌&&◌}
 use Rattle.std.specs.List.{filter, find, filter_map, cons_option, slice_get}
-use Rattle.std.specs.Ordering.{int_cmp, is_le}
 use Rattle.cat_names.specs.Lookups.{same_oid, place_of}
 use Rattle.oid_groups.specs.Orders.{placed, by_number}
 

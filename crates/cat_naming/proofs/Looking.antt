@@ -7,11 +7,11 @@ use Rattle.cat_model.specs.declared.type_name.TypeName.{TypeName}
 use Rattle.cat_model.specs.TypeEffects.{as_it_is}
 use Rattle.cat_model.specs.Values.{Bytes, Resolved}
 use Rattle.cat_names.specs.Lookups.{same_oid, place_of}
-use Rattle.cat_names.specs.Relations.{is_key}
+use Rattle.cat_book.specs.Leads.{is_key}
 use Rattle.cat_names.specs.Roles.{is_no_oid}
 use Rattle.cat_rows.specs.declared.catalogue.Catalogue.{Catalogue}
 use Rattle.cat_rows.specs.declared.constraints.ConstraintRow.{ConstraintRow}
-use Rattle.cat_types.specs.Texts.{type_named}
+use Rattle.row_texts.specs.TypeTexts.{type_named}
 use Rattle.oid_groups.specs.Groups.{group_of}
 use Rattle.oid_groups.proofs.Rows.{rows_of_group}
 use Rattle.type_ends.specs.Ends.{resolved_within}

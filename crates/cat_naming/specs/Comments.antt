@@ -13,8 +13,8 @@ use Rattle.cat_model.specs.Values as value
 use Rattle.cat_names.specs.Lookups.{same_oid}
 use Rattle.cat_names.specs.Naming.{Entry}
 use Rattle.cat_names.specs.Relations.{is_zero}
-use Rattle.cat_types.specs.Domains.{path_of}
-use Rattle.cat_types.specs.Paths.{schema_of, class_path_of}
+use Rattle.cat_book.specs.Paths.{path_of}
+use Rattle.cat_book.specs.Paths.{schema_of, class_path_of}
 use Rattle.cat_naming.specs.Relations.{column_name}
 
 -- the first constraint of an oid

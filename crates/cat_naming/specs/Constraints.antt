@@ -13,9 +13,10 @@ use Rattle.cat_model.specs.RelationEffects.{check_value}
 use Rattle.cat_model.specs.Values as value
 use Rattle.cat_model.specs.Values.{Value}
 use Rattle.cat_names.specs.Naming.{Entry}
-use Rattle.cat_types.specs.Paths.{class_path_of}
-use Rattle.cat_texts.specs.Indexes.{IndexText, index_said}
-use Rattle.cat_constraints.specs.Said.{statement_said}
+use Rattle.cat_book.specs.Paths.{class_path_of}
+use Rattle.row_texts.specs.IndexTexts.{index_said}
+use Rattle.row_texts.specs.declared.index_text.IndexText.{IndexText}
+use Rattle.constraint_table.specs.Said.{statement_said}
 use Rattle.cat_naming.specs.Types.{under_path, with_value}
 
 -- what ALTER TABLE .. ADD CONSTRAINT sets
@@ -34,7 +35,7 @@ constraint_entries cat row =
     (key.Con table row.conname, v) ∷ []))
 
 abbrev pub index_entry : IndexText → Entry
-index_entry said = (key.Index said.1.1.0 said.1.0, value.index (record { method = said.1.1.1.0; unique = said.0; text = said.1.1.1.1 }))
+index_entry said = (key.Index said.table said.name, value.index (record { method = said.method; unique = said.unique; text = said.rest }))
 
 abbrev pub said_entries : Option IndexText → List Entry
 said_entries None = []

@@ -1,6 +1,6 @@
 -- What the rows of pg_class, pg_attribute, pg_attrdef, pg_sequence and pg_rewrite stand for by names, with the rows of
 -- tables.
-use Rattle.std.specs.Prelude.{ℕ, ℤ, ◌&&◌, List, [], ◌∷◌, filter_map, Option, Some, None, if◌then◌else◌}
+use Rattle.std.specs.Prelude.{ℕ, ℤ, ◌&&◌, List, [], ◌∷◌, filter_map, Option, Some, if◌then◌else◌}
 use Rattle.std.specs.List.{filter, find}
 use Rattle.std.specs.Option.{option_map, option_and_then, option_or}
 use Rattle.std.specs.Ordering.{int_eq}
@@ -22,13 +22,15 @@ use Rattle.cat_names.specs.Grants.{grants_of}
 use Rattle.cat_names.specs.Kinds.{relation_kind, is_table, is_view, is_sequence, is_index}
 use Rattle.cat_names.specs.Lookups.{same_oid, role_name}
 use Rattle.cat_names.specs.Naming.{Entry, under}
-use Rattle.cat_names.specs.Relations.{is_key}
+use Rattle.cat_book.specs.Leads.{is_key}
 use Rattle.cat_names.specs.Roles.{is_no_oid}
-use Rattle.cat_types.specs.Paths.{class_path, class_path_of}
-use Rattle.cat_texts.specs.Sequences.{sequence_kind, numbers}
-use Rattle.cat_texts.specs.Views.{view_body}
+use Rattle.cat_book.specs.Paths.{class_path, class_path_of}
+use Rattle.row_texts.specs.SequenceTypes.{sequence_kind}
+use Rattle.text_tables.specs.Sequences.{numbers}
+use Rattle.row_texts.specs.ViewTexts.{view_body}
 use Rattle.oid_groups.specs.Orders.{by_number}
-use Rattle.cat_naming.specs.Types.{under_path, with_value, typed, default_said}
+use Rattle.cat_naming.specs.Types.{under_path, with_value, typed}
+use Rattle.row_texts.specs.DefaultTexts.{default_said}
 
 -- the rows of each table, by its oid
 abbrev pub RowsByOid : Type 0

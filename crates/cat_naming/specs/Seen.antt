@@ -8,8 +8,7 @@ use Rattle.cat_rows.specs.declared.constraints.ConstraintRow.{ConstraintRow}
 use Rattle.cat_model.specs.declared.type_name.TypeName.{TypeName}
 use Rattle.cat_model.specs.Values.{Resolved}
 use Rattle.cat_names.specs.Naming.{Entry}
-use Rattle.cat_names.specs.Relations.{is_key}
-use Rattle.cat_values.specs.declared.value.NamedValue.{NamedValue}
+use Rattle.cat_book.specs.Leads.{is_key}
 use Rattle.cat_values.specs.Seen.{value_seen}
 use Rattle.type_ends.specs.Seen.{resolved_seen}
 use Rattle.cat_naming.specs.declared.entries.Entries.{Entries}

@@ -1,5 +1,5 @@
 -- What the rows of pg_type, pg_enum and the checks of domains stand for by names.
-use Rattle.std.specs.Prelude.{ℕ, zero, suc, false, ◌||◌, List, [], ◌∷◌, length, map, filter_map, Option, Some, None, if◌then◌else◌}
+use Rattle.std.specs.Prelude.{ℕ, List, [], ◌∷◌, filter_map, Option, Some, None, if◌then◌else◌}
 use Rattle.std.specs.List.{filter}
 use Rattle.std.specs.Option.{option_map, option_and_then}
 use Rattle.std.specs.FinMap.{from_entries}
@@ -12,20 +12,17 @@ use Rattle.cat_model.specs.declared.key.Key.TheVariants as key
 use Rattle.cat_model.specs.declared.stmt.Stmt.{Stmt}
 use Rattle.cat_model.specs.declared.stmt.Stmt.TheVariants as stmt
 use Rattle.cat_model.specs.declared.type_name.TypeName.{TypeName}
-use Rattle.cat_model.specs.declared.type_name.TypeName.TheVariants.{Path}
-use Rattle.cat_model.specs.TypeEffects.{as_it_is}
 use Rattle.cat_model.specs.Values as value
 use Rattle.cat_model.specs.Values.{Bytes, Value, Resolved, Domain}
-use Rattle.ddl_parts.specs.Expressions.{default_text}
 use Rattle.cat_names.specs.declared.rights.GrantKind.TheVariants as on
 use Rattle.cat_names.specs.Grants.{grants_of}
 use Rattle.cat_names.specs.Lookups.{same_oid, role_name}
 use Rattle.cat_names.specs.Naming.{Entry, under}
-use Rattle.cat_names.specs.Roles.{is_no_oid}
-use Rattle.cat_types.specs.Chains.{type_of, is_domain_letter}
-use Rattle.cat_types.specs.Paths.{type_path}
-use Rattle.cat_types.specs.Texts.{type_named, whole}
-use Rattle.cat_constraints.specs.Said.{statement_said}
+use Rattle.cat_book.specs.Chains.{is_domain_letter}
+use Rattle.cat_book.specs.Paths.{type_path}
+use Rattle.row_texts.specs.DefaultTexts.{default_said}
+use Rattle.row_texts.specs.TypeTexts.{type_named}
+use Rattle.constraint_table.specs.Said.{statement_said}
 use Rattle.type_ends.specs.Ends.{labels_of, resolved}
 
 -- what stands under a path; nothing where an oid leads to no row
@@ -50,10 +47,6 @@ check_of row = option_map (λ text. (row.conname, text)) (option_and_then check_
 -- the checks of a domain, by name
 abbrev pub checks_of : Catalogue → ℕ → List (Bytes × Bytes)
 checks_of cat oid = filter_map check_of (filter (λ c. same_oid oid c.contypid) cat.pg_constraint)
-
--- the text of a default, from its first token to its last
-abbrev pub default_said : Bytes → Option Bytes
-default_said text = whole default_text text
 
 abbrev pub domain_of : Catalogue → TypeRow → TypeName × Resolved → Domain
 domain_of cat row base = record {

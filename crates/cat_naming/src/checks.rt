@@ -3,15 +3,15 @@ ghost use Rattle.std.specs.Prelude.{◌≡◌, [], ◌∷◌, ◌++◌, option_m
 ghost use Rattle.std.specs.FinMap.{from_entries};
 ghost use Rattle.std.specs.List.{cons_option, slice_get};
 ghost use Rattle.std.specs.Option.{option_and_then};
-ghost use Rattle.cat_constraints.specs.Said.{statement_said};
+ghost use Rattle.constraint_table.specs.Said.{statement_said};
 ghost use Rattle.cat_values.specs.Seen.{checks_seen};
 ghost use Rattle.cat_naming.specs.Types.{check_said, check_of, checks_of};
 
 use crate::naming::Naming;
-use cat_constraints::{only_statement, statement_text, statements_of};
 use cat_model::Stmt;
 use cat_rows::ConstraintRow;
 use cat_values::{Checks, add_check, no_checks};
+use constraint_table::{only_statement, statement_text, statements_of};
 use copy_text::{Name, Text};
 use std::alloc::{AllocError, Global};
 

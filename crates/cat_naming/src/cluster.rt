@@ -5,10 +5,10 @@ ghost use Rattle.cat_names.specs.Naming.{role_entries, member_entries, database_
 ghost use Rattle.cat_naming.specs.Seen.{entries_seen};
 
 use crate::entries::{Entries, grants_entry, owner_entry};
+use cat_book::Book;
 use cat_model::{Key, Object};
 use cat_names::GrantKind;
 use cat_rows::{AuthMembersRow, AuthidRow, DatabaseRow, NamespaceRow};
-use cat_types::Lookup;
 use cat_values::NamedValue;
 use std::alloc::{AllocError, Global};
 
@@ -38,7 +38,7 @@ pub(crate) fn add_roles<'a>(
 // A membership, by the names of the role, its member and the grantor.
 fn member_entries<'a>(
     alloc: Global,
-    lookup: &'a Lookup<'a>,
+    lookup: &'a Book<'a>,
     row: &'a AuthMembersRow,
 ) -> Result<Entries<'a>, AllocError>
     ensures { IfOk result (λ entries. entries_seen entries ≡ member_entries lookup.now.pg_authid row.now) }
@@ -60,7 +60,7 @@ fn member_entries<'a>(
 pub(crate) fn add_members<'a>(
     alloc: Global,
     entries: &mut Entries<'a>,
-    lookup: &'a Lookup<'a>,
+    lookup: &'a Book<'a>,
     rows: &'a [AuthMembersRow],
 ) -> Result<(), AllocError>
     ensures { OnOk result (entries_seen entries.new ≡ entries_seen entries.old ++ flat_map (member_entries lookup.now.pg_authid) rows.now) }
@@ -75,7 +75,7 @@ pub(crate) fn add_members<'a>(
 // A database and its owner.
 fn database_entries<'a>(
     alloc: Global,
-    lookup: &'a Lookup<'a>,
+    lookup: &'a Book<'a>,
     row: &'a DatabaseRow,
 ) -> Result<Entries<'a>, AllocError>
     ensures { IfOk result (λ entries. entries_seen entries ≡ database_entries lookup.now.pg_authid row.now) }
@@ -95,7 +95,7 @@ fn database_entries<'a>(
 pub(crate) fn add_databases<'a>(
     alloc: Global,
     entries: &mut Entries<'a>,
-    lookup: &'a Lookup<'a>,
+    lookup: &'a Book<'a>,
     rows: &'a [DatabaseRow],
 ) -> Result<(), AllocError>
     ensures { OnOk result (entries_seen entries.new ≡ entries_seen entries.old ++ flat_map (database_entries lookup.now.pg_authid) rows.now) }
@@ -110,7 +110,7 @@ pub(crate) fn add_databases<'a>(
 // A schema, its owner and its grants.
 fn schema_entries<'a>(
     alloc: Global,
-    lookup: &'a Lookup<'a>,
+    lookup: &'a Book<'a>,
     row: &'a NamespaceRow,
 ) -> Result<Entries<'a>, AllocError>
     ensures { IfOk result (λ entries. entries_seen entries ≡ schema_entries lookup.now.pg_authid row.now) }
@@ -131,7 +131,7 @@ fn schema_entries<'a>(
 pub(crate) fn add_schemas<'a>(
     alloc: Global,
     entries: &mut Entries<'a>,
-    lookup: &'a Lookup<'a>,
+    lookup: &'a Book<'a>,
     rows: &'a [NamespaceRow],
 ) -> Result<(), AllocError>
     ensures { OnOk result (entries_seen entries.new ≡ entries_seen entries.old ++ flat_map (schema_entries lookup.now.pg_authid) rows.now) }

@@ -8,10 +8,11 @@ ghost use Rattle.cat_naming.specs.Seen.{entries_seen};
 
 use crate::entries::Entries;
 use crate::naming::Naming;
-use crate::texts::{default_said, typed};
+use crate::texts::typed;
 use cat_model::Key;
 use cat_rows::{AttrdefRow, AttributeRow};
 use cat_values::{Column, NamedValue};
+use row_texts::default_said;
 use std::alloc::{AllocError, Global};
 
 // A column by its row.
@@ -92,7 +93,7 @@ fn default_entries<'a>(
     let Some(column) = naming.column_name(row.adrelid, row.adnum) else {
         return Ok(Entries::none(alloc));
     };
-    let Some(text) = default_said(alloc, &row.adexpr)? else {
+    let Some(text) = default_said(alloc, row.adexpr.as_bytes())? else {
         return Ok(Entries::none(alloc));
     };
     let key = Key::Default(table, column.clone()?);

@@ -3,8 +3,8 @@ ghost use Rattle.std.specs.Prelude.{◌≡◌, ◌++◌, option_map, IfOk, OnOk}
 ghost use Rattle.std.specs.List.{flat_map};
 ghost use Rattle.std.specs.Option.{option_and_then};
 ghost use Rattle.cat_model.specs.declared.object.Object.TheVariants as object;
-ghost use Rattle.cat_types.specs.Domains.{path_of};
-ghost use Rattle.cat_types.specs.Paths.{schema_of, class_path_of};
+ghost use Rattle.cat_book.specs.Paths.{path_of};
+ghost use Rattle.cat_book.specs.Paths.{schema_of, class_path_of};
 ghost use Rattle.cat_naming.specs.Comments.{constraint_of, constraint_object, relation_object, commented_object, with_object, comment_entries};
 ghost use Rattle.cat_naming.specs.Seen.{entries_seen};
 

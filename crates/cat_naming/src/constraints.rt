@@ -5,20 +5,19 @@ ghost use Rattle.std.specs.Option.{option_and_then};
 ghost use Rattle.cat_model.specs.KeyEffects.{key_value, foreign_value};
 ghost use Rattle.cat_model.specs.RelationEffects.{check_value};
 ghost use Rattle.cat_values.specs.Seen.{value_seen};
-ghost use Rattle.cat_constraints.specs.Said.{statement_said};
-ghost use Rattle.cat_texts.specs.Indexes.{said_of};
+ghost use Rattle.constraint_table.specs.Said.{statement_said};
 ghost use Rattle.cat_naming.specs.Constraints.{constraint_value, constraint_entries, index_entry, index_entries};
 ghost use Rattle.cat_naming.specs.Seen.{entries_seen};
 
 use crate::entries::Entries;
 use crate::naming::Naming;
 use crate::paths::same_path;
-use cat_constraints::{only_statement, statement_text, statements_of};
 use cat_model::{ConstraintKind, Items, Key, QName, Stmt};
 use cat_rows::{ConstraintRow, IndexRow};
-use cat_texts::{IndexText, index_said};
 use cat_values::{Constraint, Index, NamedValue, Parent};
+use constraint_table::{only_statement, statement_text, statements_of};
 use copy_text::{Name, Text};
+use row_texts::{IndexText, index_said};
 use std::alloc::{AllocError, Global};
 
 // The same names once more.
@@ -171,7 +170,7 @@ pub(crate) fn add_constraints<'a>(
 
 // What the text of an index gives.
 fn index_entry<'a>(alloc: Global, said: IndexText) -> Result<Entries<'a>, AllocError>
-    ensures { IfOk result (λ entries. entries_seen entries ≡ index_entry (said_of said) ∷ []) }
+    ensures { IfOk result (λ entries. entries_seen entries ≡ index_entry said ∷ []) }
 {
     let IndexText {
         unique,

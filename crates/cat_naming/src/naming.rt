@@ -3,15 +3,14 @@ ghost use Rattle.std.specs.Prelude.{◌≡◌, map, pos, option_map, IfOk};
 ghost use Rattle.std.specs.List.{filter, find, slice_get};
 ghost use Rattle.oid_groups.specs.Groups.{group_of};
 ghost use Rattle.cat_names.specs.Lookups.{same_oid};
-ghost use Rattle.cat_names.specs.Relations.{is_key};
+ghost use Rattle.cat_book.specs.Leads.{is_key};
 ghost use Rattle.cat_naming.specs.Comments.{constraint_of};
 ghost use Rattle.cat_naming.specs.Relations.{column_name, table_of_key, table_of_index};
 ghost use Rattle.cat_naming.specs.Seen.{column_keys, check_keys, index_oids, constraint_oids};
 
+use cat_book::{Book, keys};
 use cat_names::OidIndex;
 use cat_rows::{AttributeRow, Catalogue, ConstraintRow, IndexRow};
-use cat_texts::keys;
-use cat_types::Lookup;
 use copy_text::Name;
 use oid_groups::Groups;
 use std::alloc::{AllocError, Global};
@@ -22,7 +21,7 @@ use type_ends::TypeEnds;
 #[derive(Drop)]
 pub struct Naming<'a> {
     cat: &'a Catalogue,
-    lookup: Lookup<'a>,
+    lookup: Book<'a>,
     ends: TypeEnds<'a>,
     places: Places,
     keys: KeyRows<'a>,
@@ -145,7 +144,7 @@ impl<'a> Naming<'a> {
     {
         let places = places_of(alloc, cat)?;
         let keys = key_rows(alloc, cat.pg_constraint.as_slice())?;
-        let lookup = Lookup::of(alloc, cat)?;
+        let lookup = Book::of(alloc, cat)?;
         let ends = TypeEnds::of(alloc, &lookup)?;
         Ok(Naming {
             cat,
@@ -164,7 +163,7 @@ impl<'a> Naming<'a> {
     }
 
     /// The catalogue by oids and paths.
-    pub(crate) fn lookup(&self) -> &Lookup<'a>
+    pub(crate) fn lookup(&self) -> &Book<'a>
         ensures { result.now ≡ self.now }
     {
         &self.lookup

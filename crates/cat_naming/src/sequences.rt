@@ -9,8 +9,8 @@ use crate::naming::Naming;
 use crate::paths::same_path;
 use cat_model::{Key, QName};
 use cat_rows::{RewriteRow, SequenceRow};
-use cat_texts::{sequence_kind, view_body};
 use cat_values::NamedValue;
+use row_texts::{sequence_kind, view_body};
 use std::alloc::{AllocError, Global};
 
 // The column that owns a sequence, if one does.

@@ -2,15 +2,15 @@
 ghost use Rattle.std.specs.Prelude.{◌≡◌, Some, option_map, IfOk};
 ghost use Rattle.std.specs.Option.{option_and_then};
 ghost use Rattle.cat_model.specs.Values.{Bytes};
-ghost use Rattle.cat_types.specs.Texts.{type_named};
+ghost use Rattle.row_texts.specs.TypeTexts.{type_named};
 ghost use Rattle.cat_naming.specs.Seen.{typed_seen};
-ghost use Rattle.cat_naming.specs.Types.{typed, default_said};
+ghost use Rattle.cat_naming.specs.Types.{typed};
+ghost use Rattle.row_texts.specs.DefaultTexts.{default_said};
 
 use crate::naming::Naming;
 use cat_model::TypeName;
-use cat_types::type_named;
 use copy_text::Text;
-use ddl_parts::{Pieces, ReadError, Run, collect};
+use row_texts::{default_said, type_named};
 use std::alloc::{AllocError, Global};
 use type_ends::TypeEnd;
 
@@ -53,29 +53,12 @@ pub(crate) fn typed<'a>(
     }
 }
 
-/// The text of a default, from its first token to its last; `None` where the text is none.
-pub(crate) fn default_said(alloc: Global, text: &Text) -> Result<Option<Text>, AllocError>
-    ensures { IfOk result (λ said. said ≡ default_said text.now) }
-{
-    let text = text.as_bytes();
-    let Run { pieces, fault, .. } = collect(alloc, text, 0)?;
-    if fault.is_some() {
-        return Ok(None);
-    }
-    let pieces = Pieces::new(text, pieces);
-    match pieces.default_text(alloc, 0) {
-        Ok((said, end)) => Ok((end >= pieces.len()).then_some(said)),
-        Err(ReadError::Memory) => Err(AllocError),
-        Err(ReadError::Halted(_)) => Ok(None),
-    }
-}
-
-/// The same of a default that there may be.
+/// The text of a default, from its first token to its last, where there is one; `None` where a text is none.
 pub(crate) fn default_of(alloc: Global, text: &Option<Text>) -> Result<Option<Text>, AllocError>
     ensures { IfOk result (λ said. said ≡ option_and_then default_said text.now) }
 {
     match text {
-        Some(text) => default_said(alloc, text),
+        Some(text) => default_said(alloc, text.as_bytes()),
         None => Ok(None),
     }
 }

@@ -133,7 +133,7 @@ fn type_entries<'a>(
 ) -> Result<Entries<'a>, AllocError>
     ensures { IfOk result (λ entries. entries_seen entries ≡ type_entries naming.now row.now) }
 {
-    let Some(path) = naming.lookup().path(row)? else {
+    let Some(path) = naming.lookup().type_path(row)? else {
         return Ok(Entries::none(alloc));
     };
     match naming.lookup().role_name(row.typowner) {

@@ -9,13 +9,13 @@ ghost use Rattle.cat_naming.specs.Texts.{rows_by_oid};
 ghost use Rattle.cat_same.specs.Differences.{IsFirstDifference, lesser_of};
 ghost use Rattle.cat_same.specs.Verdicts.{IsVerdict};
 
-use cat_check::WellFormed;
 use cat_model::Key;
 use cat_names::DataSet;
 use cat_naming::{Naming, catalogue_named};
 use cat_values::{Named, NamedValue, same_value};
 use std::alloc::{AllocError, Global};
 use table_rows::laws::texts_without_fault_have_rows;
+use well_formed::WellFormed;
 
 /// What a comparison comes to.
 #[derive(Debug, Drop)]

@@ -4,7 +4,7 @@ use Rattle.dump_ports.specs.Tree.{Tree, text_at}
 use Rattle.cat_names.specs.declared.fault.CatFault.{CatFault}
 use Rattle.cat_names.specs.declared.fault.FaultKind.{FaultKind}
 use Rattle.cat_names.specs.declared.fault.FaultKind.TheVariants as kinds
-use Rattle.cat_check.specs.Catalogues.{catalogue_fault}
+use Rattle.well_formed.specs.Catalogues.{catalogue_fault}
 use Rattle.table_rows.specs.declared.fault.ValuesFault.{ValuesFault}
 use Rattle.table_rows.specs.Values.{values_fault}
 use Rattle.folder_io.specs.declared.fault.FolderFault.{FolderFault}

@@ -7,7 +7,7 @@ use Rattle.cat_names.specs.declared.fault.CheckError.{CheckError}
 use Rattle.cat_names.specs.declared.fault.CheckError.TheVariants as check
 use Rattle.cat_names.specs.DataSets.{TextsByOid}
 use Rattle.cat_names.specs.Gives.{IsTableDue}
-use Rattle.cat_check.specs.Catalogues.{catalogue_fault}
+use Rattle.well_formed.specs.Catalogues.{catalogue_fault}
 use Rattle.table_rows.specs.declared.fault.CheckValuesError.{CheckValuesError}
 use Rattle.table_rows.specs.declared.fault.CheckValuesError.TheVariants as values
 use Rattle.table_rows.specs.Values.{values_fault, GivesCheck}

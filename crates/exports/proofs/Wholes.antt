@@ -5,7 +5,7 @@ use Rattle.cat_model.specs.Values.{Bytes}
 use Rattle.cat_rows.specs.declared.catalogue.Catalogue.{Catalogue}
 use Rattle.cat_names.specs.declared.fault.CatFault.{CatFault}
 use Rattle.cat_names.specs.DataSets.{TextsByOid}
-use Rattle.cat_check.specs.Catalogues.{catalogue_fault}
+use Rattle.well_formed.specs.Catalogues.{catalogue_fault}
 use Rattle.table_rows.specs.declared.fault.ValuesFault.{ValuesFault}
 use Rattle.table_rows.specs.Values.{values_fault}
 use Rattle.folder_io.specs.declared.fault.FolderFault.{FolderFault}

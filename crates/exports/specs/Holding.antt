@@ -2,7 +2,7 @@
 use Rattle.std.specs.Prelude.{◌≡◌, None}
 use Rattle.dump_ports.specs.Tree.{Tree}
 use Rattle.cat_model.specs.Values.{Bytes}
-use Rattle.cat_check.specs.Catalogues.{catalogue_fault}
+use Rattle.well_formed.specs.Catalogues.{catalogue_fault}
 use Rattle.table_rows.specs.Values.{values_fault}
 use Rattle.folder_io.specs.Folders.{bytes_of}
 use Rattle.folder_rows.specs.Holding.{HoldsRows}

@@ -6,7 +6,6 @@ ghost use Rattle.folder_io.specs.Folders.{bytes_of};
 ghost use Rattle.tool_words.specs.Answers.{Gives, CountsRead};
 ghost use Rattle.exports.specs.Exports.{export_with, export_of};
 
-use cat_check::WellFormed;
 use cat_names::DataSet;
 use cat_rows::Catalogue;
 use copy_text::Text;
@@ -17,6 +16,7 @@ use std::alloc::Global;
 use std::marker::Model;
 use table_rows::check_values;
 use tool_words::Outcome;
+use well_formed::WellFormed;
 
 /// What an export folder holds: a catalogue that is well-formed, and texts that hold rows of its tables. A contract sees
 /// the record of both.

@@ -17,14 +17,10 @@ use Rattle.cat_rows.specs.RowCells.{namespace_cells}
 use Rattle.cat_rows.specs.Writing.{AreRowsOf}
 use Rattle.cat_model.specs.References.{is_system}
 use Rattle.cat_model.specs.Values.{Bytes}
-use Rattle.cat_check.specs.Catalogues.{catalogue_fault}
-use Rattle.cat_names.specs.declared.fault.Findings.{Findings}
-use Rattle.cat_names.specs.declared.fault.FaultKind.{FaultKind}
-use Rattle.cat_names.specs.declared.fault.FaultKind.TheVariants as kind
-use Rattle.cat_names.specs.Findings.{first_kind}
-use Rattle.cat_names.specs.Firsts.{AreClean, IsCleanTable}
+use Rattle.well_formed.specs.Catalogues.{catalogue_fault}
 use Rattle.cat_names.specs.Roles.{is_no_oid}
-use Rattle.cat_names.specs.Schemas.{schema_findings}
+use Rattle.cat_book.specs.Meets.{Meets}
+use Rattle.plain_tables.specs.Schemas.{schema_rules}
 use Rattle.folder_io.specs.declared.fault.FolderFault.{FolderFault}
 use Rattle.folder_io.specs.Answers.{each_of}
 use Rattle.folder_io.specs.Answers as io
@@ -125,23 +121,11 @@ schemas_read rows schemas sound e = public_read (rows_after [] (map namespace_ce
 
 -- ---- a well-formed table
 
--- where no kind of fault is found, no text is bad
-no_bad_text : (f : Findings) → first_kind f ≡ None → f.bad_text ≡ false
-no_bad_text f e = by f.repeated_oid f.repeated_name f.dangling f.bad_text _ e
-  where
-    by : (oid name dangling bad : Bool) (rest : Option FaultKind) → cond oid (Some kind.RepeatedOid) (cond name (Some kind.RepeatedName) (cond dangling (Some kind.Dangling) (cond bad (Some kind.BadText) rest))) ≡ None → bad ≡ false
-    by true name dangling bad rest e = absurd cc
-    by false true dangling bad rest e = absurd cc
-    by false false true bad rest e = absurd cc
-    by false false false true rest e = absurd cc
-    by false false false false rest e = refl
+left : (a b : Bool) → (a || b) ≡ false → a ≡ false
+left true b e = absurd cc
+left false b e = refl
 
-neither : (a b c : Bool) → (a || (b || c)) ≡ false → (a ≡ false) × (b ≡ false)
-neither true b c e = absurd cc
-neither false true c e = absurd cc
-neither false false c e = (refl, refl)
-
--- what is known of a row of a table without a fault
+-- what is known of a row that meets its conditions
 abbrev IsFormed : NamespaceRow → Type 0
 IsFormed row = (is_no_oid row.oid ≡ false) × (is_system row.nspname ≡ false)
 
@@ -149,8 +133,8 @@ each : {R : Type 0} {P : R → Type 0} (rows : List R) → ((i : ℕ) (row : R) 
 each [] h = tt
 each (row ∷ rows) h = (h 0 row refl, each rows (λ i r e. h (suc i) r e))
 
-formed_rows : (roles : List AuthidRow) (rows : List NamespaceRow) → AreClean (schema_findings roles) rows → AllByRecursion IsFormed rows
-formed_rows roles rows clean = each rows (λ i row there. neither _ _ _ (no_bad_text (schema_findings roles (take i rows) row) (clean i row there)))
+formed_rows : (cat : Catalogue) → Meets schema_rules cat cat.pg_namespace → AllByRecursion IsFormed cat.pg_namespace
+formed_rows cat meets = each cat.pg_namespace (λ i row there. (meets.objects i row there, left (is_system row.nspname) _ (meets.texts i row there)))
 
 -- ---- names that were read
 
@@ -333,9 +317,9 @@ export_read folder tree export e =
 
 -- ---- the opening
 
--- a well-formed catalogue's tables have no fault, and a table without a fault is clean
+-- the schemas of a catalogue without a fault meet their conditions
 abbrev pub CleanLaw : Type 0
-CleanLaw = (cat : Catalogue) → catalogue_fault cat ≡ None → IsCleanTable (schema_findings cat.pg_authid) None cat.pg_namespace
+CleanLaw = (cat : Catalogue) → catalogue_fault cat ≡ None → Meets schema_rules cat cat.pg_namespace
 
 both : (rows : List NamespaceRow) → AllByRecursion IsFormed rows → AllByRecursion (λ row. IsName row.nspname) rows → AllByRecursion IsSound rows
 both [] f n = tt
@@ -352,6 +336,6 @@ opening_read clean law folder tree rows e =
     let export = bind_ok (export_of folder tree) (λ export. opening_in export.cat) rows e in
     let read = export_read folder tree export.0 export.1 in
     let names = subst (λ (cat : Catalogue). AllByRecursion (λ row. IsName row.nspname) cat.pg_namespace) read.is (catalogue_names law folder tree read.tables read.read) in
-    let formed = formed_rows export.0.cat.pg_authid export.0.cat.pg_namespace (clean export.0.cat read.formed).0 in
+    let formed = formed_rows export.0.cat (clean export.0.cat read.formed) in
     schemas_read export.0.cat.pg_namespace rows (both export.0.cat.pg_namespace formed names)
     (unbuilt_ok (is_bare export.0.cat) (schemas_of (map namespace_cells export.0.cat.pg_namespace)) rows export.2)

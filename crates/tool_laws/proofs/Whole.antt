@@ -10,7 +10,7 @@ use Rattle.cat_rows.specs.declared.table.SysTable.{SysTable}
 use Rattle.cat_rows.specs.declared.table.SysTable.TheVariants.{PgAuthid, PgAuthMembers, PgDatabase, PgNamespace, PgType, PgEnum, PgClass, PgAttribute, PgAttrdef, PgConstraint, PgIndex, PgSequence, PgRewrite, PgDescription, PgDepend}
 use Rattle.cat_rows.specs.Reading.{table_of}
 use Rattle.cat_model.specs.Values.{Bytes}
-use Rattle.cat_check.specs.Catalogues.{catalogue_fault}
+use Rattle.well_formed.specs.Catalogues.{catalogue_fault}
 use Rattle.cat_names.specs.DataSets.{TextsByOid}
 use Rattle.folder_io.specs.declared.file.ExportFile.{ExportFile}
 use Rattle.folder_io.specs.declared.file.ExportFile.TheVariants.{Marker, Table, Data}

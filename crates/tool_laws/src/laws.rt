@@ -18,7 +18,7 @@ ghost use Rattle.tool_words.specs.declared.words.ScriptSource.{ScriptSource};
 ghost use Rattle.tool_words.specs.declared.words.Teller.{Teller};
 ghost use Rattle.cat_rows.specs.declared.table.SysTable.TheVariants.{PgNamespace};
 ghost use Rattle.cat_rows.specs.Reading.{table_of};
-ghost use Rattle.cat_check.specs.Catalogues.{catalogue_fault};
+ghost use Rattle.well_formed.specs.Catalogues.{catalogue_fault};
 ghost use Rattle.exports.specs.Exports.{export_of};
 ghost use Rattle.folder_io.specs.Folders.{table_limit};
 ghost use Rattle.schema_folders.specs.Folder.{opening_of, cells_of_row, schemas_alone, folder_saved};
@@ -27,13 +27,12 @@ ghost use Rattle.schema_folders.specs.Run.{catalogue_after};
 ghost use Rattle.tool_laws.specs.Opening.{AreSchemas, WereRead};
 ghost use Rattle.tool_laws.specs.RoundTrip.{CanBeMade, Remakes, GoesBack, MakesSame, Restores, fresh_rows, public_and_a};
 
-use cat_check::laws::well_formed_tables_are_all;
-use cat_names::laws::tables_without_faults_are_clean;
 use cat_rows::laws::read_rows_can_be_written;
 use copy_text::laws::tests_are_exact;
 use dump_laws::{the_script_reads_as_its_statements, worked_example};
 use dump_tools::laws::an_applied_script_leaves_its_folder;
 use exports::laws::exports_are_whole;
+use well_formed::laws::{well_formed_is_without_fault, well_formed_tables_are_all};
 
 /// The script of schemas, read by psql and applied to a fresh folder, leaves these schemas laid over what was there,
 /// and no statement is refused.
@@ -50,8 +49,7 @@ pub fn the_dumped_script_makes_the_schemas()
 pub fn openings_are_schemas()
     ensures { (folder : Bytes) (tree : Tree) (rows : List SchemaRow) → opening_of folder tree ≡ Ok rows → WereRead rows }
 {
-    well_formed_tables_are_all();
-    tables_without_faults_are_clean();
+    well_formed_is_without_fault();
     read_rows_can_be_written();
 }
 

@@ -1,15 +1,15 @@
 //! Cases of well-formed catalogues.
 use crate::base::Base;
 use crate::kind::Checked;
-use cat_check::WellFormed;
-use cat_columns::check_columns;
-use cat_constraints::check_constraints;
+use cat_book::{Book, check_lines};
 use cat_model::What;
-use cat_names::{CatFault, CheckError, FaultKind, check_cluster};
-use cat_rows::Catalogue;
-use cat_texts::{check_indexes, check_sequences, check_views};
-use cat_types::check_types;
+use cat_names::{CatFault, CheckError, FaultKind, at_table};
+use cat_rows::{Catalogue, SysTable};
+use constraint_table::{Beside, Constraints};
+use plain_tables::{Databases, Members, Roles, Schemas};
 use std::alloc::{AllocError, Global};
+use text_tables::{Columns, Defaults, Indexes, Sequences, Types, Views};
+use well_formed::WellFormed;
 
 fn what_name(what: &What) -> &'static str {
     match what {
@@ -62,16 +62,85 @@ fn check_all(alloc: Global, cat: Catalogue) -> Result<(), CheckError> {
     Ok(())
 }
 
+fn check_cluster(alloc: Global, book: &Book<'_>) -> Result<(), CheckError> {
+    let cat = book.tables();
+    let roles = check_lines::<Book<'_>, Roles>(alloc, book, cat.pg_authid.as_slice());
+    at_table(SysTable::PgAuthid, roles)?;
+    let members = check_lines::<Book<'_>, Members>(alloc, book, cat.pg_auth_members.as_slice());
+    at_table(SysTable::PgAuthMembers, members)?;
+    let databases = check_lines::<Book<'_>, Databases>(alloc, book, cat.pg_database.as_slice());
+    at_table(SysTable::PgDatabase, databases)?;
+    let schemas = check_lines::<Book<'_>, Schemas>(alloc, book, cat.pg_namespace.as_slice());
+    at_table(SysTable::PgNamespace, schemas)
+}
+
+fn check_types(alloc: Global, book: &Book<'_>) -> Result<(), CheckError> {
+    let rows = book.tables().pg_type.as_slice();
+    at_table(
+        SysTable::PgType,
+        check_lines::<Book<'_>, Types>(alloc, book, rows),
+    )
+}
+
+fn check_columns(alloc: Global, book: &Book<'_>) -> Result<(), CheckError> {
+    let cat = book.tables();
+    let columns = check_lines::<Book<'_>, Columns>(alloc, book, cat.pg_attribute.as_slice());
+    at_table(SysTable::PgAttribute, columns)?;
+    let defaults = check_lines::<Book<'_>, Defaults>(alloc, book, cat.pg_attrdef.as_slice());
+    at_table(SysTable::PgAttrdef, defaults)
+}
+
+fn check_constraints(alloc: Global, book: &Book<'_>) -> Result<(), CheckError> {
+    let beside = Beside::of(alloc, &*book)?;
+    let rows = book.tables().pg_constraint.as_slice();
+    at_table(
+        SysTable::PgConstraint,
+        check_lines::<Beside<'_>, Constraints>(alloc, &beside, rows),
+    )
+}
+
+fn check_indexes(alloc: Global, book: &Book<'_>) -> Result<(), CheckError> {
+    let rows = book.tables().pg_index.as_slice();
+    at_table(
+        SysTable::PgIndex,
+        check_lines::<Book<'_>, Indexes>(alloc, book, rows),
+    )
+}
+
+fn check_sequences(alloc: Global, book: &Book<'_>) -> Result<(), CheckError> {
+    let rows = book.tables().pg_sequence.as_slice();
+    at_table(
+        SysTable::PgSequence,
+        check_lines::<Book<'_>, Sequences>(alloc, book, rows),
+    )
+}
+
+fn check_views(alloc: Global, book: &Book<'_>) -> Result<(), CheckError> {
+    let rows = book.tables().pg_rewrite.as_slice();
+    at_table(
+        SysTable::PgRewrite,
+        check_lines::<Book<'_>, Views>(alloc, book, rows),
+    )
+}
+
+fn check_some(alloc: Global, what: Checked, cat: &Catalogue) -> Result<(), CheckError> {
+    let book = Book::of(alloc, cat)?;
+    match what {
+        Checked::Cluster => check_cluster(alloc, &book),
+        Checked::Types => check_types(alloc, &book),
+        Checked::Columns => check_columns(alloc, &book),
+        Checked::Constraints => check_constraints(alloc, &book),
+        Checked::Indexes => check_indexes(alloc, &book),
+        Checked::Sequences => check_sequences(alloc, &book),
+        Checked::Views => check_views(alloc, &book),
+        Checked::All => Ok(()),
+    }
+}
+
 fn checked(alloc: Global, what: Checked, cat: Catalogue) -> Result<(), CheckError> {
     match what {
-        Checked::Cluster => check_cluster(alloc, &cat),
-        Checked::Types => check_types(alloc, &cat),
-        Checked::Columns => check_columns(alloc, &cat),
-        Checked::Constraints => check_constraints(alloc, &cat),
-        Checked::Indexes => check_indexes(alloc, &cat),
-        Checked::Sequences => check_sequences(alloc, &cat),
-        Checked::Views => check_views(alloc, &cat),
         Checked::All => check_all(alloc, cat),
+        _ => check_some(alloc, what, &cat),
     }
 }
 

@@ -1,12 +1,12 @@
 //! Cases of catalogues compared by names.
 use crate::base::Base;
-use cat_check::WellFormed;
 use cat_names::{CheckError, DataSet};
 use cat_rows::Catalogue;
 use cat_same::{Verdict, same};
 use std::alloc::{AllocError, Global};
 use table_rows::{CheckValuesError, check_values};
 use text_cases::put_key;
+use well_formed::WellFormed;
 
 // A well-formed catalogue of these texts, where they are one.
 fn formed(alloc: Global, base: &Base, changed: &Base) -> Result<Option<WellFormed>, AllocError> {

@@ -19,13 +19,13 @@ use Rattle.cat_model.specs.TypeEffects.{as_it_is}
 use Rattle.cat_model.specs.Values.{Bytes, Resolved}
 use Rattle.cat_names.specs.Lookups.{same_oid, place_of}
 use Rattle.cat_names.specs.Roles.{is_no_oid}
-use Rattle.cat_types.specs.Chains.{has_base, type_of, base_of, ends_behind, ends_within, chain_ends, is_domain_letter}
-use Rattle.cat_types.specs.Paths.{type_path}
-use Rattle.cat_types.specs.Texts.{type_named}
-use Rattle.cat_types.specs.Types.{type_oids}
-use Rattle.cat_types.proofs.ChainEnds.{settled, behind_base}
-use Rattle.cat_types.proofs.Counts.{inside}
-use Rattle.cat_types.proofs.Walks.{type_at}
+use Rattle.cat_book.specs.Chains.{has_base, type_of, base_of, ends_behind, ends_within, chain_ends, is_domain_letter}
+use Rattle.cat_book.specs.Paths.{type_path}
+use Rattle.row_texts.specs.TypeTexts.{type_named}
+use Rattle.cat_book.specs.Leads.{type_oids}
+use Rattle.cat_book.proofs.ChainEnds.{settled, behind_base}
+use Rattle.cat_book.proofs.Counts.{inside}
+use Rattle.cat_book.proofs.Walks.{type_at}
 use Rattle.type_ends.specs.declared.ends.Base.{Base}
 use Rattle.type_ends.specs.declared.jumps.Jump.{Jump}
 use Rattle.type_ends.specs.Bases.{end_with, end_at}

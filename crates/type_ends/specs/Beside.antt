@@ -1,7 +1,7 @@
 -- What stands beside a catalogue, so that the ends of chains and the labels of enums are found without following chains.
 use Rattle.std.specs.Prelude.{◌≡◌, ℕ, ℤ, List, Option}
 use Rattle.cat_rows.specs.declared.catalogue.Catalogue.{Catalogue}
-use Rattle.cat_types.specs.Types.{type_oids}
+use Rattle.cat_book.specs.Leads.{type_oids}
 use Rattle.type_ends.specs.declared.ends.Base.{Base}
 use Rattle.type_ends.specs.declared.jumps.Jump.{Jump}
 use Rattle.type_ends.specs.Enums.{label_keys}

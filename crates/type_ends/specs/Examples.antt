@@ -1,13 +1,30 @@
 -- Worked examples: the labels of an enum, and what domains are at the ends of their chains.
 use Rattle.std.specs.Prelude.{◌≡◌, ℕ, ℤ, pos, true, false, Bool, List, [], ◌∷◌, Option, Some, None, codes}
 use Rattle.cat_rows.specs.declared.catalogue.Catalogue.{Catalogue}
+use Rattle.cat_rows.specs.Catalogues.{no_rows}
 use Rattle.cat_rows.specs.declared.types.TypeRow.{TypeRow}
 use Rattle.cat_rows.specs.declared.types.EnumRow.{EnumRow}
 use Rattle.cat_model.specs.declared.object.QName.{QName}
 use Rattle.cat_model.specs.declared.type_name.TypeName.TheVariants.{Words, Path}
 use Rattle.cat_model.specs.Values.{Bytes, Resolved}
-use Rattle.cat_types.specs.Examples.{catalogue, e, domain}
 use Rattle.type_ends.specs.Ends.{labels_of, resolved}
+
+-- the schema public, with these types
+abbrev pub catalogue : List TypeRow → Catalogue
+catalogue types = record no_rows {
+  pg_namespace = record { oid = 2200; nspname = codes "public"; nspowner = 10; nspacl = None } ∷ [];
+  pg_type = types;
+}
+
+abbrev pub type : ℕ → Bytes → ℕ → ℕ → Bytes → TypeRow
+type oid name letter base text = record { oid = oid; typname = name; typnamespace = 2200; typowner = 10; typtype = letter; typnotnull = false; typbasetype = base; basetext = text; typdefault = None; typacl = None }
+
+-- the enum public.e
+abbrev pub e : TypeRow
+e = type 20000 (codes "e") 101 0 []
+
+abbrev pub domain : ℕ → Bytes → ℕ → Bytes → TypeRow
+domain oid name base text = type oid name 100 base text
 
 abbrev pub label : ℕ → ℤ → Bytes → EnumRow
 label enum position text = record { oid = 30000; enumtypid = enum; enumpos = position; enumlabel = text }

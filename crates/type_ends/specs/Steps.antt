@@ -9,10 +9,10 @@ use Rattle.cat_model.specs.declared.type_name.TypeName.TheVariants.{Path}
 use Rattle.cat_model.specs.Values.{Bytes}
 use Rattle.cat_names.specs.Lookups.{place_of}
 use Rattle.cat_names.specs.Roles.{is_no_oid}
-use Rattle.cat_types.specs.Chains.{is_domain_letter, has_base}
-use Rattle.cat_types.specs.Paths.{type_path}
-use Rattle.cat_types.specs.Texts.{type_named}
-use Rattle.cat_types.specs.Types.{type_oids}
+use Rattle.cat_book.specs.Chains.{is_domain_letter, has_base}
+use Rattle.cat_book.specs.Paths.{type_path}
+use Rattle.row_texts.specs.TypeTexts.{type_named}
+use Rattle.cat_book.specs.Leads.{type_oids}
 use Rattle.type_ends.specs.declared.ends.Base.{Base}
 use Rattle.type_ends.specs.declared.jumps.Jump.{Jump}
 use Rattle.type_ends.specs.Ends.{labels_of}

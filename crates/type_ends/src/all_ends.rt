@@ -1,7 +1,7 @@
 //! The ends of all chains of a catalogue.
 ghost use Rattle.std.specs.Prelude.{◌≡◌, ◌≢◌, ℕ, option_map, IfOk};
 ghost use Rattle.cat_model.specs.Values.{Bytes};
-ghost use Rattle.cat_types.specs.Types.{type_oids};
+ghost use Rattle.cat_book.specs.Leads.{type_oids};
 ghost use Rattle.type_ends.specs.Ends.{labels_of, resolved};
 ghost use Rattle.type_ends.specs.Seen.{end_seen};
 
@@ -9,9 +9,9 @@ use crate::bases::{bases, end_at};
 use crate::ends::{Base, Labels, TypeEnd};
 use crate::enums::{label_groups, labels_of};
 use crate::jumps::{Jump, far_jumps, jump_from, steps};
+use cat_book::Book;
 use cat_names::OidIndex;
 use cat_rows::{Catalogue, TypeRow};
-use cat_types::Lookup;
 use oid_groups::Groups;
 use std::alloc::{AllocError, Global};
 use std::marker::Model;
@@ -48,16 +48,16 @@ fn type_oids(alloc: Global, rows: &[TypeRow]) -> Result<OidIndex, AllocError>
 
 impl<'a> TypeEnds<'a> {
     /// The ends of the chains of this catalogue. The only error is that memory ran out.
-    pub fn of(alloc: Global, lookup: &Lookup<'a>) -> Result<TypeEnds<'a>, AllocError>
-        ensures { IfOk result (λ ends. ends ≡ lookup.now) }
+    pub fn of(alloc: Global, book: &Book<'a>) -> Result<TypeEnds<'a>, AllocError>
+        ensures { IfOk result (λ ends. ends ≡ book.now) }
     {
-        let cat = lookup.tables();
+        let cat = book.tables();
         let rows = cat.pg_type.as_slice();
         let oids = type_oids(alloc, rows)?;
         let labels = label_groups(alloc, cat.pg_enum.as_slice())?;
         let steps = steps(alloc, &oids, rows)?;
         let jumps = far_jumps(alloc, steps)?;
-        let bases = bases(alloc, lookup, &oids, &labels)?;
+        let bases = bases(alloc, book, &oids, &labels)?;
         Ok(TypeEnds {
             cat,
             oids,

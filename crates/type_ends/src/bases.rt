@@ -1,8 +1,8 @@
 //! What stands at the ends of chains.
 ghost use Rattle.std.specs.Prelude.{◌≡◌, option_map, IfOk};
-ghost use Rattle.cat_types.specs.Paths.{type_path};
-ghost use Rattle.cat_types.specs.Texts.{type_named};
-ghost use Rattle.cat_types.specs.Types.{type_oids};
+ghost use Rattle.cat_book.specs.Paths.{type_path};
+ghost use Rattle.row_texts.specs.TypeTexts.{type_named};
+ghost use Rattle.cat_book.specs.Leads.{type_oids};
 ghost use Rattle.type_ends.specs.Bases.{end_at};
 ghost use Rattle.type_ends.specs.Ends.{labels_of};
 ghost use Rattle.type_ends.specs.Enums.{label_keys};
@@ -12,28 +12,29 @@ ghost use Rattle.type_ends.specs.Steps.{enum_base, other_base, base_at_end, is_p
 use crate::ends::{Base, TypeEnd};
 use crate::enums::labels_of;
 use crate::jumps::{Jump, is_domain};
+use cat_book::Book;
 use cat_model::TypeName;
 use cat_names::OidIndex;
 use cat_rows::TypeRow;
-use cat_types::{Lookup, type_named};
 use copy_text::Text;
 use oid_groups::Groups;
+use row_texts::type_named;
 use std::alloc::{AllocError, Global};
 
 // An enum, where its schema is there.
 fn enum_base<'a>(
     alloc: Global,
-    lookup: &Lookup<'a>,
+    book: &Book<'a>,
     labels: &Groups,
     row: &TypeRow,
 ) -> Result<Option<Base<'a>>, AllocError>
-    requires { labels.now ≡ label_keys lookup.now.pg_enum }
-    ensures { IfOk result (λ base. base ≡ option_map (λ path. enum_base path (labels_of lookup.now row.now.oid)) (type_path lookup.now.pg_namespace row.now)) }
+    requires { labels.now ≡ label_keys book.now.pg_enum }
+    ensures { IfOk result (λ base. base ≡ option_map (λ path. enum_base path (labels_of book.now row.now.oid)) (type_path book.now.pg_namespace row.now)) }
 {
-    let Some(path) = lookup.path(row)? else {
+    let Some(path) = book.type_path(row)? else {
         return Ok(None);
     };
-    let labels = labels_of(alloc, lookup.tables(), labels, row.oid)?;
+    let labels = labels_of(alloc, book.tables(), labels, row.oid)?;
     Ok(Some(Base {
         type_name: TypeName::Path(path),
         labels: Some(labels),
@@ -56,15 +57,15 @@ fn other_base<'a>(alloc: Global, text: &Text) -> Result<Option<Base<'a>>, AllocE
 // What a chain that ends with a type has at its end.
 fn base_at_end<'a>(
     alloc: Global,
-    lookup: &Lookup<'a>,
+    book: &Book<'a>,
     labels: &Groups,
     row: &TypeRow,
 ) -> Result<Option<Base<'a>>, AllocError>
-    requires { labels.now ≡ label_keys lookup.now.pg_enum }
-    ensures { IfOk result (λ base. base ≡ base_at_end lookup.now row.now) }
+    requires { labels.now ≡ label_keys book.now.pg_enum }
+    ensures { IfOk result (λ base. base ≡ base_at_end book.now row.now) }
 {
     if !is_domain(row) {
-        enum_base(alloc, lookup, labels, row)
+        enum_base(alloc, book, labels, row)
     } else if row.typbasetype == 0 {
         other_base(alloc, &row.basetext)
     } else {
@@ -85,18 +86,18 @@ fn is_place(place: usize, other: Option<usize>) -> bool
 #[tactic(auto, unfolding(crate::specs::Steps::base_at_place))]
 fn base_at_place<'a>(
     alloc: Global,
-    lookup: &Lookup<'a>,
+    book: &Book<'a>,
     oids: &OidIndex,
     labels: &Groups,
     place: usize,
     row: &TypeRow,
 ) -> Result<Option<Base<'a>>, AllocError>
-    requires oids { oids.now ≡ type_oids lookup.now.pg_type }
-    requires labels { labels.now ≡ label_keys lookup.now.pg_enum }
-    ensures { IfOk result (λ base. base ≡ base_at_place lookup.now place row.now) }
+    requires oids { oids.now ≡ type_oids book.now.pg_type }
+    requires labels { labels.now ≡ label_keys book.now.pg_enum }
+    ensures { IfOk result (λ base. base ≡ base_at_place book.now place row.now) }
 {
     if is_place(place, oids.find(row.oid)) {
-        base_at_end(alloc, lookup, labels, row)
+        base_at_end(alloc, book, labels, row)
     } else {
         Ok(None)
     }
@@ -105,18 +106,18 @@ fn base_at_place<'a>(
 /// What stands at the end of each chain, by the place of its last type.
 pub(crate) fn bases<'a>(
     alloc: Global,
-    lookup: &Lookup<'a>,
+    book: &Book<'a>,
     oids: &OidIndex,
     labels: &Groups,
 ) -> Result<Vec<Option<Base<'a>>>, AllocError>
-    requires oids { oids.now ≡ type_oids lookup.now.pg_type }
-    requires labels { labels.now ≡ label_keys lookup.now.pg_enum }
-    ensures { IfOk result (λ bases. bases.items ≡ bases_of lookup.now) }
+    requires oids { oids.now ≡ type_oids book.now.pg_type }
+    requires labels { labels.now ≡ label_keys book.now.pg_enum }
+    ensures { IfOk result (λ bases. bases.items ≡ bases_of book.now) }
 {
-    let rows = lookup.tables().pg_type.as_slice();
+    let rows = book.tables().pg_type.as_slice();
     let mut bases = Vec::new(alloc);
     for (place, row) in rows.iter().enumerate() {
-        let base = base_at_place(alloc, lookup, oids, labels, place, row)?;
+        let base = base_at_place(alloc, book, oids, labels, place, row)?;
         bases.push(base)?;
     }
     Ok(bases)

@@ -1,6 +1,6 @@
 //! The chains of all domains at once, by the places of their types.
 ghost use Rattle.std.specs.Prelude.{◌≡◌, ◌&&◌, IfOk};
-ghost use Rattle.cat_types.specs.Chains.{is_domain_letter};
+ghost use Rattle.cat_book.specs.Chains.{is_domain_letter};
 ghost use Rattle.type_ends.specs.Jumps.{jump_from, behind, doubled, LeadFar};
 ghost use Rattle.type_ends.specs.Steps.{base_among, step_of, steps_among};
 

@@ -1,7 +1,6 @@
-use Rattle.std.proofs.Common.{ℕ, map, option_map, option_and_then, sym, ap, ◌∙◌, arith, List, Option}
+use Rattle.std.proofs.Common.{option_map, option_and_then, ap, ◌∙◌, arith, List}
 use Rattle.std.specs.List.{filter_map, slice_get}
 use Rattle.cat_rows.specs.declared.relations.AttributeRow.{AttributeRow}
-use Rattle.cat_model.specs.Values.{Column}
 use Rattle.cat_values.specs.Seen.{column_seen}
 use Rattle.cat_naming.specs.Relations.{column_of}
 use Rattle.cat_naming.proofs.Places.{place_more, places_all, columns_listed}

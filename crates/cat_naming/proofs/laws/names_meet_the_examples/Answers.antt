@@ -17,26 +17,28 @@ use Rattle.ddl_read.specs.Clauses.{named_check}
 use Rattle.ddl_read.specs.Grammar.{create_schema, created, new_owner, new_check, domain_change, altered_domain, name_and_owner, path_and_owner, altered, selected, equals_or_to, setting, command, statement}
 use Rattle.ddl_read.specs.AlterGrammar.{primary_body, unique_body, foreign_body, other_value, other_path, table_change, behind_only, altered_table, only_value, check_body, constraint_body, added, new_default, own_change}
 use Rattle.ddl_read.specs.Reading.{line_at, statement_of, statements_within, statements_of}
-use Rattle.cat_texts.specs.Indexes.{named_index, index_text, index_said}
+use Rattle.row_texts.specs.IndexTexts.{named_index, index_text, index_said}
 use Rattle.ddl_parts.specs.Types.{type_step, type_done, type_long, is_type_word, is_number, type_of, type_part}
 use Rattle.cat_names.specs.Lookups.{role_name}
 use Rattle.cat_names.specs.Grants.{grants_of}
-use Rattle.cat_types.specs.Texts.{type_named}
-use Rattle.cat_texts.specs.Sequences.{sequence_type, sequence_kind}
-use Rattle.cat_texts.specs.Views.{view_text, view_body}
+use Rattle.row_texts.specs.DefaultTexts.{default_said}
+use Rattle.row_texts.specs.Tokens.{all_tokens}
+use Rattle.row_texts.specs.TypeTexts.{type_named}
+use Rattle.row_texts.specs.SequenceTypes.{sequence_type, sequence_kind}
+use Rattle.row_texts.specs.ViewTexts.{view_text, view_body}
 use Rattle.oid_groups.specs.Orders.{placed, by_number}
 use Rattle.type_ends.specs.Ends.{resolved_within}
 use Rattle.cat_naming.proofs.laws.names_meet_the_examples.Goals as goal
 
 pub returns-clause-types : goal.returns-clause-types
-unfolding is_utf8 chars encode is_blank is_digit begins_word in_word is_sign marks_escapes in_line next_is run_end quote_end escape_end comment_end fraction_end number_end begins_line closed begun in_utf8 piece_at next_within next_token_of tokens_within tokens_of inside undoubled name_of literal_of is_keyword_of spelling is_word sign_of name_in name_value text_in literal_value scan many_at columns rest_step rest_long rest_done key_rest begins_foreign foreign_rest ends_run nest_step nest_done expression default_text collected_within collected named_check create_schema created new_owner new_check domain_change altered_domain name_and_owner path_and_owner altered selected equals_or_to setting command statement primary_body unique_body foreign_body other_value other_path table_change behind_only altered_table only_value check_body constraint_body added new_default own_change line_at statement_of statements_within statements_of named_index index_text index_said type_step type_done type_long is_type_word is_number type_of type_part role_name grants_of type_named sequence_type sequence_kind view_text view_body placed by_number resolved_within
+unfolding all_tokens default_said is_utf8 chars encode is_blank is_digit begins_word in_word is_sign marks_escapes in_line next_is run_end quote_end escape_end comment_end fraction_end number_end begins_line closed begun in_utf8 piece_at next_within next_token_of tokens_within tokens_of inside undoubled name_of literal_of is_keyword_of spelling is_word sign_of name_in name_value text_in literal_value scan many_at columns rest_step rest_long rest_done key_rest begins_foreign foreign_rest ends_run nest_step nest_done expression default_text collected_within collected named_check create_schema created new_owner new_check domain_change altered_domain name_and_owner path_and_owner altered selected equals_or_to setting command statement primary_body unique_body foreign_body other_value other_path table_change behind_only altered_table only_value check_body constraint_body added new_default own_change line_at statement_of statements_within statements_of named_index index_text index_said type_step type_done type_long is_type_word is_number type_of type_part role_name grants_of type_named sequence_type sequence_kind view_text view_body placed by_number resolved_within
 returns-clause-types c = record {
   enum = refl;
   domain = refl;
 }
 
 pub returns-clause-relations : goal.returns-clause-relations
-unfolding is_utf8 chars encode is_blank is_digit begins_word in_word is_sign marks_escapes in_line next_is run_end quote_end escape_end comment_end fraction_end number_end begins_line closed begun in_utf8 piece_at next_within next_token_of tokens_within tokens_of inside undoubled name_of literal_of is_keyword_of spelling is_word sign_of name_in name_value text_in literal_value scan many_at columns rest_step rest_long rest_done key_rest begins_foreign foreign_rest ends_run nest_step nest_done expression default_text collected_within collected named_check create_schema created new_owner new_check domain_change altered_domain name_and_owner path_and_owner altered selected equals_or_to setting command statement primary_body unique_body foreign_body other_value other_path table_change behind_only altered_table only_value check_body constraint_body added new_default own_change line_at statement_of statements_within statements_of named_index index_text index_said type_step type_done type_long is_type_word is_number type_of type_part role_name grants_of type_named sequence_type sequence_kind view_text view_body placed by_number resolved_within
+unfolding all_tokens default_said is_utf8 chars encode is_blank is_digit begins_word in_word is_sign marks_escapes in_line next_is run_end quote_end escape_end comment_end fraction_end number_end begins_line closed begun in_utf8 piece_at next_within next_token_of tokens_within tokens_of inside undoubled name_of literal_of is_keyword_of spelling is_word sign_of name_in name_value text_in literal_value scan many_at columns rest_step rest_long rest_done key_rest begins_foreign foreign_rest ends_run nest_step nest_done expression default_text collected_within collected named_check create_schema created new_owner new_check domain_change altered_domain name_and_owner path_and_owner altered selected equals_or_to setting command statement primary_body unique_body foreign_body other_value other_path table_change behind_only altered_table only_value check_body constraint_body added new_default own_change line_at statement_of statements_within statements_of named_index index_text index_said type_step type_done type_long is_type_word is_number type_of type_part role_name grants_of type_named sequence_type sequence_kind view_text view_body placed by_number resolved_within
 returns-clause-relations c = record {
   gaps_close = refl;
   table = refl;
@@ -50,7 +52,7 @@ returns-clause-relations c = record {
 }
 
 pub returns-clause-constraints : goal.returns-clause-constraints
-unfolding is_utf8 chars encode is_blank is_digit begins_word in_word is_sign marks_escapes in_line next_is run_end quote_end escape_end comment_end fraction_end number_end begins_line closed begun in_utf8 piece_at next_within next_token_of tokens_within tokens_of inside undoubled name_of literal_of is_keyword_of spelling is_word sign_of name_in name_value text_in literal_value scan many_at columns rest_step rest_long rest_done key_rest begins_foreign foreign_rest ends_run nest_step nest_done expression default_text collected_within collected named_check create_schema created new_owner new_check domain_change altered_domain name_and_owner path_and_owner altered selected equals_or_to setting command statement primary_body unique_body foreign_body other_value other_path table_change behind_only altered_table only_value check_body constraint_body added new_default own_change line_at statement_of statements_within statements_of named_index index_text index_said type_step type_done type_long is_type_word is_number type_of type_part role_name grants_of type_named sequence_type sequence_kind view_text view_body placed by_number resolved_within
+unfolding all_tokens default_said is_utf8 chars encode is_blank is_digit begins_word in_word is_sign marks_escapes in_line next_is run_end quote_end escape_end comment_end fraction_end number_end begins_line closed begun in_utf8 piece_at next_within next_token_of tokens_within tokens_of inside undoubled name_of literal_of is_keyword_of spelling is_word sign_of name_in name_value text_in literal_value scan many_at columns rest_step rest_long rest_done key_rest begins_foreign foreign_rest ends_run nest_step nest_done expression default_text collected_within collected named_check create_schema created new_owner new_check domain_change altered_domain name_and_owner path_and_owner altered selected equals_or_to setting command statement primary_body unique_body foreign_body other_value other_path table_change behind_only altered_table only_value check_body constraint_body added new_default own_change line_at statement_of statements_within statements_of named_index index_text index_said type_step type_done type_long is_type_word is_number type_of type_part role_name grants_of type_named sequence_type sequence_kind view_text view_body placed by_number resolved_within
 returns-clause-constraints c = record {
   primary = refl;
   check_of_a_domain = refl;
@@ -58,7 +60,7 @@ returns-clause-constraints c = record {
 }
 
 pub returns-clause-renamed : goal.returns-clause-renamed
-unfolding is_utf8 chars encode is_blank is_digit begins_word in_word is_sign marks_escapes in_line next_is run_end quote_end escape_end comment_end fraction_end number_end begins_line closed begun in_utf8 piece_at next_within next_token_of tokens_within tokens_of inside undoubled name_of literal_of is_keyword_of spelling is_word sign_of name_in name_value text_in literal_value scan many_at columns rest_step rest_long rest_done key_rest begins_foreign foreign_rest ends_run nest_step nest_done expression default_text collected_within collected named_check create_schema created new_owner new_check domain_change altered_domain name_and_owner path_and_owner altered selected equals_or_to setting command statement primary_body unique_body foreign_body other_value other_path table_change behind_only altered_table only_value check_body constraint_body added new_default own_change line_at statement_of statements_within statements_of named_index index_text index_said type_step type_done type_long is_type_word is_number type_of type_part role_name grants_of type_named sequence_type sequence_kind view_text view_body placed by_number resolved_within
+unfolding all_tokens default_said is_utf8 chars encode is_blank is_digit begins_word in_word is_sign marks_escapes in_line next_is run_end quote_end escape_end comment_end fraction_end number_end begins_line closed begun in_utf8 piece_at next_within next_token_of tokens_within tokens_of inside undoubled name_of literal_of is_keyword_of spelling is_word sign_of name_in name_value text_in literal_value scan many_at columns rest_step rest_long rest_done key_rest begins_foreign foreign_rest ends_run nest_step nest_done expression default_text collected_within collected named_check create_schema created new_owner new_check domain_change altered_domain name_and_owner path_and_owner altered selected equals_or_to setting command statement primary_body unique_body foreign_body other_value other_path table_change behind_only altered_table only_value check_body constraint_body added new_default own_change line_at statement_of statements_within statements_of named_index index_text index_said type_step type_done type_long is_type_word is_number type_of type_part role_name grants_of type_named sequence_type sequence_kind view_text view_body placed by_number resolved_within
 returns-clause-renamed c = record {
   other_oid = refl;
   other_number = refl;

@@ -5,5 +5,5 @@ use Rattle.tool_laws.proofs.laws.openings_are_schemas.Goals as goal
 pub returns : goal.returns
 returns c =
     opening_read
-    (λ cat formed. c.tables_without_faults_are_clean.ensures.schemas cat.pg_authid cat.pg_namespace ((c.well_formed_tables_are_all.ensures cat).0 formed PgNamespace))
+    (λ cat formed. ((c.well_formed_is_without_fault.ensures cat).0 formed).schemas)
     (λ text rows e. c.read_rows_can_be_written.ensures PgNamespace text rows e)

@@ -5,7 +5,7 @@ use Rattle.type_ends.proofs.bases.bases.Goals as goal
 
 pub loop-place-preserved : goal.loop-place-preserved
 loop-place-preserved c =
-    let cat = c.args.lookup.now in
+    let cat = c.args.book.now in
     let i = c.loop-place.place in
     let row = c.index-rows-place.result in
     c.in_ok-push.ensures.items

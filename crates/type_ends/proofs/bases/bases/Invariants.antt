@@ -5,4 +5,4 @@ use Rattle.type_ends.specs.Steps.{base_at_place}
 use Rattle.type_ends.proofs.bases.bases.Given as goal
 
 abbrev pub invariant-loop-place : goal.invariant-loop-place
-invariant-loop-place l = l.bases.items ≡ map (λ e. base_at_place l.lookup e.0 e.1) (enumerate_from 0 (take l.place l.rows))
+invariant-loop-place l = l.bases.items ≡ map (λ e. base_at_place l.book e.0 e.1) (enumerate_from 0 (take l.place l.rows))

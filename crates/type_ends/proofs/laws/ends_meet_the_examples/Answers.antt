@@ -13,12 +13,13 @@ use Rattle.ddl_parts.specs.Expressions.{ends_run, nest_step, nest_done}
 use Rattle.ddl_parts.specs.Collecting.{collected_within, collected}
 use Rattle.ddl_parts.specs.Types.{type_step, type_done, type_long, is_type_word, is_number, type_of, type_part}
 use Rattle.oid_groups.specs.Orders.{placed, by_number}
-use Rattle.cat_types.specs.Texts.{type_named}
+use Rattle.row_texts.specs.Tokens.{all_tokens}
+use Rattle.row_texts.specs.TypeTexts.{type_named}
 use Rattle.type_ends.specs.Ends.{resolved_within}
 use Rattle.type_ends.proofs.laws.ends_meet_the_examples.Goals as goal
 
 pub returns-clause-labels : goal.returns-clause-labels
-unfolding placed by_number
+unfolding all_tokens placed by_number
 returns-clause-labels c = record {
   by_position = refl;
   of_another = refl;
@@ -26,7 +27,7 @@ returns-clause-labels c = record {
 }
 
 pub returns-clause-chains : goal.returns-clause-chains
-unfolding resolved_within type_named placed by_number tokens_within tokens_of is_utf8 chars encode is_blank is_digit begins_word in_word is_sign marks_escapes in_line next_is run_end quote_end escape_end comment_end fraction_end number_end begins_line closed begun in_utf8 piece_at next_within next_token_of inside undoubled name_of literal_of is_keyword_of spelling is_word sign_of name_in name_value scan ends_run nest_step nest_done collected_within collected type_step type_done type_long is_type_word is_number type_of type_part
+unfolding all_tokens resolved_within type_named placed by_number tokens_within tokens_of is_utf8 chars encode is_blank is_digit begins_word in_word is_sign marks_escapes in_line next_is run_end quote_end escape_end comment_end fraction_end number_end begins_line closed begun in_utf8 piece_at next_within next_token_of inside undoubled name_of literal_of is_keyword_of spelling is_word sign_of name_in name_value scan ends_run nest_step nest_done collected_within collected type_step type_done type_long is_type_word is_number type_of type_part
 returns-clause-chains c = record {
   enum = refl;
   over_an_enum = refl;
@@ -42,7 +43,7 @@ returns-clause-chains c = record {
 }
 
 pub returns-clause-no_ends : goal.returns-clause-no_ends
-unfolding resolved_within type_named placed by_number tokens_within tokens_of is_utf8 chars encode is_blank is_digit begins_word in_word is_sign marks_escapes in_line next_is run_end quote_end escape_end comment_end fraction_end number_end begins_line closed begun in_utf8 piece_at next_within next_token_of inside undoubled name_of literal_of is_keyword_of spelling is_word sign_of name_in name_value scan ends_run nest_step nest_done collected_within collected type_step type_done type_long is_type_word is_number type_of type_part
+unfolding all_tokens resolved_within type_named placed by_number tokens_within tokens_of is_utf8 chars encode is_blank is_digit begins_word in_word is_sign marks_escapes in_line next_is run_end quote_end escape_end comment_end fraction_end number_end begins_line closed begun in_utf8 piece_at next_within next_token_of inside undoubled name_of literal_of is_keyword_of spelling is_word sign_of name_in name_value scan ends_run nest_step nest_done collected_within collected type_step type_done type_long is_type_word is_number type_of type_part
 returns-clause-no_ends c = record {
   itself = refl;
   of_two = refl;

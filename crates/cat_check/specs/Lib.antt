@@ -1,2 +1,0 @@
-pub mod Catalogues
-pub mod Firsts

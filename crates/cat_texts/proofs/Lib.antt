@@ -1,2 +1,0 @@
-pub mod Distincts
-pub mod TextLaws

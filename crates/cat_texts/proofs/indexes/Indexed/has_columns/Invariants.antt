@@ -1,8 +1,0 @@
--- The relation has the columns so far.
-use Rattle.std.proofs.Common.{◌≡◌, true, take}
-use Rattle.std.specs.List.{list_all}
-use Rattle.cat_texts.specs.Indexes.{has_column}
-use Rattle.cat_texts.proofs.indexes.Indexed.has_columns.Given as goal
-
-abbrev pub invariant-loop-name : goal.invariant-loop-name
-invariant-loop-name l = list_all (has_column l.self l.relation) (take l.name-index l.names) ≡ true

@@ -1,5 +1,0 @@
-pub mod Ended
-pub mod Indexes
-pub mod Sequences
-pub mod Views
-pub mod Examples

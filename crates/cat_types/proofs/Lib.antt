@@ -1,5 +1,0 @@
-pub mod Counts
-pub mod ChainEnds
-pub mod Walks
-pub mod Found
-pub mod WholeTexts
