@@ -3,15 +3,14 @@ use Rattle.std.proofs.Common.{◌≡◌, ℕ, Bool, true, false, ◌||◌, List,
 use Rattle.std.proofs.lemmas.Bool.{or_parts}
 use Rattle.std.specs.Str.{str_eq_ignore_ascii_case}
 use Rattle.ddl_parts.specs.Lexemes.{Lexeme, is_word, starts}
-use Rattle.ddl_parts.specs.Parts.{Part, mark, seen, choose, nothing, wider, ◌▸◌}
-use Rattle.ddl_parts.specs.Laws.{Lawful, Begins, Apart, Avoids}
+use Rattle.ddl_parts.specs.Parts.{Part, mark, seen, wider, ◌▸◌}
+use Rattle.ddl_parts.specs.Laws.{Lawful, Apart, Avoids}
 use Rattle.ddl_parts.proofs.Steps.{starts_neither, starts_apart, starts-append}
-use Rattle.ddl_parts.proofs.Simple.{seen_laws, seen_begins, mark_laws, mark_begins, nothing_laws, wider_laws}
-use Rattle.ddl_parts.proofs.Sequence.{then_laws, lead_begins}
-use Rattle.ddl_parts.proofs.Choice.{choose_laws}
-use Rattle.ddl_parts.proofs.Leads.{a_word, word_is, word_laws, word_avoids, choose_avoids}
+use Rattle.ddl_parts.proofs.Simple.{seen_laws, wider_laws}
+use Rattle.ddl_parts.proofs.Leads.{words_apart}
+use Rattle.ddl_parts.proofs.Composing.{Headed, lawful_then, headed_word, headed_seen, one_word, lawful_choose, lawful_maybe, avoids_maybe}
 use Rattle.ddl_admin.specs.Choices.{any_word, clause, said, flag, ◌before◌}
-use Rattle.ddl_admin.proofs.Telling.{nothing_avoids_some, all_differ, words_differ, any-append}
+use Rattle.ddl_admin.proofs.Telling.{all_differ, words_differ, any-append}
 
 -- A part that may be left out: what spells it is nothing or begins with one of the key words, and no other token goes on.
 pub record IsOptional {A : Type 0} (keys : List (List ℕ)) (p : Part A) : Type 0 where
@@ -38,8 +37,8 @@ any_second : (keys others : List (List ℕ)) (t : Lexeme) → any_word others t 
 any_second keys others t e = any-append keys others t ∙ or_second (any_word keys t) (any_word others t) e
 
 -- one before another, where their key words differ
-pub before_is : {A B : Type 0} (keys others : List (List ℕ)) (p : Part A) (q : Part B) → IsOptional keys p → IsOptional others q → all_differ others keys ≡ true → IsOptional (keys ++ others) (p before q)
-before_is {A} {B} keys others p q hp hq differ = record { laws = then_laws p (wider p.goes_on q) hp.laws (wider_laws p.goes_on q hq.laws) avoids; skips = skips; only = only }
+pub before_is : {A B : Type 0} {keys others : List (List ℕ)} {p : Part A} {q : Part B} → IsOptional keys p → IsOptional others q → all_differ others keys ≡ true → IsOptional (keys ++ others) (p before q)
+before_is {A} {B} {keys} {others} {p} {q} hp hq differ = record { laws = lawful_then hp.laws (wider_laws p.goes_on q hq.laws) avoids; skips = skips; only = only }
   where
     apart : Apart (any_word others) p.goes_on
     apart t e = hp.only t (words_differ others keys differ t e)
@@ -66,8 +65,8 @@ before_is {A} {B} keys others p q hp hq differ = record { laws = then_laws p (wi
         let h = or_parts (any_word keys t) (any_word others t) (sym (any-append keys others t) ∙ e) in
         ap (λ (b : Bool). b || p.goes_on t) (hq.only t h.1) ∙ hp.only t h.0
 
-pub seen_is : {A B : Type 0} (keys : List (List ℕ)) (f : A → B) (p : Part A) → IsOptional keys p → IsOptional keys (seen f p)
-seen_is keys f p h = record { laws = seen_laws f p h.laws; skips = λ w ts spells. h.skips spells.0 ts spells.2; only = h.only }
+pub seen_is : {A B : Type 0} {keys : List (List ℕ)} {p : Part A} (f : A → B) → IsOptional keys p → IsOptional keys (seen f p)
+seen_is {p = p} f h = record { laws = seen_laws f p h.laws; skips = λ w ts spells. h.skips spells.0 ts spells.2; only = h.only }
 
 -- ---- a part behind a key word
 
@@ -77,47 +76,35 @@ one_key key t e = or_first (is_word key t) false e
 no_key : (key : List ℕ) (keys : List (List ℕ)) (t : Lexeme) → any_word (key ∷ keys) t ≡ false → is_word key t ≡ false
 no_key key keys t e = (or_parts (is_word key t) (any_word keys t) e).0
 
-pub clause_is : {A : Type 0} (key : List ℕ) (p : Part A) → Lawful p → ((t : Lexeme) → p.goes_on t ≡ false) → IsOptional (key ∷ []) (clause key p)
-clause_is {A} key p lp free = record { laws = laws; skips = skips; only = λ t e. ap (λ (b : Bool). b || any_word (key ∷ []) t) (free t) ∙ e }
+pub clause_is : {A : Type 0} {p : Part A} (key : List ℕ) → Lawful p → ((t : Lexeme) → p.goes_on t ≡ false) → IsOptional (key ∷ []) (clause key p)
+clause_is {A} {p} key lp free =
+    record { laws = lawful_maybe (any_word (key ∷ [])) None given (no_key key []); skips = skips; only = λ t e. ap (λ (b : Bool). b || any_word (key ∷ []) t) (free t) ∙ e }
   where
-    begins : Begins (is_word key) (seen Some (is_word key ▸ p))
-    begins = seen_begins (is_word key) Some (is_word key ▸ p) (lead_begins (is_word key) p)
-
-    laws : Lawful (clause key p)
-    laws = choose_laws (is_word key) (seen Some (is_word key ▸ p)) (nothing (any_word (key ∷ [])) None) (seen_laws Some (is_word key ▸ p) (word_laws key p lp)) (nothing_laws (any_word (key ∷ [])) None) begins
-        (nothing_avoids_some (any_word (key ∷ [])) (is_word key) None (no_key key []))
+    given : Headed (is_word key) (seen Some (is_word key ▸ p))
+    given = headed_seen Some (headed_word key lp)
 
     skips : (v : Option A) (ts : List Lexeme) → (clause key p).Spells v ts → (ts ≡ []) ⊎ (starts (any_word (key ∷ [])) ts ≡ true)
-    skips v ts (inl h) = inr (starts_more (is_word key) (any_word (key ∷ [])) (one_key key) ts (begins v ts h))
+    skips v ts (inl h) = inr (starts_more (is_word key) (any_word (key ∷ [])) (one_key key) ts (given.begins v ts h))
     skips v ts (inr h) = inl h.1
 
 -- ---- a key word, or another that denies it
 
 pub flag_is : (key denial : List ℕ) → str_eq_ignore_ascii_case denial key ≡ false → IsOptional (key ∷ denial ∷ []) (flag key denial)
-flag_is key denial differ = record { laws = laws; skips = skips; only = λ t e. e }
+flag_is key denial differ =
+    record {
+      laws = lawful_choose yes (lawful_maybe (any_word (key ∷ denial ∷ [])) None no no_denial) (avoids_maybe (is_word key) no (words_apart denial key differ) (any_word (key ∷ denial ∷ [])) None (no_key key (denial ∷ [])));
+      skips = skips;
+      only = λ t e. e;
+    }
   where
-    first_begins : Begins (is_word key) (seen (said true) (mark (is_word key)))
-    first_begins = seen_begins (is_word key) (said true) (mark (is_word key)) (mark_begins (is_word key))
+    yes : Headed (is_word key) (seen (said true) (mark (is_word key)))
+    yes = headed_seen (said true) (one_word key)
 
-    second_begins : Begins (is_word denial) (seen (said false) (mark (is_word denial)))
-    second_begins = seen_begins (is_word denial) (said false) (mark (is_word denial)) (mark_begins (is_word denial))
+    no : Headed (is_word denial) (seen (said false) (mark (is_word denial)))
+    no = headed_seen (said false) (one_word denial)
 
     no_denial : (t : Lexeme) → any_word (key ∷ denial ∷ []) t ≡ false → is_word denial t ≡ false
     no_denial t e = no_key denial [] t (or_parts (is_word key t) (any_word (denial ∷ []) t) e).1
-
-    second_laws : Lawful (choose (is_word denial) (seen (said false) (mark (is_word denial))) (nothing (any_word (key ∷ denial ∷ [])) None))
-    second_laws = choose_laws (is_word denial) (seen (said false) (mark (is_word denial))) (nothing (any_word (key ∷ denial ∷ [])) None)
-        (seen_laws (said false) (mark (is_word denial)) (mark_laws (is_word denial) (a_word denial) (word_is denial))) (nothing_laws (any_word (key ∷ denial ∷ [])) None) second_begins
-        (nothing_avoids_some (any_word (key ∷ denial ∷ [])) (is_word denial) None no_denial)
-
-    second_avoids : Avoids (is_word key) (choose (is_word denial) (seen (said false) (mark (is_word denial))) (nothing (any_word (key ∷ denial ∷ [])) None))
-    second_avoids = choose_avoids (is_word key) (is_word denial) (seen (said false) (mark (is_word denial))) (nothing (any_word (key ∷ denial ∷ [])) None)
-        (word_avoids key denial (seen (said false) (mark (is_word denial))) differ second_begins)
-        (nothing_avoids_some (any_word (key ∷ denial ∷ [])) (is_word key) None (no_key key (denial ∷ [])))
-
-    laws : Lawful (flag key denial)
-    laws = choose_laws (is_word key) (seen (said true) (mark (is_word key))) (choose (is_word denial) (seen (said false) (mark (is_word denial))) (nothing (any_word (key ∷ denial ∷ [])) None))
-        (seen_laws (said true) (mark (is_word key)) (mark_laws (is_word key) (a_word key) (word_is key))) second_laws first_begins second_avoids
 
     is_key : (t : Lexeme) → is_word key t ≡ true → any_word (key ∷ denial ∷ []) t ≡ true
     is_key t e = or_first (is_word key t) (any_word (denial ∷ []) t) e
@@ -126,6 +113,6 @@ flag_is key denial differ = record { laws = laws; skips = skips; only = λ t e. 
     is_denial t e = or_second (is_word key t) (any_word (denial ∷ []) t) (one_key denial t e)
 
     skips : (v : Option Bool) (ts : List Lexeme) → (flag key denial).Spells v ts → (ts ≡ []) ⊎ (starts (any_word (key ∷ denial ∷ [])) ts ≡ true)
-    skips v ts (inl h) = inr (starts_more (is_word key) (any_word (key ∷ denial ∷ [])) is_key ts (first_begins v ts h))
-    skips v ts (inr (inl h)) = inr (starts_more (is_word denial) (any_word (key ∷ denial ∷ [])) is_denial ts (second_begins v ts h))
+    skips v ts (inl h) = inr (starts_more (is_word key) (any_word (key ∷ denial ∷ [])) is_key ts (yes.begins v ts h))
+    skips v ts (inr (inl h)) = inr (starts_more (is_word denial) (any_word (key ∷ denial ∷ [])) is_denial ts (no.begins v ts h))
     skips v ts (inr (inr h)) = inl h.1

@@ -10,17 +10,15 @@ use Rattle.cat_model.specs.declared.constraint.Encoding.{Encoding}
 use Rattle.cat_model.specs.declared.constraint.Encoding.TheVariants.{Utf8}
 use Rattle.cat_model.specs.declared.stmt.Stmt.TheVariants as stmt
 use Rattle.ddl_parts.specs.Lexemes.{Lexeme, is_word, is_sign}
-use Rattle.ddl_parts.specs.Parts.{Part, seen, nothing, ◌then◌, ◌▸◌, ◌◂◌}
-use Rattle.ddl_parts.specs.Laws.{Lawful, Begins, Apart, Avoids}
-use Rattle.ddl_parts.specs.Leaves.{name, literal_value, text_in}
-use Rattle.ddl_parts.proofs.Steps.{avoids_never, avoids_begun}
-use Rattle.ddl_parts.proofs.Simple.{one_laws, seen_laws, seen_begins, nothing_laws}
-use Rattle.ddl_parts.proofs.Sequence.{then_laws, then_begins, lead_begins}
-use Rattle.ddl_parts.proofs.Choice.{choose_laws}
-use Rattle.ddl_parts.proofs.Leads.{name_laws, word_laws, sign_laws, ended_laws, choose_avoids}
-use Rattle.ddl_admin.specs.Choices.{semicolon, any_word}
+use Rattle.ddl_parts.specs.Laws.{Lawful, Apart, Avoids}
+use Rattle.ddl_parts.specs.Leaves.{literal_value, text_in}
+use Rattle.ddl_parts.proofs.Simple.{one_laws}
+use Rattle.ddl_parts.proofs.Leads.{name_laws}
+use Rattle.ddl_parts.proofs.Telling.{sign_no_word}
+use Rattle.ddl_parts.proofs.Composing.{Headed, lawful_seen, lawful_word, lawful_sign, lawful_ended, lawful_then, lawful_next, headed_word, headed_seen, headed_next, lawful_maybe, avoids_maybe}
+use Rattle.ddl_admin.specs.Choices.{any_word}
 use Rattle.ddl_admin.specs.Databases.{own_options, is_bare, is_option, furthers, utf8_value, utf8, encoded, goes_on, maybe_encoded, options, create_database}
-use Rattle.ddl_admin.proofs.Telling.{sign_no_word, sign_not_bare, nothing_avoids_some}
+use Rattle.ddl_admin.proofs.Telling.{sign_not_bare}
 use Rattle.ddl_admin.proofs.Further.{furthers_laws}
 
 abbrev a_utf8 : Lexeme
@@ -30,23 +28,9 @@ utf8_laws : Lawful utf8
 unfolding utf8_value literal_value text_in literal_of undoubled inside next_is is_utf8 chars encode
 utf8_laws = one_laws utf8_value a_utf8 Utf8 refl
 
-abbrev its_encoding : Part Encoding
-its_encoding = is_word (codes "encoding") ▸ (is_sign 61 ▸ utf8)
-
-encoded_laws : Lawful encoded
+encoded_is : Headed (is_word (codes "encoding")) encoded
 unfolding encoded
-encoded_laws =
-    seen_laws (λ x. x.0) (its_encoding then furthers)
-    (then_laws its_encoding furthers (word_laws (codes "encoding") (is_sign 61 ▸ utf8) (sign_laws 61 utf8 utf8_laws)) furthers_laws (avoids_never furthers))
-
-encoded_begins : Begins (is_word (codes "encoding")) encoded
-unfolding encoded
-encoded_begins =
-    seen_begins (is_word (codes "encoding")) (λ x. x.0) (its_encoding then furthers)
-    (then_begins (is_word (codes "encoding")) its_encoding furthers (lead_begins (is_word (codes "encoding")) (is_sign 61 ▸ utf8)))
-
-some_begins : Begins (is_word (codes "encoding")) (seen Some encoded)
-some_begins = seen_begins (is_word (codes "encoding")) Some encoded encoded_begins
+encoded_is = headed_seen (λ x. x.0) (headed_next (headed_word (codes "encoding") (lawful_sign 61 utf8_laws)) furthers_laws (λ t. refl))
 
 abbrev no_encoding : Option Encoding
 no_encoding = None
@@ -56,9 +40,7 @@ none_goes t e = or_parts (is_word (codes "encoding") t) (is_option t) e
 
 maybe_encoded_laws : Lawful maybe_encoded
 unfolding maybe_encoded
-maybe_encoded_laws =
-    choose_laws (is_word (codes "encoding")) (seen Some encoded) (nothing goes_on no_encoding) (seen_laws Some encoded encoded_laws) (nothing_laws goes_on no_encoding) some_begins
-    (nothing_avoids_some goes_on (is_word (codes "encoding")) no_encoding (λ t e. (none_goes t e).0))
+maybe_encoded_laws = lawful_maybe goes_on no_encoding (headed_seen Some encoded_is) (λ t e. (none_goes t e).0)
 
 or_true : (a b : Bool) → b ≡ true → (a || (b || false)) ≡ true
 or_true true b e = refl
@@ -71,14 +53,11 @@ encoding_is_own t e = ap (λ (b : Bool). not b && is_bare t) (or_true (is_word (
 
 maybe_encoded_avoids : Avoids is_option maybe_encoded
 unfolding maybe_encoded
-maybe_encoded_avoids =
-    choose_avoids is_option (is_word (codes "encoding")) (seen Some encoded) (nothing goes_on no_encoding)
-    (avoids_begun (is_word (codes "encoding")) is_option (seen Some encoded) some_begins encoding_is_own)
-    (nothing_avoids_some goes_on is_option no_encoding (λ t e. (none_goes t e).1))
+maybe_encoded_avoids = avoids_maybe is_option (headed_seen Some encoded_is) encoding_is_own goes_on no_encoding (λ t e. (none_goes t e).1)
 
 options_laws : Lawful options
 unfolding options furthers
-options_laws = seen_laws (λ x. x.1) (furthers then maybe_encoded) (then_laws furthers maybe_encoded furthers_laws maybe_encoded_laws maybe_encoded_avoids)
+options_laws = lawful_seen (λ x. x.1) (lawful_then furthers_laws maybe_encoded_laws maybe_encoded_avoids)
 
 and_false : (x : Bool) → (x && false) ≡ false
 and_false true = refl
@@ -92,19 +71,8 @@ options_end : Apart (is_sign 59) options.goes_on
 unfolding options maybe_encoded encoded furthers
 options_end t e = rw (no_option t e, sign_no_word 59 (codes "encoding") t e) refl
 
-abbrev options_closed : Part (Option Encoding)
-options_closed = options ◂ semicolon
-
-abbrev behind_with : Part (Option Encoding)
-behind_with = is_word (codes "template") ▸ (is_sign 61 ▸ (is_word (codes "template0") ▸ options_closed))
-
 pub create_database_laws : Lawful create_database
 unfolding create_database
 create_database_laws =
-    seen_laws (λ x. stmt.CreateDatabase x.0 x.1) (name then (is_word (codes "with") ▸ behind_with))
-    (then_laws name (is_word (codes "with") ▸ behind_with) name_laws
-    (word_laws (codes "with") behind_with
-    (word_laws (codes "template") (is_sign 61 ▸ (is_word (codes "template0") ▸ options_closed))
-    (sign_laws 61 (is_word (codes "template0") ▸ options_closed)
-    (word_laws (codes "template0") options_closed (ended_laws 59 options options_laws options_end)))))
-    (avoids_never (is_word (codes "with") ▸ behind_with)))
+    lawful_seen (λ x. stmt.CreateDatabase x.0 x.1)
+    (lawful_next name_laws (lawful_word (codes "with") (lawful_word (codes "template") (lawful_sign 61 (lawful_word (codes "template0") (lawful_ended 59 options_laws options_end))))) (λ t. refl))

@@ -30,10 +30,7 @@ self_by : (k : TokenKind) (w : List ℕ) → is_keyword_of k w w ≡ is_word_kin
 unfolding is_keyword_of
 self_by Word w = (bytes_eq-Decides (str_to_ascii_lowercase w) (str_to_ascii_lowercase w)).1 refl
 self_by QuotedName w = refl
-self_by Literal w = refl
-self_by Number w = refl
-self_by (Sign c) w = refl
-self_by MetaLine w = refl
+self_by x w = refl
 
 -- a token is a bare word where it is the key word that is spelled as it is
 pub bare_is : (ts : List Lexeme) (w : List ℕ) → Some w ≡ word_first ts → starts (is_word w) ts ≡ starts is_bare ts
@@ -60,10 +57,7 @@ some_number (t ∷ ts) w e = by t.kind t.word e
     by : (k : TokenKind) (v : List ℕ) → Some w ≡ digits_of k v → is_number_kind k ≡ true
     by Number v e = refl
     by Word v e = absurd cc
-    by QuotedName v e = absurd cc
-    by Literal v e = absurd cc
-    by (Sign c) v e = absurd cc
-    by MetaLine v e = absurd cc
+    by x v e = absurd cc
 
 pub no_number : (ts : List Lexeme) → None ≡ number_first ts → starts is_number ts ≡ false
 unfolding is_number
@@ -73,10 +67,7 @@ no_number (t ∷ ts) e = by t.kind t.word e
     by : (k : TokenKind) (v : List ℕ) → None ≡ digits_of k v → is_number_kind k ≡ false
     by Number v e = absurd cc
     by Word v e = refl
-    by QuotedName v e = refl
-    by Literal v e = refl
-    by (Sign c) v e = refl
-    by MetaLine v e = refl
+    by x v e = refl
 
 pub value_starts : (ts : List Lexeme) → starts is_value ts ≡ (starts is_name ts || (starts is_literal ts || starts is_number ts))
 unfolding is_value

@@ -5,54 +5,27 @@ use Rattle.std.specs.Str.{str_eq_ignore_ascii_case}
 use Rattle.sql_lex.specs.declared.token.TokenKind.{TokenKind}
 use Rattle.sql_lex.specs.declared.token.TokenKind.TheVariants.{Word, QuotedName, Literal, Number, Sign, MetaLine}
 use Rattle.sql_lex.specs.Meaning.{is_keyword_of}
-use Rattle.ddl_parts.specs.Lexemes.{Lexeme, is_word, is_sign, is_sign_kind, never, starts}
-use Rattle.ddl_parts.specs.Laws.{Apart, Avoids}
+use Rattle.ddl_parts.specs.Lexemes.{Lexeme, is_word, is_sign}
+use Rattle.ddl_parts.specs.Laws.{Apart}
 use Rattle.ddl_parts.specs.Leaves.{is_literal, is_literal_kind}
-use Rattle.ddl_parts.specs.Parts.{nothing}
 use Rattle.ddl_parts.specs.Types.{is_word_kind}
 use Rattle.ddl_parts.proofs.Leads.{words_apart}
+use Rattle.ddl_parts.proofs.Telling.{sign_no_word, sign_kind_by}
 use Rattle.ddl_admin.specs.Choices.{any_word}
-
--- what goes on with no token is followed by anything
-pub free : (test : Lexeme → Bool) → Apart test never
-free test t e = refl
-
-sign_no_word_by : (k : TokenKind) (w key : List ℕ) (b : ℕ) → is_sign_kind b k ≡ true → (is_keyword_of k w key ≡ false) × (is_word_kind k ≡ false)
-unfolding is_keyword_of
-sign_no_word_by (Sign c) w key b e = (refl, refl)
-sign_no_word_by Word w key b e = absurd cc
-sign_no_word_by QuotedName w key b e = absurd cc
-sign_no_word_by Literal w key b e = absurd cc
-sign_no_word_by Number w key b e = absurd cc
-sign_no_word_by MetaLine w key b e = absurd cc
-
-pub sign_no_word : (b : ℕ) (key : List ℕ) → Apart (is_sign b) (is_word key)
-unfolding is_sign is_word
-sign_no_word b key t e = (sign_no_word_by t.kind t.word key b e).0
 
 pub sign_not_bare : (b : ℕ) (t : Lexeme) → is_sign b t ≡ true → is_word_kind t.kind ≡ false
 unfolding is_sign
-sign_not_bare b t e = (sign_no_word_by t.kind t.word [] b e).1
+sign_not_bare b t e = (sign_kind_by t.kind b e).2
 
 literal_no_word_by : (k : TokenKind) (w key : List ℕ) → is_literal_kind k ≡ true → is_keyword_of k w key ≡ false
 unfolding is_keyword_of
 literal_no_word_by Literal w key e = refl
 literal_no_word_by Word w key e = absurd cc
-literal_no_word_by QuotedName w key e = absurd cc
-literal_no_word_by Number w key e = absurd cc
-literal_no_word_by (Sign c) w key e = absurd cc
-literal_no_word_by MetaLine w key e = absurd cc
+literal_no_word_by x w key e = absurd cc
 
 pub literal_no_word : (key : List ℕ) → Apart is_literal (is_word key)
 unfolding is_literal is_word
 literal_no_word key t e = literal_no_word_by t.kind t.word key e
-
-pub nothing_avoids_some : {A : Type 0} (more test : Lexeme → Bool) (v : A) → ((t : Lexeme) → more t ≡ false → test t ≡ false) → Avoids test (nothing more v)
-nothing_avoids_some more test v none w ts rest spells free = ap (λ (f : List Lexeme). starts test (f ++ rest)) spells.1 ∙ by rest free
-  where
-    by : (us : List Lexeme) → starts more us ≡ false → starts test us ≡ false
-    by [] e = refl
-    by (u ∷ us) e = none u e
 
 -- ---- one of several key words
 

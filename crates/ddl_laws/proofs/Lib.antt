@@ -26,3 +26,6 @@ pub mod Rights
 pub mod Whole
 pub mod Fits
 pub mod Spelled
+pub mod ColumnLaws
+pub mod ValueLaws
+pub mod TableLaws

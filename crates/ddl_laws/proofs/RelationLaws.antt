@@ -1,77 +1,46 @@
 -- The grammar of statements about sequences, views and indexes has the laws of a part, and each ends with a semicolon.
 use Rattle.std.proofs.Common.{ℕ, List, refl, codes, ◌≡◌, Bool, true, false, [], ◌∷◌, ◌++◌, append-nil, Ok, Err, sym, ap, ◌∙◌, eqb-true}
-use Rattle.cat_model.specs.declared.object.QName.{QName}
-use Rattle.cat_model.specs.declared.stmt.Stmt.{Stmt}
 use Rattle.cat_model.specs.declared.stmt.Stmt.TheVariants as stmt
-use Rattle.ddl_parts.specs.Lexemes.{is_word, is_sign, Lexeme, is_sign_kind, starts, source}
-use Rattle.ddl_parts.specs.Parts.{Part, seen, ◌then◌, ◌▸◌, ◌◂◌, Reading, Stop, stop, choose_at}
-use Rattle.ddl_parts.specs.Laws.{Lawful, Begins, Found, Stopped, Apart}
+use Rattle.ddl_parts.specs.Lexemes.{is_sign, Lexeme, is_sign_kind, starts, source}
+use Rattle.ddl_parts.specs.Parts.{Part, Reading, Stop, stop, choose_at}
+use Rattle.ddl_parts.specs.Laws.{Lawful, Found, Stopped, Apart}
 use Rattle.sql_lex.specs.declared.token.TokenKind.{TokenKind}
 use Rattle.sql_lex.specs.declared.token.TokenKind.TheVariants.{Word, Sign}
-use Rattle.ddl_parts.specs.Leaves.{name, qualified}
 use Rattle.ddl_parts.specs.Expressions.{expression, nested, nest_step, nest_done, ends_run}
 use Rattle.ddl_parts.specs.declared.runs.Spot.TheVariants.{Inside}
-use Rattle.ddl_parts.proofs.Steps.{avoids_never, starts-append, starts_again, err_is}
-use Rattle.ddl_parts.proofs.Simple.{seen_laws, seen_begins}
-use Rattle.ddl_parts.proofs.Sequence.{then_laws, lead_begins}
-use Rattle.ddl_parts.proofs.Choice.{choose_apart}
-use Rattle.ddl_parts.proofs.Leads.{a_sign, sign_is, name_laws, qualified_laws, word_laws, sign_laws, ended_laws, words_apart}
+use Rattle.ddl_parts.proofs.Steps.{starts-append, starts_again, err_is}
+use Rattle.ddl_parts.proofs.Leads.{a_sign, sign_is, name_laws, qualified_laws, words_apart}
+use Rattle.ddl_parts.proofs.Telling.{free}
+use Rattle.ddl_parts.proofs.Composing.{lawful_seen, lawful_word, lawful_sign, lawful_ended, lawful_next, headed_word, headed_seen, lawful_either}
 use Rattle.ddl_parts.proofs.RunLaws.{expression_laws, expression_ends}
 use Rattle.ddl_parts.proofs.Tables.{AllLawful}
-use Rattle.ddl_read.specs.Clauses.{semicolon, new_owner}
+use Rattle.ddl_read.specs.Clauses.{semicolon}
 use Rattle.ddl_read.specs.RelationGrammar.{owned_by, its_role, its_column, sequence_changed, sequence_change, altered_sequence, view_and_body, create_view, replace_view, begun_by, bracketed, index_parts, index_of, unique_index_of, create_index, create_unique_index, view_branch, more_relations}
-use Rattle.ddl_laws.proofs.AlterLaws.{new_owner_laws}
+use Rattle.ddl_laws.proofs.AlterLaws.{new_owner_is}
 use Rattle.ddl_laws.proofs.SequenceLaws.{create_sequence_laws}
-use Rattle.ddl_read.proofs.Telling.{free}
 
 -- ---- ALTER SEQUENCE
 
-abbrev column_end : Part (QName × List ℕ)
-column_end = qualified then (is_sign 46 ▸ (name ◂ semicolon))
-
-owned_by_laws : Lawful owned_by
-unfolding owned_by
-owned_by_laws =
-    word_laws (codes "owned") (is_word (codes "by") ▸ column_end)
-    (word_laws (codes "by") column_end
-    (then_laws qualified (is_sign 46 ▸ (name ◂ semicolon)) qualified_laws (sign_laws 46 (name ◂ semicolon) (ended_laws 59 name name_laws (free semicolon))) (avoids_never (is_sign 46 ▸ (name ◂ semicolon)))))
-
-owned_by_begins : Begins (is_word (codes "owned")) owned_by
-unfolding owned_by
-owned_by_begins = lead_begins (is_word (codes "owned")) (is_word (codes "by") ▸ column_end)
-
-new_owner_begins : Begins (is_word (codes "owner")) new_owner
-unfolding new_owner
-new_owner_begins = lead_begins (is_word (codes "owner")) (is_word (codes "to") ▸ (name ◂ semicolon))
-
 pub altered_sequence_laws : Lawful altered_sequence
-unfolding altered_sequence sequence_change
+unfolding altered_sequence sequence_change owned_by
 altered_sequence_laws =
-    let change = choose_apart (is_word (codes "owner")) (is_word (codes "owned")) (seen its_role new_owner) (seen its_column owned_by)
-    (seen_laws its_role new_owner new_owner_laws) (seen_laws its_column owned_by owned_by_laws)
-    (seen_begins (is_word (codes "owner")) its_role new_owner new_owner_begins) (seen_begins (is_word (codes "owned")) its_column owned_by owned_by_begins)
-    (words_apart (codes "owned") (codes "owner") refl) in
-    seen_laws (λ x. sequence_changed x.0 x.1) (qualified then sequence_change) (then_laws qualified sequence_change qualified_laws change (avoids_never sequence_change))
+    let column = lawful_next qualified_laws (lawful_sign 46 (lawful_ended 59 name_laws (free semicolon))) (λ t. refl) in
+    let owned = headed_word (codes "owned") (lawful_word (codes "by") column) in
+    let change = lawful_either (headed_seen its_role new_owner_is) (headed_seen its_column owned) (words_apart (codes "owned") (codes "owner") refl) in
+    lawful_seen (λ x. sequence_changed x.0 x.1) (lawful_next qualified_laws change (λ t. refl))
 
 -- ---- CREATE VIEW
 
-abbrev body_end : Part (List ℕ)
-body_end = expression ◂ semicolon
-
 view_and_body_laws : Lawful view_and_body
-view_and_body_laws = then_laws qualified (is_word (codes "as") ▸ body_end) qualified_laws (word_laws (codes "as") body_end (ended_laws 59 expression expression_laws expression_ends)) (avoids_never (is_word (codes "as") ▸ body_end))
+view_and_body_laws = lawful_next qualified_laws (lawful_word (codes "as") (lawful_ended 59 expression_laws expression_ends)) (λ t. refl)
 
 create_view_laws : Lawful create_view
 unfolding create_view
-create_view_laws = seen_laws (λ x. stmt.CreateView x.0 x.1) view_and_body view_and_body_laws
-
-abbrev replaced : Part Stmt
-replaced = seen (λ x. stmt.ReplaceView x.0 x.1) view_and_body
+create_view_laws = lawful_seen (λ x. stmt.CreateView x.0 x.1) view_and_body_laws
 
 replace_view_laws : Lawful replace_view
 unfolding replace_view
-replace_view_laws =
-    word_laws (codes "replace") (is_word (codes "view") ▸ replaced) (word_laws (codes "view") replaced (seen_laws (λ x. stmt.ReplaceView x.0 x.1) view_and_body view_and_body_laws))
+replace_view_laws = lawful_word (codes "replace") (lawful_word (codes "view") (lawful_seen (λ x. stmt.ReplaceView x.0 x.1) view_and_body_laws))
 
 -- ---- CREATE INDEX
 
@@ -170,35 +139,19 @@ bracketed_ends : Apart (is_sign 59) bracketed.goes_on
 unfolding bracketed
 bracketed_ends = expression_ends
 
-abbrev rest_end : Part (List ℕ)
-rest_end = bracketed ◂ semicolon
-
-abbrev method_end : Part (List ℕ × List ℕ)
-method_end = name then rest_end
-
-abbrev path_end : Part (QName × (List ℕ × List ℕ))
-path_end = qualified then (is_word (codes "using") ▸ method_end)
-
 index_parts_laws : Lawful index_parts
 unfolding index_parts
 index_parts_laws =
-    then_laws name (is_word (codes "on") ▸ path_end) name_laws
-    (word_laws (codes "on") path_end
-    (then_laws qualified (is_word (codes "using") ▸ method_end) qualified_laws
-    (word_laws (codes "using") method_end (then_laws name rest_end name_laws (ended_laws 59 bracketed bracketed_laws bracketed_ends) (avoids_never rest_end)))
-    (avoids_never (is_word (codes "using") ▸ method_end))))
-    (avoids_never (is_word (codes "on") ▸ path_end))
+    let method = lawful_next name_laws (lawful_ended 59 bracketed_laws bracketed_ends) (λ t. refl) in
+    lawful_next name_laws (lawful_word (codes "on") (lawful_next qualified_laws (lawful_word (codes "using") method) (λ t. refl))) (λ t. refl)
 
 create_index_laws : Lawful create_index
 unfolding create_index
-create_index_laws = seen_laws index_of index_parts index_parts_laws
-
-abbrev unique_index : Part Stmt
-unique_index = seen unique_index_of index_parts
+create_index_laws = lawful_seen index_of index_parts_laws
 
 create_unique_index_laws : Lawful create_unique_index
 unfolding create_unique_index
-create_unique_index_laws = word_laws (codes "index") unique_index (seen_laws unique_index_of index_parts index_parts_laws)
+create_unique_index_laws = lawful_word (codes "index") (lawful_seen unique_index_of index_parts_laws)
 
 -- ---- CREATE ..
 

@@ -6,14 +6,12 @@ use Rattle.sql_lex.specs.Meaning.{is_keyword_of}
 use Rattle.sql_lex.specs.declared.token.TokenKind.TheVariants.{Number}
 use Rattle.cat_model.specs.declared.constraint.SequenceKind.TheVariants.{SmallInt}
 use Rattle.ddl_parts.specs.Lexemes.{Lexeme, is_word, is_sign}
-use Rattle.ddl_parts.specs.Parts.{Part, run, runs_of, ◌then◌, ◌◂◌}
+use Rattle.ddl_parts.specs.Parts.{run, ◌then◌, ◌◂◌}
 use Rattle.ddl_parts.specs.Leaves.{qualified}
 use Rattle.ddl_parts.specs.Laws.{Lawful, Apart}
-use Rattle.ddl_parts.proofs.Steps.{avoids_never}
-use Rattle.ddl_parts.proofs.Simple.{seen_laws}
-use Rattle.ddl_parts.proofs.Sequence.{then_laws}
 use Rattle.ddl_parts.proofs.Machines.{CanEnd, machine_laws}
-use Rattle.ddl_parts.proofs.Leads.{a_word, qualified_laws, ended_laws}
+use Rattle.ddl_parts.proofs.Leads.{a_word, qualified_laws}
+use Rattle.ddl_parts.proofs.Composing.{lawful_seen, lawful_ended, lawful_next}
 use Rattle.ddl_numbers.specs.Numbers.{digits_below}
 use Rattle.ddl_read.specs.declared.sequences.Bound.TheVariants.{Usual}
 use Rattle.ddl_read.specs.declared.sequences.Field.TheVariants.{First, Step}
@@ -23,7 +21,7 @@ use Rattle.ddl_read.specs.declared.sequences.ClauseSpot.TheVariants.{Between, Be
 use Rattle.ddl_read.specs.declared.sequences.Clauses.{Clauses}
 use Rattle.ddl_read.specs.Clauses.{semicolon}
 use Rattle.ddl_read.specs.SequenceGrammar.{with_number, reached, clause_first, kind_first, usual_first, step_first, is_between, begins_clause, first_reached, clausing, clauses_of, sequence_clauses, sequence_of, create_sequence}
-use Rattle.ddl_read.proofs.Telling.{sign_no_word}
+use Rattle.ddl_parts.proofs.Telling.{sign_no_word}
 use Rattle.ddl_forms.proofs.Closing.{Closes, then_closes, seen_closes, end_closes}
 
 -- ---- each state can be brought to an end
@@ -94,12 +92,7 @@ none_begins c t e =
 covers_at : (spot : ClauseSpot) (c : Clauses) (t : Lexeme) → is_between spot ≡ true → begins_clause t ≡ false → step_first (reached c spot) (t ∷ []) ≡ None
 unfolding step_first
 covers_at Between c t d e = none_begins c t e
-covers_at BehindAs c t d e = absurd cc
-covers_at BehindStart c t d e = absurd cc
-covers_at BehindIncrement c t d e = absurd cc
-covers_at (BehindNo which) c t d e = absurd cc
-covers_at (Due field) c t d e = absurd cc
-covers_at (BehindMinus field) c t d e = absurd cc
+covers_at spot c t d e = absurd cc
 
 clausing_ends : CanEnd clausing
 clausing_ends = record {
@@ -114,7 +107,7 @@ clausing_ends = record {
 
 sequence_clauses_laws : Lawful sequence_clauses
 unfolding sequence_clauses
-sequence_clauses_laws = seen_laws (λ ts. clauses_of (run clausing (Some first_reached) ts)) (runs_of clausing) (machine_laws clausing clausing_ends)
+sequence_clauses_laws = lawful_seen (λ ts. clauses_of (run clausing (Some first_reached) ts)) (machine_laws clausing clausing_ends)
 
 clauses_end : Apart (is_sign 59) sequence_clauses.goes_on
 unfolding sequence_clauses
@@ -130,15 +123,10 @@ clauses_end t e =
       sign_no_word 59 (codes "cycle") t e,
     ) refl
 
-abbrev clauses_closed : Part Clauses
-clauses_closed = sequence_clauses ◂ semicolon
-
 pub create_sequence_laws : Lawful create_sequence
 unfolding create_sequence
-create_sequence_laws =
-    seen_laws (λ x. sequence_of x.0 x.1) (qualified then clauses_closed)
-    (then_laws qualified clauses_closed qualified_laws (ended_laws 59 sequence_clauses sequence_clauses_laws clauses_end) (avoids_never clauses_closed))
+create_sequence_laws = lawful_seen (λ x. sequence_of x.0 x.1) (lawful_next qualified_laws (lawful_ended 59 sequence_clauses_laws clauses_end) (λ t. refl))
 
 pub create_sequence_closes : Closes semicolon create_sequence
 unfolding create_sequence
-create_sequence_closes = seen_closes semicolon (λ x. sequence_of x.0 x.1) (qualified then clauses_closed) (then_closes semicolon qualified clauses_closed (end_closes semicolon sequence_clauses))
+create_sequence_closes = seen_closes semicolon (λ x. sequence_of x.0 x.1) (qualified then (sequence_clauses ◂ semicolon)) (then_closes semicolon qualified (sequence_clauses ◂ semicolon) (end_closes semicolon sequence_clauses))

@@ -29,7 +29,7 @@ use Rattle.ddl_numbers.specs.Numbers.{whole_number}
 use Rattle.ddl_read.specs.Clauses.{semicolon}
 use Rattle.ddl_read.specs.CopyGrammar.{some_columns, copy_from}
 use Rattle.ddl_read.specs.ValueGrammar.{path_in, path_of, path_value, literal_path, truth, value_of_sequence, set_value}
-use Rattle.ddl_read.proofs.ValueLaws.{path_found, path_only}
+use Rattle.ddl_laws.proofs.ValueLaws.{path_found, path_only}
 use Rattle.ddl_forms.specs.Texts.{IsPath, IsInt}
 use Rattle.ddl_forms.proofs.Kept.{have_come}
 use Rattle.ddl_forms.proofs.RunTexts.{safe_name}

@@ -5,7 +5,7 @@ use Rattle.std.proofs.Math.Utf8.{encode}
 use Rattle.std.proofs.lemmas.Slice.Eq.{bytes_eq-Decides}
 use Rattle.sql_lex.specs.Bytes.{next_is}
 use Rattle.sql_lex.specs.declared.token.TokenKind.{TokenKind}
-use Rattle.sql_lex.specs.declared.token.TokenKind.TheVariants.{Word, QuotedName, Literal, Number, Sign, MetaLine}
+use Rattle.sql_lex.specs.declared.token.TokenKind.TheVariants.{Word, QuotedName, Literal, Sign}
 use Rattle.sql_lex.specs.Meaning.{name_of, literal_of, is_keyword_of, undoubled, inside}
 use Rattle.cat_model.specs.declared.object.QName.{QName}
 use Rattle.ddl_parts.specs.Lexemes.{Lexeme, is_word, is_sign, is_sign_kind, starts}
@@ -51,9 +51,7 @@ name_begins = one_begins name_value is_name by_kind
     by Word w v e = refl
     by QuotedName w v e = refl
     by Literal w v e = absurd cc
-    by Number w v e = absurd cc
-    by (Sign b) w v e = absurd cc
-    by MetaLine w v e = absurd cc
+    by x w v e = absurd cc
 
     by_kind : (t : Lexeme) (v : List ℕ) → name_value t ≡ Ok v → is_name t ≡ true
     by_kind t v e = by t.kind t.word v e
@@ -65,10 +63,7 @@ literal_begins = one_begins literal_value is_literal by_kind
     by : (k : TokenKind) (w : List ℕ) (v : List ℕ) → text_in (literal_of k w) ≡ Ok v → is_literal_kind k ≡ true
     by Literal w v e = refl
     by Word w v e = absurd cc
-    by QuotedName w v e = absurd cc
-    by Number w v e = absurd cc
-    by (Sign b) w v e = absurd cc
-    by MetaLine w v e = absurd cc
+    by x w v e = absurd cc
 
     by_kind : (t : Lexeme) (v : List ℕ) → literal_value t ≡ Ok v → is_literal t ≡ true
     by_kind t v e = by t.kind t.word v e
@@ -104,10 +99,7 @@ words_by : (k : TokenKind) (w a b : List ℕ) → str_eq_ignore_ascii_case a b �
 unfolding is_keyword_of
 words_by Word w a b differ e = let same = (bytes_eq-Decides (str_to_ascii_lowercase w) (str_to_ascii_lowercase a)).0 e in ap (λ (x : List ℕ). bytes_eq x (str_to_ascii_lowercase b)) same ∙ differ
 words_by QuotedName w a b differ e = refl
-words_by Literal w a b differ e = refl
-words_by Number w a b differ e = refl
-words_by (Sign c) w a b differ e = refl
-words_by MetaLine w a b differ e = refl
+words_by x w a b differ e = refl
 
 pub words_apart : (a b : List ℕ) → str_eq_ignore_ascii_case a b ≡ false → Apart (is_word a) (is_word b)
 unfolding is_word
@@ -116,11 +108,8 @@ words_apart a b differ t e = words_by t.kind t.word a b differ e
 word_no_sign_by : (k : TokenKind) (w key : List ℕ) (b : ℕ) → is_keyword_of k w key ≡ true → is_sign_kind b k ≡ false
 unfolding is_keyword_of
 word_no_sign_by Word w key b e = refl
-word_no_sign_by QuotedName w key b e = refl
-word_no_sign_by Literal w key b e = refl
-word_no_sign_by Number w key b e = refl
 word_no_sign_by (Sign c) w key b e = absurd cc
-word_no_sign_by MetaLine w key b e = refl
+word_no_sign_by x w key b e = refl
 
 pub word_no_sign : (key : List ℕ) (b : ℕ) → Apart (is_word key) (is_sign b)
 unfolding is_word is_sign

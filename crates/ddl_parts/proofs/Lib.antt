@@ -15,3 +15,5 @@ pub mod Scanning
 pub mod Listing
 pub mod Endings
 pub mod TypeRuns
+pub mod Composing
+pub mod Telling

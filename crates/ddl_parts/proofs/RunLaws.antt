@@ -5,7 +5,7 @@ use Rattle.std.proofs.lemmas.Bool.{or_parts}
 use Rattle.std.specs.Str.{is_utf8, chars}
 use Rattle.std.proofs.Math.Utf8.{encode}
 use Rattle.sql_lex.specs.declared.token.TokenKind.{TokenKind}
-use Rattle.sql_lex.specs.declared.token.TokenKind.TheVariants.{Word, QuotedName, Literal, Number, Sign, MetaLine}
+use Rattle.sql_lex.specs.declared.token.TokenKind.TheVariants.{Word, Number, Sign}
 use Rattle.sql_lex.specs.Meaning.{is_keyword_of, name_of}
 use Rattle.ddl_parts.specs.Lexemes.{Lexeme, is_word, is_sign, is_sign_kind, source}
 use Rattle.ddl_parts.specs.Parts.{run, runs_of}
@@ -14,7 +14,7 @@ use Rattle.ddl_parts.specs.Leaves.{name_value, name_in}
 use Rattle.ddl_parts.specs.declared.runs.Bracket.{Bracket}
 use Rattle.ddl_parts.specs.declared.runs.Bracket.TheVariants.{Round, Square}
 use Rattle.ddl_parts.specs.declared.runs.Spot.{Spot}
-use Rattle.ddl_parts.specs.declared.runs.Spot.TheVariants.{First, FirstNot, LaterNot, Inside, Closed as Shut}
+use Rattle.ddl_parts.specs.declared.runs.Spot.TheVariants.{First, Inside}
 use Rattle.ddl_parts.specs.Expressions.{Nest, nested, nest_step, nest_done, ends_run, is_end_kind, step_by, behind_bounded, behind_kind, moved, expression, default_text, default_and_null, without_not_null}
 use Rattle.ddl_parts.specs.Types.{typing, type_step, type_done, type_goes_on, is_type_word, is_number, type_part, type_of}
 use Rattle.ddl_parts.specs.declared.types.TypeSpot.{TypeSpot}
@@ -58,48 +58,27 @@ finishes : (bounded takes : Bool) (spot : Spot) (bs : List Bracket) → run (nes
 unfolding nest_step ends_run is_word is_sign is_keyword_of
 finishes true takes First [] = refl
 finishes false takes First [] = refl
-finishes bounded takes FirstNot [] = refl
-finishes bounded takes LaterNot [] = refl
-finishes bounded takes Inside [] = refl
-finishes bounded takes Shut [] = refl
 finishes bounded takes First (Round ∷ bs) = closes bounded takes bs
 finishes bounded takes First (Square ∷ bs) = closes bounded takes bs
-finishes bounded takes FirstNot (Round ∷ bs) = closes bounded takes bs
-finishes bounded takes FirstNot (Square ∷ bs) = closes bounded takes bs
-finishes bounded takes LaterNot (Round ∷ bs) = closes bounded takes bs
-finishes bounded takes LaterNot (Square ∷ bs) = closes bounded takes bs
-finishes bounded takes Inside (Round ∷ bs) = closes bounded takes bs
-finishes bounded takes Inside (Square ∷ bs) = closes bounded takes bs
-finishes bounded takes Shut (Round ∷ bs) = closes bounded takes bs
-finishes bounded takes Shut (Square ∷ bs) = closes bounded takes bs
+finishes bounded takes x [] = refl
+finishes bounded takes x (Round ∷ bs) = closes bounded takes bs
+finishes bounded takes x (Square ∷ bs) = closes bounded takes bs
 
 inside_flat : (spot : Spot) (bs : List Bracket) → nest_done (nest bs spot) ≡ true → bs ≡ []
 unfolding nest_done
 inside_flat First [] e = refl
-inside_flat FirstNot [] e = refl
-inside_flat LaterNot [] e = refl
-inside_flat Inside [] e = refl
-inside_flat Shut [] e = refl
 inside_flat First (b ∷ bs) e = absurd cc
-inside_flat FirstNot (b ∷ bs) e = absurd cc
-inside_flat LaterNot (b ∷ bs) e = absurd cc
-inside_flat Inside (b ∷ bs) e = absurd cc
-inside_flat Shut (b ∷ bs) e = absurd cc
+inside_flat x [] e = refl
+inside_flat x (b ∷ bs) e = absurd cc
 
 last_done : (spot : Spot) (bs : List Bracket) → nest_done (last_by spot bs) ≡ true
 unfolding nest_done
 last_done First [] = refl
 last_done First (b ∷ bs) = refl
-last_done FirstNot [] = refl
-last_done FirstNot (b ∷ bs) = refl
-last_done LaterNot [] = refl
-last_done LaterNot (b ∷ bs) = refl
-last_done Inside [] = refl
-last_done Inside (b ∷ bs) = refl
-last_done Shut [] = refl
-last_done Shut (b ∷ bs) = refl
+last_done x [] = refl
+last_done x (b ∷ bs) = refl
 
-not_false : (b : Bool) → not b ≡ false → b ≡ true
+pub not_false : (b : Bool) → not b ≡ false → b ≡ true
 not_false true e = refl
 not_false false e = absurd cc
 
@@ -137,14 +116,11 @@ type_finish Begin = a_word (codes "text") ∷ []
 type_finish (FirstWord short) = []
 type_finish Schema = a_sign 46 ∷ a_word (codes "a") ∷ []
 type_finish Dotted = a_word (codes "a") ∷ []
-type_finish Path = []
-type_finish Words = []
 type_finish Opened = a_number ∷ a_sign 41 ∷ []
 type_finish Counted = a_sign 41 ∷ []
 type_finish Further = a_number ∷ a_sign 41 ∷ []
-type_finish Behind = []
 type_finish Array = a_sign 93 ∷ []
-type_finish Ended = []
+type_finish x = []
 
 type_last : TypeSpot → TypeSpot
 type_last Begin = FirstWord true
@@ -154,56 +130,29 @@ type_last Dotted = Path
 type_last Path = Path
 type_last Words = Words
 type_last Opened = Behind
-type_last Counted = Behind
-type_last Further = Behind
-type_last Behind = Behind
 type_last Array = Ended
 type_last Ended = Ended
+type_last x = Behind
 
 type_finished : (s : TypeSpot) → run typing (Some s) (type_finish s) ≡ Some (type_last s)
 unfolding type_step type_finish type_last is_type_word is_number is_word is_sign is_keyword_of name_value name_in name_of is_utf8 chars encode
 type_finished Begin = refl
-type_finished (FirstWord short) = refl
-type_finished Schema = refl
-type_finished Dotted = refl
-type_finished Path = refl
-type_finished Words = refl
-type_finished Opened = refl
-type_finished Counted = refl
-type_finished Further = refl
-type_finished Behind = refl
-type_finished Array = refl
-type_finished Ended = refl
+type_finished x = refl
 
 type_is_done : (s : TypeSpot) → type_done (type_last s) ≡ true
 unfolding type_done type_last
 type_is_done Begin = refl
-type_is_done (FirstWord short) = refl
-type_is_done Schema = refl
-type_is_done Dotted = refl
-type_is_done Path = refl
-type_is_done Words = refl
-type_is_done Opened = refl
-type_is_done Counted = refl
-type_is_done Further = refl
-type_is_done Behind = refl
-type_is_done Array = refl
-type_is_done Ended = refl
+type_is_done x = refl
 
 type_covers : (s : TypeSpot) (t : Lexeme) → type_done s ≡ true → type_goes_on t ≡ false → type_step s t ≡ None
 unfolding type_step type_done type_goes_on
 type_covers Begin t d free = absurd cc
 type_covers (FirstWord short) t d free = let a = or_parts (is_type_word t) (is_sign 46 t || (is_sign 40 t || is_sign 91 t)) free in let b = or_parts (is_sign 46 t) (is_sign 40 t || is_sign 91 t) a.1 in let c = or_parts (is_sign 40 t) (is_sign 91 t) b.1 in rw (b.0, a.0, c.0, c.1) refl
-type_covers Schema t d free = absurd cc
-type_covers Dotted t d free = absurd cc
 type_covers Path t d free = refl
 type_covers Words t d free = let a = or_parts (is_type_word t) (is_sign 46 t || (is_sign 40 t || is_sign 91 t)) free in let b = or_parts (is_sign 46 t) (is_sign 40 t || is_sign 91 t) a.1 in let c = or_parts (is_sign 40 t) (is_sign 91 t) b.1 in rw (a.0, c.0, c.1) refl
-type_covers Opened t d free = absurd cc
-type_covers Counted t d free = absurd cc
-type_covers Further t d free = absurd cc
 type_covers Behind t d free = let a = or_parts (is_type_word t) (is_sign 46 t || (is_sign 40 t || is_sign 91 t)) free in let b = or_parts (is_sign 46 t) (is_sign 40 t || is_sign 91 t) a.1 in let c = or_parts (is_sign 40 t) (is_sign 91 t) b.1 in rw (a.0, c.1) refl
-type_covers Array t d free = absurd cc
 type_covers Ended t d free = refl
+type_covers x t d free = absurd cc
 
 pub typing_ends : CanEnd typing
 typing_ends = record { finish = type_finish; last = type_last; finished = type_finished; done = type_is_done; covers = type_covers }
@@ -217,10 +166,7 @@ type_laws = seen_laws type_of (runs_of typing) (machine_laws typing typing_ends)
 end_sign : (k : TokenKind) (b : ℕ) → (b == 41 || b == 93 || b == 59) ≡ true → is_sign_kind b k ≡ true → is_end_kind k ≡ true
 end_sign (Sign c) b ends e = let same : b ≡ c = eqb-true b c e in subst (λ (x : ℕ). (x == 41 || x == 93 || x == 59) ≡ true) same ends
 end_sign Word b ends e = absurd cc
-end_sign QuotedName b ends e = absurd cc
-end_sign Literal b ends e = absurd cc
-end_sign Number b ends e = absurd cc
-end_sign MetaLine b ends e = absurd cc
+end_sign x b ends e = absurd cc
 
 -- a closing bracket and a semicolon end each run
 pub run_ends : (bounded : Bool) (b : ℕ) → (b == 41 || b == 93 || b == 59) ≡ true → (t : Lexeme) → is_sign b t ≡ true → not (ends_run bounded t) ≡ false

@@ -20,23 +20,8 @@ long_name (Err long) t ts = refl
 first_step : (s : RestSpot) (t : Lexeme) (ts : List Lexeme) → step_first s (t ∷ ts) ≡ rest_step s t
 unfolding step_first rest_step
 first_step Begin t ts = refl
-first_step Deferrable t ts = refl
-first_step Initially t ts = refl
-first_step Ended t ts = refl
-first_step Foreign t ts = refl
-first_step FirstOn t ts = refl
-first_step Update t ts = refl
-first_step UpdateNo t ts = refl
-first_step UpdateSet t ts = refl
-first_step Updated t ts = refl
-first_step SecondOn t ts = refl
-first_step Delete t ts = refl
-first_step DeleteNo t ts = refl
-first_step DeleteSet t ts = refl
-first_step Chosen t ts = refl
 first_step Opened t ts = first_name (name_value t) t ts
-first_step Named t ts = refl
-first_step Deleted t ts = refl
+first_step x t ts = refl
 
 first_long : (s : RestSpot) (t : Lexeme) (ts : List Lexeme) → long_first s (t ∷ ts) ≡ rest_long s t
 unfolding long_first rest_long

@@ -15,14 +15,10 @@ use Rattle.ddl_numbers.proofs.Places.{IsAt}
 first_at : (spot : ClauseSpot) (c : Clauses) (t : Lexeme) (ts : List Lexeme) → step_first (reached c spot) (t ∷ ts) ≡ step_first (reached c spot) (t ∷ [])
 unfolding step_first clause_first kind_first usual_first
 first_at Between c t ts = refl
-first_at BehindAs c t ts = refl
-first_at BehindStart c t ts = refl
-first_at BehindIncrement c t ts = refl
 first_at (BehindNo Both) c t ts = refl
 first_at (BehindNo Lower) c t ts = refl
 first_at (BehindNo Upper) c t ts = refl
-first_at (Due field) c t ts = refl
-first_at (BehindMinus field) c t ts = refl
+first_at x c t ts = refl
 
 -- the clauses behind some tokens that were taken
 abbrev pub behind : Reached → List Lexeme → Clauses

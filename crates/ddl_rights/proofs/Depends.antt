@@ -1,9 +1,10 @@
 -- The laws of a part whose value decides what stands behind it.
-use Rattle.std.proofs.Common.{◌≡◌, Bool, false, List, [], ◌∷◌, ◌++◌, Ok, Err, refl, sym, ap, ◌∙◌, append_assoc, ◌⊎◌, inl, inr}
+use Rattle.std.proofs.Common.{◌≡◌, Bool, false, List, ◌∷◌, ◌++◌, Ok, Err, refl, sym, ap, ◌∙◌, append_assoc, ◌⊎◌, inl, inr}
 use Rattle.ddl_parts.specs.Lexemes.{Lexeme, starts}
 use Rattle.ddl_parts.specs.Parts.{Stop, Part, ◌>>=◌}
 use Rattle.ddl_parts.specs.Laws.{Found, Stopped, Lawful, Begins, Avoids}
 use Rattle.ddl_parts.proofs.Steps.{bind_ok, bind_err, carried, starts-append}
+use Rattle.ddl_parts.proofs.Telling.{starts_none}
 use Rattle.ddl_rights.specs.Depending.{◌thenby◌}
 
 -- what a value that is spelled decides has the laws, goes on with nothing further and isn't taken for more of the first
@@ -11,14 +12,6 @@ pub record Decided {A B : Type 0} (p : Part A) (f : A → Part B) : Type 0 where
   pub laws : (v : A) (ts : List Lexeme) → p.Spells v ts → Lawful (f v)
   pub ends : (v : A) (t : Lexeme) → (f v).goes_on t ≡ false
   pub avoids : (v : A) (ts : List Lexeme) → p.Spells v ts → Avoids p.goes_on (f v)
-
-pub starts_none : (test : Lexeme → Bool) → ((t : Lexeme) → test t ≡ false) → (ts : List Lexeme) → starts test ts ≡ false
-starts_none test none [] = refl
-starts_none test none (t ∷ ts) = none t
-
--- what goes on with no token is followed by anything
-pub avoids_where : {A : Type 0} (test : Lexeme → Bool) (p : Part A) → ((t : Lexeme) → test t ≡ false) → Avoids test p
-avoids_where test p none v ts rest spells free = starts_none test none (ts ++ rest)
 
 -- read the first, and then what it decides
 decides : {A B : Type 0} (p : Part A) (f : A → Part B) (ts : List Lexeme) (v : A) (mid : List Lexeme) → p.read ts ≡ Ok (v, mid) → (p thenby f).read ts ≡ (f v).read mid

@@ -1,13 +1,9 @@
 -- One token that stands for a value: its laws, and how it is read.
-use Rattle.std.proofs.Common.{◌≡◌, ℕ, zero, suc, ◌+◌, ◌<◌, ◌≤◌, Bool, true, false, List, [], ◌∷◌, length, drop, Option, Some, None, Result, Ok, Err, refl, sym, ap, ◌∙◌, arith, eqb-true}
-use Rattle.std.specs.Prelude.{◌==◌}
-use Rattle.sql_lex.specs.declared.token.TokenKind.{TokenKind}
-use Rattle.sql_lex.specs.declared.token.TokenKind.TheVariants.{Word, QuotedName, Literal, Number, Sign, MetaLine}
-use Rattle.ddl_parts.specs.Lexemes.{Lexeme, is_word, is_sign, is_sign_kind}
+use Rattle.std.proofs.Common.{◌≡◌, ℕ, zero, suc, ◌+◌, ◌<◌, ◌≤◌, Bool, List, [], ◌∷◌, length, drop, Option, Some, None, Result, Ok, Err, refl, sym, ap, ◌∙◌, arith}
+use Rattle.ddl_parts.specs.Lexemes.{Lexeme}
 use Rattle.ddl_parts.specs.Parts.{first_by, seen_at}
-use Rattle.ddl_parts.specs.Laws.{Lawful, Apart}
+use Rattle.ddl_parts.specs.Laws.{Lawful}
 use Rattle.ddl_parts.proofs.Simple.{one_laws}
-use Rattle.ddl_parts.proofs.Leads.{word_no_sign}
 use Rattle.ddl_parts.specs.Leaves.{name, name_value}
 use Rattle.ddl_rights.specs.declared.rights.Wanted.{Wanted}
 use Rattle.ddl_rights.specs.RightsGrammar.{right_first, wanted_first}
@@ -47,24 +43,3 @@ pub first_read : (ts : List Lexeme) → first.read ts ≡ seen_at (λ n. (n, wan
 unfolding wanted_first right_first
 first_read [] = refl
 first_read (t ∷ ts) = first_named t ts (wanted_first (t ∷ ts)) (name_value t)
-
--- ---- tokens that are told apart
-
-pub sign_no_word : (b : ℕ) (key : List ℕ) → Apart (is_sign b) (is_word key)
-sign_no_word b key t e = by (is_word key t) refl
-  where
-    by : (c : Bool) → is_word key t ≡ c → c ≡ false
-    by true is = sym e ∙ word_no_sign key b t is
-    by false is = refl
-
-pub signs_apart : (a b : ℕ) → (b == a) ≡ false → Apart (is_sign a) (is_sign b)
-unfolding is_sign
-signs_apart a b differ t e = by t.kind e
-  where
-    by : (k : TokenKind) → is_sign_kind a k ≡ true → is_sign_kind b k ≡ false
-    by (Sign c) f = ap (λ (x : ℕ). b == x) (sym (eqb-true a c f)) ∙ differ
-    by Word f = refl
-    by QuotedName f = refl
-    by Literal f = refl
-    by Number f = refl
-    by MetaLine f = refl

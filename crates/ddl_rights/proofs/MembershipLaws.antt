@@ -3,18 +3,17 @@ use Rattle.std.proofs.Common.{◌≡◌, ℕ, true, false, List, [], ◌∷◌, 
 use Rattle.std.specs.Prelude.{Option}
 use Rattle.sql_lex.specs.Meaning.{is_keyword_of}
 use Rattle.ddl_parts.specs.Lexemes.{Lexeme, is_word, is_sign}
-use Rattle.ddl_parts.specs.Parts.{Part, mark, seen, nothing, ◌then◌, ◌▸◌, ◌◂◌}
-use Rattle.ddl_parts.specs.Laws.{Lawful, Begins, Avoids}
+use Rattle.ddl_parts.specs.Parts.{Part, mark, seen, ◌then◌, ◌▸◌, ◌◂◌}
+use Rattle.ddl_parts.specs.Laws.{Lawful, Avoids}
 use Rattle.ddl_parts.specs.Leaves.{name}
 use Rattle.ddl_parts.specs.Lists.{comma}
-use Rattle.ddl_parts.proofs.Steps.{avoids_never, avoids_begun}
-use Rattle.ddl_parts.proofs.Simple.{seen_laws, seen_begins, seen_avoids, mark_laws, mark_begins, nothing_laws, nothing_avoids}
-use Rattle.ddl_parts.proofs.Sequence.{then_laws, lead_begins}
-use Rattle.ddl_parts.proofs.Choice.{choose_laws, choose_apart}
-use Rattle.ddl_parts.proofs.Leads.{a_word, a_sign, sign_is, name_laws, word_laws, sign_laws, ended_laws, word_no_sign, words_apart, choose_avoids}
-use Rattle.ddl_parts.proofs.Tables.{one_of_laws, one_of_avoids}
+use Rattle.ddl_parts.proofs.Simple.{seen_avoids}
+use Rattle.ddl_parts.proofs.Leads.{a_word, name_laws, word_no_sign, words_apart}
+use Rattle.ddl_parts.proofs.Tables.{one_of_avoids}
+use Rattle.ddl_parts.proofs.Telling.{free, sign_no_word, signs_apart}
+use Rattle.ddl_parts.proofs.Composing.{Headed, lawful_seen, lawful_word, lawful_ended, lawful_then, lawful_next, headed_word, headed_sign, headed_seen, one_sign, lawful_choose, lawful_either, lawful_unless, avoids_either}
 use Rattle.ddl_rights.specs.Memberships.{truth_first, truth, set_behind, inherit_and_set, others_behind, options, with_options, granted_by, member, member_of, membership}
-use Rattle.ddl_rights.proofs.Firsts.{by_first_laws, sign_no_word, signs_apart}
+use Rattle.ddl_rights.proofs.Firsts.{by_first_laws}
 
 truth_laws : Lawful truth
 unfolding truth_first is_word is_keyword_of
@@ -22,17 +21,13 @@ truth_laws = by_first_laws truth_first (a_word (codes "true")) true refl
 
 set_behind_laws : Lawful set_behind
 unfolding set_behind
-set_behind_laws =
-    choose_laws comma (comma ▸ (is_word (codes "set") ▸ truth)) (nothing comma true)
-    (sign_laws 44 (is_word (codes "set") ▸ truth) (word_laws (codes "set") truth truth_laws)) (nothing_laws comma true)
-    (lead_begins comma (is_word (codes "set") ▸ truth)) (nothing_avoids comma true)
+set_behind_laws = lawful_unless true (headed_sign 44 (lawful_word (codes "set") truth_laws))
 
 inherit_and_set_laws : Lawful inherit_and_set
 unfolding inherit_and_set
 inherit_and_set_laws =
-    one_of_laws (record { key = codes "inherit"; part = seen (λ x. (Some x.0, x.1)) (truth then set_behind) })
-    (record { key = codes "set"; part = seen (λ b. (None, b)) truth } ∷ [])
-    refl (seen_laws (λ x. (Some x.0, x.1)) (truth then set_behind) (then_laws truth set_behind truth_laws set_behind_laws (avoids_never set_behind)), seen_laws (λ b. (None, b)) truth truth_laws)
+    lawful_either (headed_word (codes "inherit") (lawful_seen (λ x. (Some x.0, x.1)) (lawful_next truth_laws set_behind_laws (λ t. refl))))
+    (headed_word (codes "set") (lawful_seen (λ b. (None, b)) truth_laws)) (words_apart (codes "set") (codes "inherit") refl)
 
 inherit_and_set_avoids : Avoids (is_word (codes "admin")) inherit_and_set
 unfolding inherit_and_set
@@ -42,72 +37,49 @@ inherit_and_set_avoids =
 
 others_behind_laws : Lawful others_behind
 unfolding others_behind
-others_behind_laws =
-    choose_laws comma (comma ▸ inherit_and_set) (nothing comma (None, true)) (sign_laws 44 inherit_and_set inherit_and_set_laws) (nothing_laws comma (None, true))
-    (lead_begins comma inherit_and_set) (nothing_avoids comma (None, true))
+others_behind_laws = lawful_unless (None, true) (headed_sign 44 inherit_and_set_laws)
 
 options_laws : Lawful options
 unfolding options
 options_laws =
-    choose_laws (is_word (codes "admin")) (is_word (codes "admin") ▸ (truth then others_behind)) (seen (λ x. (false, x)) inherit_and_set)
-    (word_laws (codes "admin") (truth then others_behind) (then_laws truth others_behind truth_laws others_behind_laws (avoids_never others_behind)))
-    (seen_laws (λ x. (false, x)) inherit_and_set inherit_and_set_laws)
-    (lead_begins (is_word (codes "admin")) (truth then others_behind))
+    lawful_choose (headed_word (codes "admin") (lawful_next truth_laws others_behind_laws (λ t. refl))) (lawful_seen (λ x. (false, x)) inherit_and_set_laws)
     (seen_avoids (is_word (codes "admin")) (λ x. (false, x)) inherit_and_set inherit_and_set_avoids)
 
 with_options_laws : Lawful with_options
 unfolding with_options
-with_options_laws =
-    choose_laws (is_word (codes "with")) (is_word (codes "with") ▸ options) (nothing (is_word (codes "with")) (false, (None, true)))
-    (word_laws (codes "with") options options_laws) (nothing_laws (is_word (codes "with")) (false, (None, true)))
-    (lead_begins (is_word (codes "with")) options) (nothing_avoids (is_word (codes "with")) (false, (None, true)))
+with_options_laws = lawful_unless (false, (None, true)) (headed_word (codes "with") options_laws)
 
 -- options go on with a comma, or begin with WITH
 options_end : (t : Lexeme) → comma t ≡ false → is_word (codes "with") t ≡ false → with_options.goes_on t ≡ false
 unfolding with_options options others_behind inherit_and_set set_behind
 options_end t e f = rw (e, f) refl
 
-abbrev grantor : Part (List ℕ)
-grantor = is_word (codes "granted") ▸ (is_word (codes "by") ▸ (name ◂ is_sign 59))
-
-grantor_laws : Lawful grantor
-grantor_laws = word_laws (codes "granted") (is_word (codes "by") ▸ (name ◂ is_sign 59)) (word_laws (codes "by") (name ◂ is_sign 59) (ended_laws 59 name name_laws (λ t e. refl)))
+grantor : Headed (is_word (codes "granted")) (seen Some (is_word (codes "granted") ▸ (is_word (codes "by") ▸ (name ◂ is_sign 59))))
+grantor = headed_seen Some (headed_word (codes "granted") (lawful_word (codes "by") (lawful_ended 59 name_laws (free (is_sign 59)))))
 
 abbrev unsaid : Part (Option (List ℕ))
 unsaid = seen (λ x. None) (mark (is_sign 59))
 
+no_grantor : Headed (is_sign 59) unsaid
+no_grantor = headed_seen (λ x. None) (one_sign 59)
+
 granted_by_laws : Lawful granted_by
 unfolding granted_by
-granted_by_laws =
-    choose_apart (is_word (codes "granted")) (is_sign 59) (seen Some grantor) unsaid
-    (seen_laws Some grantor grantor_laws) (seen_laws (λ x. None) (mark (is_sign 59)) (mark_laws (is_sign 59) (a_sign 59) (sign_is 59)))
-    (seen_begins (is_word (codes "granted")) Some grantor (lead_begins (is_word (codes "granted")) (is_word (codes "by") ▸ (name ◂ is_sign 59))))
-    (seen_begins (is_sign 59) (λ x. None) (mark (is_sign 59)) (mark_begins (is_sign 59)))
-    (sign_no_word 59 (codes "granted"))
+granted_by_laws = lawful_either grantor no_grantor (sign_no_word 59 (codes "granted"))
 
 granted_by_avoids : Avoids with_options.goes_on granted_by
 unfolding granted_by
 granted_by_avoids =
-    choose_avoids with_options.goes_on (is_word (codes "granted")) (seen Some grantor) unsaid
-    (avoids_begun (is_word (codes "granted")) with_options.goes_on (seen Some grantor) (seen_begins (is_word (codes "granted")) Some grantor (lead_begins (is_word (codes "granted")) (is_word (codes "by") ▸ (name ◂ is_sign 59))))
-    (λ t e. options_end t (word_no_sign (codes "granted") 44 t e) (words_apart (codes "granted") (codes "with") refl t e)))
-    (avoids_begun (is_sign 59) with_options.goes_on unsaid (seen_begins (is_sign 59) (λ x. None) (mark (is_sign 59)) (mark_begins (is_sign 59)))
-    (λ t e. options_end t (signs_apart 59 44 refl t e) (sign_no_word 59 (codes "with") t e)))
+    avoids_either with_options.goes_on grantor (λ t e. options_end t (word_no_sign (codes "granted") 44 t e) (words_apart (codes "granted") (codes "with") refl t e))
+    no_grantor (λ t e. options_end t (signs_apart 59 44 refl t e) (sign_no_word 59 (codes "with") t e))
 
 member_laws : Lawful member
 unfolding member
-member_laws =
-    then_laws name (with_options then granted_by) name_laws
-    (then_laws with_options granted_by with_options_laws granted_by_laws granted_by_avoids)
-    (avoids_never (with_options then granted_by))
+member_laws = lawful_next name_laws (lawful_then with_options_laws granted_by_laws granted_by_avoids) (λ t. refl)
 
-pub membership_laws : (role : List ℕ) → Lawful (membership role)
+pub membership_is : (role : List ℕ) → Headed (is_word (codes "to")) (membership role)
 unfolding membership
-membership_laws role = word_laws (codes "to") (seen (member_of role) member) (seen_laws (member_of role) member member_laws)
-
-pub membership_begins : (role : List ℕ) → Begins (is_word (codes "to")) (membership role)
-unfolding membership
-membership_begins role = lead_begins (is_word (codes "to")) (seen (member_of role) member)
+membership_is role = headed_word (codes "to") (lawful_seen (member_of role) member_laws)
 
 pub membership_ends : (role : List ℕ) (t : Lexeme) → (membership role).goes_on t ≡ false
 unfolding membership member granted_by

@@ -80,28 +80,17 @@ all_is (on.Type q) r e = all_of_type q r.select r.usage r.insert r.references r.
 
 pub kind_some : (k : Kind) → has_rights (kind_rights k) ≡ true
 kind_some Tables = refl
-kind_some Sequences = refl
-kind_some Schemas = refl
-kind_some Types = refl
+kind_some x = refl
 
 pub kind_whole : (k : Kind) → within (kind_rights k) (kind_rights k) ≡ true
 kind_whole Tables = refl
-kind_whole Sequences = refl
-kind_whole Schemas = refl
-kind_whole Types = refl
+kind_whole x = refl
 
 -- ---- some right
 
 none_there : (x : Right) → has x no_rights ≡ true → true ≡ false
 none_there Select e = absurd cc
-none_there Usage e = absurd cc
-none_there Insert e = absurd cc
-none_there References e = absurd cc
-none_there Delete e = absurd cc
-none_there Trigger e = absurd cc
-none_there Truncate e = absurd cc
-none_there Update e = absurd cc
-none_there Create e = absurd cc
+none_there x e = absurd cc
 
 some_by : (s u i f d t c p k : Bool) (x : Right) → has x (rights s u i f d t c p k) ≡ true → has_rights (rights s u i f d t c p k) ≡ true
 some_by true u i f d t c p k x e = refl
@@ -120,14 +109,7 @@ has_some r x e = some_by r.select r.usage r.insert r.references r.delete r.trigg
 
 pub has_it : (x : Right) (r : Rights) → has x (with_right x r) ≡ true
 has_it Select r = refl
-has_it Usage r = refl
-has_it Insert r = refl
-has_it References r = refl
-has_it Delete r = refl
-has_it Trigger r = refl
-has_it Truncate r = refl
-has_it Update r = refl
-has_it Create r = refl
+has_it x r = refl
 
 -- ---- a set as a list
 
@@ -331,21 +313,14 @@ still_there : (x y : Right) (r : Rights) → has y r ≡ true → has y (with_ri
 still_there Select Select r e = refl
 still_there Select _ r e = e
 still_there Usage Usage r e = refl
-still_there Usage _ r e = e
 still_there Insert Insert r e = refl
-still_there Insert _ r e = e
 still_there References References r e = refl
-still_there References _ r e = e
 still_there Delete Delete r e = refl
-still_there Delete _ r e = e
 still_there Trigger Trigger r e = refl
-still_there Trigger _ r e = e
 still_there Truncate Truncate r e = refl
-still_there Truncate _ r e = e
 still_there Update Update r e = refl
-still_there Update _ r e = e
 still_there Create Create r e = refl
-still_there Create _ r e = e
+still_there x _ r e = e
 
 fewer_within : (k r : Rights) (x : Right) → within (with_right x r) k ≡ true → within r k ≡ true
 fewer_within k r x w = has_within r k (λ y e. within_has (with_right x r) k y w (still_there x y r e))

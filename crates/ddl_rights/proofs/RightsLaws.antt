@@ -44,14 +44,7 @@ right_word Create = codes "create"
 right_is : (x : Right) → right_first (a_word (right_word x) ∷ []) ≡ Some x
 unfolding right_first is_word is_keyword_of
 right_is Select = refl
-right_is Usage = refl
-right_is Insert = refl
-right_is References = refl
-right_is Delete = refl
-right_is Trigger = refl
-right_is Truncate = refl
-right_is Update = refl
-right_is Create = refl
+right_is x = refl
 
 abbrev pub kind_word : Kind → List ℕ
 kind_word Tables = codes "table"
@@ -62,9 +55,7 @@ kind_word Types = codes "type"
 kind_is : (k : Kind) → kind_first (a_word (kind_word k) ∷ []) ≡ Some k
 unfolding kind_first is_word is_keyword_of
 kind_is Tables = refl
-kind_is Sequences = refl
-kind_is Schemas = refl
-kind_is Types = refl
+kind_is x = refl
 
 -- ---- rights that some kind has
 
@@ -76,14 +67,7 @@ CanBeOn (These r) = some_kind_has r ≡ true
 pub one_has : (x : Right) → some_kind_has (only x) ≡ true
 unfolding some_kind_has
 one_has Select = refl
-one_has Usage = refl
-one_has Insert = refl
-one_has References = refl
-one_has Delete = refl
-one_has Trigger = refl
-one_has Truncate = refl
-one_has Update = refl
-one_has Create = refl
+one_has x = refl
 
 pub wanted_can : (ts : List Lexeme) (w : Wanted) → wanted_first ts ≡ Some w → CanBeOn w
 unfolding wanted_first
@@ -211,9 +195,7 @@ object_laws Types = seen_laws on.Type qualified qualified_laws
 
 object_ends : (k : Kind) (t : Lexeme) → (object k).goes_on t ≡ false
 object_ends Tables t = refl
-object_ends Sequences t = refl
-object_ends Schemas t = refl
-object_ends Types t = refl
+object_ends x t = refl
 
 abbrev pub object_on : Wanted → Kind → Part (Granted × Rights)
 object_on w k = seen (λ o. (o, rights_on w k)) (object k)

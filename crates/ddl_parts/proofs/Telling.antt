@@ -5,7 +5,7 @@ use Rattle.std.specs.List.{list_any}
 use Rattle.std.specs.Str.{str_eq_ignore_ascii_case, str_to_ascii_lowercase}
 use Rattle.std.proofs.lemmas.Slice.Eq.{bytes_eq-Decides}
 use Rattle.sql_lex.specs.declared.token.TokenKind.{TokenKind}
-use Rattle.sql_lex.specs.declared.token.TokenKind.TheVariants.{Word, QuotedName, Literal, Number, Sign, MetaLine}
+use Rattle.sql_lex.specs.declared.token.TokenKind.TheVariants.{Word, QuotedName, Literal, Sign}
 use Rattle.sql_lex.specs.Meaning.{is_keyword_of}
 use Rattle.ddl_parts.specs.Lexemes.{Lexeme, is_word, is_sign, is_sign_kind, never, starts}
 use Rattle.ddl_parts.specs.Parts.{Part, nothing}
@@ -18,6 +18,13 @@ use Rattle.ddl_parts.proofs.Leads.{word_no_sign}
 pub free : (test : Lexeme → Bool) → Apart test never
 free test t e = refl
 
+pub starts_none : (test : Lexeme → Bool) → ((t : Lexeme) → test t ≡ false) → (ts : List Lexeme) → starts test ts ≡ false
+starts_none test none [] = refl
+starts_none test none (t ∷ ts) = none t
+
+pub avoids_where : {A : Type 0} (test : Lexeme → Bool) (p : Part A) → ((t : Lexeme) → test t ≡ false) → Avoids test p
+avoids_where test p none v ts rest spells free = starts_none test none (ts ++ rest)
+
 -- ---- tokens that are told apart
 
 -- whether a token that is one word is another
@@ -25,10 +32,7 @@ pub same_by : (k : TokenKind) (w a b : List ℕ) → is_keyword_of k w a ≡ tru
 unfolding is_keyword_of
 same_by Word w a b e = let same = (bytes_eq-Decides (str_to_ascii_lowercase w) (str_to_ascii_lowercase a)).0 e in ap (λ (x : List ℕ). bytes_eq x (str_to_ascii_lowercase b)) same
 same_by QuotedName w a b e = absurd cc
-same_by Literal w a b e = absurd cc
-same_by Number w a b e = absurd cc
-same_by (Sign c) w a b e = absurd cc
-same_by MetaLine w a b e = absurd cc
+same_by x w a b e = absurd cc
 
 pub same_word : (a b : List ℕ) (t : Lexeme) → is_word a t ≡ true → is_word b t ≡ str_eq_ignore_ascii_case a b
 unfolding is_word
@@ -52,10 +56,7 @@ pub sign_no_word_by : (k : TokenKind) (w key : List ℕ) (b : ℕ) → is_sign_k
 unfolding is_keyword_of
 sign_no_word_by (Sign c) w key b e = refl
 sign_no_word_by Word w key b e = absurd cc
-sign_no_word_by QuotedName w key b e = absurd cc
-sign_no_word_by Literal w key b e = absurd cc
-sign_no_word_by Number w key b e = absurd cc
-sign_no_word_by MetaLine w key b e = absurd cc
+sign_no_word_by x w key b e = absurd cc
 
 pub sign_no_word : (b : ℕ) (key : List ℕ) → Apart (is_sign b) (is_word key)
 unfolding is_sign is_word
@@ -64,10 +65,7 @@ sign_no_word b key t e = sign_no_word_by t.kind t.word key b e
 pub signs_by : (k : TokenKind) (a b : ℕ) → (b == a) ≡ false → is_sign_kind a k ≡ true → is_sign_kind b k ≡ false
 signs_by (Sign c) a b differ e = let same : a ≡ c = eqb-true a c e in subst (λ (x : ℕ). (b == x) ≡ false) same differ
 signs_by Word a b differ e = refl
-signs_by QuotedName a b differ e = refl
-signs_by Literal a b differ e = refl
-signs_by Number a b differ e = refl
-signs_by MetaLine a b differ e = refl
+signs_by x a b differ e = refl
 
 pub signs_apart : (a b : ℕ) → (b == a) ≡ false → Apart (is_sign a) (is_sign b)
 unfolding is_sign
@@ -76,10 +74,7 @@ signs_apart a b differ t e = signs_by t.kind a b differ e
 pub sign_kind_by : (k : TokenKind) (b : ℕ) → is_sign_kind b k ≡ true → (is_name_kind k ≡ false) × (is_literal_kind k ≡ false) × (is_word_kind k ≡ false)
 sign_kind_by (Sign c) b e = (refl, refl, refl)
 sign_kind_by Word b e = absurd cc
-sign_kind_by QuotedName b e = absurd cc
-sign_kind_by Literal b e = absurd cc
-sign_kind_by Number b e = absurd cc
-sign_kind_by MetaLine b e = absurd cc
+sign_kind_by x b e = absurd cc
 
 pub sign_no_name : (b : ℕ) → Apart (is_sign b) is_name
 unfolding is_sign is_name
@@ -102,9 +97,7 @@ word_is_name key t e = by t.kind e
     by Word e = refl
     by QuotedName e = refl
     by Literal e = absurd cc
-    by Number e = absurd cc
-    by (Sign c) e = absurd cc
-    by MetaLine e = absurd cc
+    by x e = absurd cc
 
 pub begins_more : {A : Type 0} (test other : Lexeme → Bool) (p : Part A) → ((t : Lexeme) → test t ≡ true → other t ≡ true) → Begins test p → Begins other p
 begins_more test other p more begins v ts spells = by ts (begins v ts spells)
