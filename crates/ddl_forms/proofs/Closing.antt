@@ -1,8 +1,8 @@
 -- A part ends with a token: how parts that are put together do.
 use Rattle.std.proofs.Common.{◌≡◌, Bool, true, false, not, cond, ◌&&◌, List, [], ◌∷◌, ◌++◌, Result, Ok, Err, refl, ap, ◌∙◌, ◌⊎◌, inl, inr}
 use Rattle.std.proofs.lemmas.Bool.{and_parts}
-use Rattle.ddl_parts.specs.Lexemes.{Lexeme, is_word}
-use Rattle.ddl_parts.specs.Parts.{Part, Branch, branch, one_of, mark, seen, choose, ◌then◌, ◌▸◌, ◌◂◌}
+use Rattle.ddl_parts.specs.Lexemes.{Lexeme}
+use Rattle.ddl_parts.specs.Parts.{Part, mark, seen, choose, ◌then◌, ◌▸◌, ◌◂◌}
 
 -- ---- the last token
 

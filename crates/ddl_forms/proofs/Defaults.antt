@@ -6,7 +6,7 @@ use Rattle.std.proofs.Math.Utf8.{encode}
 use Rattle.std.proofs.lemmas.Bool.{and_parts, and_from}
 use Rattle.std.proofs.lemmas.List.{take_at, drop_at}
 use Rattle.sql_lex.specs.declared.token.TokenKind.{TokenKind}
-use Rattle.sql_lex.specs.declared.token.TokenKind.TheVariants.{Word, QuotedName, Literal, Number, Sign, MetaLine}
+use Rattle.sql_lex.specs.declared.token.TokenKind.TheVariants.{Word, Sign, MetaLine}
 use Rattle.sql_lex.specs.Bytes.{begins_word, in_word, is_digit}
 use Rattle.sql_lex.specs.Meaning.{is_keyword_of}
 use Rattle.ddl_parts.specs.declared.runs.Bracket.{Bracket}

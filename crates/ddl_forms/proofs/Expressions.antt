@@ -1,7 +1,7 @@
 -- An expression's text is written with the tokens that it has.
 use Rattle.std.proofs.Common.{◌≡◌, ℕ, Bool, true, false, List, [], ◌∷◌, ◌++◌, Some, None, refl, sym, ap, subst, eqb-true}
 use Rattle.sql_lex.specs.declared.token.TokenKind.{TokenKind}
-use Rattle.sql_lex.specs.declared.token.TokenKind.TheVariants.{Word, QuotedName, Literal, Number, Sign, MetaLine}
+use Rattle.sql_lex.specs.declared.token.TokenKind.TheVariants.{Word, Sign, MetaLine}
 use Rattle.ddl_parts.specs.declared.runs.Bracket.{Bracket}
 use Rattle.ddl_parts.specs.declared.runs.Spot.{Spot}
 use Rattle.ddl_parts.specs.Lexemes.{Lexeme, spelled, source, is_sign, is_sign_kind, is_word}

@@ -12,7 +12,7 @@ use Rattle.sql_lex.specs.Written.{written_name, written_literal}
 use Rattle.copy_text.specs.Texts.{IsName}
 use Rattle.cat_model.specs.declared.object.QName.{QName}
 use Rattle.ddl_parts.specs.Lexemes.{Lexeme, is_word, is_sign, spelled}
-use Rattle.ddl_parts.specs.Parts.{Part, Items, Many, no_more, one_more, many, mark, seen, nothing, ◌then◌, ◌▸◌, ◌◂◌}
+use Rattle.ddl_parts.specs.Parts.{Part, mark, seen, nothing, ◌then◌, ◌▸◌, ◌◂◌}
 use Rattle.ddl_parts.specs.Leaves.{name, literal, qualified}
 use Rattle.ddl_write.specs.Paths.{path}
 use Rattle.ddl_parts.specs.Expressions.{expression}
@@ -210,55 +210,3 @@ pub expression_put : (v g : List ℕ) (others : List Lexeme) → IsExpressionTex
 expression_put v g others is gap follows e =
     let k = kept g v others gap is follows.stood (safe_behind others e) in
     record { tokens = k.tokens; bytes = k.bytes; stood = k.stood; spells = k.spells; last = plain_last k.tokens others k.plain follows.last }
-
--- ---- items
-
--- the text of items from a state on
-abbrev pub written : {A : Type 0} → (items : Items A) → (items.State → A → List ℕ) → items.State → List A → List ℕ
-written items text s [] = []
-written items text s (v ∷ vs) = text s v ++ written items text (items.next s v) vs
-
--- an item can be put before whatever may follow it
-abbrev pub CanPut : {A : Type 0} → (items : Items A) → (items.State → A → List ℕ) → items.State → A → Type 0
-CanPut items text s v = (others : List Lexeme) → Follows others → begins_by is_safe_byte (spelled others) ≡ true → IsPut (items.item s) v (text s v) others
-
-abbrev pub AllCanPut : {A : Type 0} → (items : Items A) → (items.State → A → List ℕ) → items.State → List A → Type 0
-AllCanPut items text s [] = Unit {0}
-AllCanPut items text s (v ∷ vs) = CanPut items text s v × AllCanPut items text (items.next s v) vs
-
-pub record AreItems {A : Type 0} (items : Items A) (s : items.State) (vs : List A) (text : List ℕ) (others : List Lexeme) : Type 0 where
-  pub tokens : List Lexeme
-  pub bytes : spelled tokens ≡ text
-  pub stood : Stood (tokens ++ others)
-  pub spells : (at : ℕ) → Many items s vs (placed at tokens)
-  pub last : only_last semicolon (tokens ++ others) ≡ true
-
-first_safe : {A : Type 0} (items : Items A) (text : items.State → A → List ℕ) → ((s : items.State) (v : A) → begins_by is_safe_byte (text s v) ≡ true) → (s : items.State) (vs : List A) (others : List Lexeme) → begins_by is_safe_byte (spelled others) ≡ true
-    → begins_by is_safe_byte (written items text s vs ++ spelled others) ≡ true
-first_safe items text safe s [] others e = e
-first_safe items text safe s (v ∷ vs) others e =
-    begins-append is_safe_byte (text s v ++ written items text (items.next s v) vs) (spelled others) (begins-append is_safe_byte (text s v) (written items text (items.next s v) vs) (safe s v))
-
-items_put_by : {A : Type 0} (items : Items A) (text : items.State → A → List ℕ) → ((s : items.State) (v : A) → begins_by is_safe_byte (text s v) ≡ true) → (s : items.State) (vs : List A) → AllCanPut items text s vs → (others : List Lexeme) → Follows others
-    → begins_by is_safe_byte (spelled others) ≡ true → AreItems items s vs (written items text s vs) others
-items_put_by items text safe s [] all others follows e = record { tokens = []; bytes = refl; stood = follows.stood; spells = λ at. no_more s; last = follows.last }
-items_put_by items text safe s (v ∷ vs) all others follows e =
-    let k = items_put_by items text safe (items.next s v) vs all.1 others follows e in
-    let next : begins_by is_safe_byte (spelled (k.tokens ++ others)) ≡ true =
-    ap (begins_by is_safe_byte) (spelled-append k.tokens others ∙ ap (λ (x : List ℕ). x ++ spelled others) k.bytes) ∙ first_safe items text safe (items.next s v) vs others e in
-    let j = all.0 (k.tokens ++ others) (record { stood = k.stood; last = k.last }) next in
-    record {
-      tokens = j.tokens ++ k.tokens;
-      bytes = spelled-append j.tokens k.tokens ∙ ap (λ (x : List ℕ). x ++ spelled k.tokens) j.bytes ∙ ap (λ (x : List ℕ). text s v ++ x) k.bytes;
-      stood = subst Stood (sym (append_assoc j.tokens k.tokens others)) j.stood;
-      spells = λ at.
-          subst (Many items s (v ∷ vs)) (sym (placed-append at j.tokens k.tokens))
-          (one_more s v vs (placed at j.tokens) (placed (at + length (spelled j.tokens)) k.tokens) (j.spells at) (k.spells _));
-      last = ap (only_last semicolon) (append_assoc j.tokens k.tokens others) ∙ j.last;
-    }
-
-pub items_put : {A : Type 0} (goes_on : Lexeme → Bool) (items : Items A) (text : items.State → A → List ℕ) → ((s : items.State) (v : A) → begins_by is_safe_byte (text s v) ≡ true) → (vs : List A) → AllCanPut items text items.start vs → (others : List Lexeme) → Follows others
-    → begins_by is_safe_byte (spelled others) ≡ true → IsPut (many goes_on items) vs (written items text items.start vs) others
-items_put goes_on items text safe vs all others follows e =
-    let k = items_put_by items text safe items.start vs all others follows e in
-    record { tokens = k.tokens; bytes = k.bytes; stood = k.stood; spells = k.spells; last = k.last }

@@ -10,7 +10,7 @@ use Rattle.std.proofs.lemmas.Bool.Decides.{nat_tests}
 use Rattle.std.proofs.lemmas.List.Elements.{All-from_recursion}
 use Rattle.std.proofs.lemmas.Str.{IsUtf8-from_is_utf8}
 use Rattle.sql_lex.specs.declared.token.TokenKind.{TokenKind}
-use Rattle.sql_lex.specs.declared.token.TokenKind.TheVariants.{Word, QuotedName, Literal, Number, Sign, MetaLine}
+use Rattle.sql_lex.specs.declared.token.TokenKind.TheVariants.{Word, Sign, MetaLine}
 use Rattle.sql_lex.specs.Bytes.{is_blank, is_digit, begins_word, in_word, is_sign as is_sign_byte}
 use Rattle.sql_lex.specs.Meaning.{name_of, is_keyword_of}
 use Rattle.sql_lex.specs.Written.{written_name}
@@ -24,7 +24,7 @@ use Rattle.ddl_parts.specs.Pieces.{lexemes}
 use Rattle.ddl_parts.specs.Collecting.{collected}
 use Rattle.ddl_parts.specs.Leaves.{name_in, name_value}
 use Rattle.ddl_parts.specs.declared.types.TypeSpot.{TypeSpot}
-use Rattle.ddl_parts.specs.declared.types.TypeSpot.TheVariants.{Begin, FirstWord, Schema, Dotted, Path, Words, Opened, Counted, Further, Behind, Array, Ended}
+use Rattle.ddl_parts.specs.declared.types.TypeSpot.TheVariants.{Begin, FirstWord, Schema, Dotted, Path}
 use Rattle.ddl_parts.specs.Types.{typing, type_step, type_done, is_type_word, is_number, if_name, only_if, named, type_of, type_part}
 use Rattle.ddl_write.specs.Paths.{path as path_text}
 use Rattle.ddl_forms.specs.Texts.{semicolon}

@@ -1,12 +1,11 @@
 -- What is read of a text has a property: how parts that are put together have it, and names, texts and expressions.
-use Rattle.std.proofs.Common.{◌≡◌, ℕ, Bool, true, false, cond, List, [], ◌∷◌, ◌++◌, Option, Some, None, Result, Ok, Err, refl, sym, ap, subst, ◌∙◌, ◌⊎◌, inl, inr}
-use Rattle.std.specs.List.{AllByRecursion}
+use Rattle.std.proofs.Common.{◌≡◌, ℕ, Bool, true, false, cond, List, ◌++◌, Option, Some, None, Result, Ok, Err, refl, sym, ap, subst, ◌∙◌, ◌⊎◌, inl, inr}
 use Rattle.std.specs.Str.{IsUtf8, is_utf8}
 use Rattle.std.proofs.lemmas.Str.{IsUtf8-from_is_utf8}
 use Rattle.sql_lex.specs.Meaning.{name_of, literal_of}
 use Rattle.copy_text.specs.Texts.{IsName}
-use Rattle.ddl_parts.specs.Lexemes.{Lexeme, is_word, is_sign, spelled, source}
-use Rattle.ddl_parts.specs.Parts.{Part, Branch, branch, one_of, Items, Many, no_more, one_more as one_item, mark, seen, choose, many, ◌then◌, ◌▸◌, ◌◂◌}
+use Rattle.ddl_parts.specs.Lexemes.{Lexeme, is_sign, source}
+use Rattle.ddl_parts.specs.Parts.{Part, mark, seen, choose, ◌then◌, ◌▸◌, ◌◂◌}
 use Rattle.ddl_parts.specs.Leaves.{name, name_value, literal, literal_value, text_in, qualified}
 use Rattle.ddl_parts.specs.Expressions.{expression}
 use Rattle.ddl_forms.specs.Texts.{IsPath, IsExpressionText}

@@ -17,7 +17,7 @@ use Rattle.cat_model.specs.declared.grant.Grantee.TheVariants as grantees
 use Rattle.cat_model.specs.declared.stmt.Stmt.{Stmt}
 use Rattle.cat_model.specs.Lexemes.{same_text}
 use Rattle.ddl_parts.specs.Lexemes.{Lexeme, is_word, is_sign, spelled}
-use Rattle.ddl_parts.specs.Parts.{Part, many}
+use Rattle.ddl_parts.specs.Parts.{Part, many, ◌▸◌}
 use Rattle.ddl_parts.specs.Leaves.{name, name_value, name_in, qualified}
 use Rattle.ddl_parts.specs.Lists.{comma}
 use Rattle.ddl_write.specs.RightsText.{is_all, with_commas, right_list, rights_text, granted_words, granted_name, grantee_text}
@@ -33,7 +33,7 @@ use Rattle.ddl_rights.specs.RightsGrammar.{only, within, kind_rights, goes_with,
 use Rattle.ddl_rights.specs.Memberships.{membership}
 use Rattle.ddl_rights.specs.Grants.{named_by, first, behind_first}
 use Rattle.ddl_rights.specs.Writable.{kind_of, IsObject, AreRights, IsGrantee}
-use Rattle.ddl_rights.proofs.RightsLaws.{object_on, right_word, kind_word}
+use Rattle.ddl_rights.proofs.RightsLaws.{object_on, right_word, kind_word, joined}
 use Rattle.ddl_rights.proofs.RightSets.{all_is, listed_is, some_listed, written_word, words_are, AllGo, all_go}
 use Rattle.ddl_read.specs.Clauses.{semicolon}
 use Rattle.ddl_forms.proofs.Closing.{only_last}
@@ -41,8 +41,8 @@ use Rattle.ddl_forms.proofs.Kept.{spelled-append}
 use Rattle.ddl_forms.proofs.RunTexts.{placed-append}
 use Rattle.ddl_forms.proofs.Standing.{is_safe_byte, Stands, Stood, placed}
 use Rattle.ddl_forms.proofs.Tokens.{word_token, name_token, Gap, none, space, a_word, a_name, name_means, name_no_sign}
-use Rattle.ddl_forms.proofs.Written.{is_plain, plain_sign}
-use Rattle.ddl_forms.proofs.Putting.{begins_by, parts_words, parted, safe_parts, Follows, IsPut, IsKey, behind, begun, put_as, one_put, name_put, seen_put, word_lead, sign_lead, path_put, written, CanPut, AllCanPut, items_put}
+use Rattle.ddl_forms.proofs.Written.{Written, is_plain, leaf_as, sign_as, lead_as, AllFit, items_text, Follow, many_as}
+use Rattle.ddl_forms.proofs.Putting.{begins_by, parts_words, parted, safe_parts, Follows, IsPut, IsKey, behind, begun, put_as, one_put, name_put, seen_put, word_lead, path_put}
 
 -- ---- key words
 
@@ -168,28 +168,36 @@ on_object_put w o others has is follows e =
 
 -- ---- a list of rights
 
-abbrev right_text : Rights → Right → List ℕ
-right_text s x = 44 ∷ written_word x
-
-right_put : (start s : Rights) (x : Right) → goes_with s x ≡ true → CanPut (more_rights start) right_text s x
-unfolding is_plain
-right_put start s x goes others follows e =
-    let k = word_put (right_behind s) x (written_word x) [] others (right_key x).word (right_key x).utf8 none
+right_put : (s : Rights) (x : Right) (others : List Lexeme) → goes_with s x ≡ true → Follows others → begins_by parts_words (spelled others) ≡ true → IsPut (right_behind s) x (written_word x) others
+right_put s x others goes follows e =
+    word_put (right_behind s) x (written_word x) [] others (right_key x).word (right_key x).utf8 none
     (λ at. (word_at [] (written_word x) at, refl, ap (λ o. told (joining s o)) (right_says x (word_at [] (written_word x) at) refl refl) ∙ ap (λ (b : Bool). told (cond b (Some x) None)) goes))
-    follows (safe_parts (spelled others) e) in
-    sign_lead 44 [] (right_behind s) x (written_word x) others (plain_sign 44 refl).0 refl none k
+    follows e
 
-rights_can_put : (start s : Rights) (xs : List Right) → AllGo s xs → AllCanPut (more_rights start) right_text s xs
-rights_can_put start s [] go = tt
-rights_can_put start s (x ∷ xs) go = (right_put start s x go.0, rights_can_put start _ xs go.1)
+unfoldable more_as : (s : Rights) → Written (comma ▸ right_behind s)
+unfolding is_plain
+more_as s =
+    let right : Written (right_behind s) =
+    leaf_as (λ x. goes_with s x ≡ true) written_word (begins_by parts_words) (λ x goes others follows e. right_put s x others goes follows e) (λ x ts r came spells. joined s x (right_first (spells.0 ∷ [])) spells.2) in
+    lead_as (sign_as none 44 refl) right (λ x goes rest e. refl)
+
+more_follow : (start : Rights) → Follow (more_rights start) more_as (begins_by is_safe_byte)
+unfolding more_as
+more_follow start = record { behind = λ s rest e. safe_parts rest e; begins = λ s x y goes rest e. refl }
 
 abbrev list_text : Rights → List Right → List ℕ
-list_text r xs = written (more_rights r) right_text r xs
+list_text r xs = items_text (more_rights r) more_as r xs
+
+all_fit_behind : (start s : Rights) (xs : List Right) → AllGo s xs → AllFit (more_rights start) more_as s xs
+unfolding more_as
+all_fit_behind start s [] go = tt
+all_fit_behind start s (x ∷ xs) go = (go.0, all_fit_behind start _ xs go.1)
 
 list_put : (r : Rights) (xs : List Right) → AllGo r xs → (others : List Lexeme) → Follows others → begins_by is_safe_byte (spelled others) ≡ true → IsPut (rights_from r) (all_of r xs) (list_text r xs) others
 unfolding rights_from
 list_put r xs go others follows e =
-    seen_put (all_of r) (many comma (more_rights r)) xs (list_text r xs) others (items_put comma (more_rights r) right_text (λ s x. refl) xs (rights_can_put r r xs go) others follows e)
+    let rights = many_as comma (more_rights r) more_as (begins_by is_safe_byte) (more_follow r) in
+    seen_put (all_of r) (many comma (more_rights r)) xs (list_text r xs) others (rights.put xs (all_fit_behind r r xs go) others follows e)
 
 -- how the rights are written behind their first word
 pub record IsWanted (o : Granted) (r : Rights) (text : List ℕ) : Type 0 where
@@ -215,11 +223,13 @@ all_wanted o r is all = record {
   put = λ others follows e. subst (λ (x : Rights). IsPut (on_object All) (o, x) (on_text o) others) (sym (all_is o r all)) (on_object_put All o others refl is follows e);
 }
 
-written_is : (start s : Rights) (xs : List Right) → written (more_rights start) right_text s xs ≡ flat_map (λ word. codes "," ++ word) (map written_word xs)
+written_is : (start s : Rights) (xs : List Right) → items_text (more_rights start) more_as s xs ≡ flat_map (λ word. codes "," ++ word) (map written_word xs)
+unfolding more_as
 written_is start s [] = refl
 written_is start s (x ∷ xs) = ap (λ (t : List ℕ). (44 ∷ written_word x) ++ t) (written_is start _ xs)
 
-list_begins : (start s : Rights) (xs : List Right) (rest : List ℕ) → begins_by is_safe_byte (written (more_rights start) right_text s xs ++ 32 ∷ rest) ≡ true
+list_begins : (start s : Rights) (xs : List Right) (rest : List ℕ) → begins_by is_safe_byte (items_text (more_rights start) more_as s xs ++ 32 ∷ rest) ≡ true
+unfolding more_as
 list_begins start s [] rest = refl
 list_begins start s (x ∷ xs) rest = refl
 
