@@ -29,3 +29,4 @@ pub mod Spelled
 pub mod ColumnLaws
 pub mod ValueLaws
 pub mod TableLaws
+pub mod OnePlace

@@ -104,10 +104,10 @@ is_read limit ts fault s front rest parts spells =
     let e : statement.read ts ≡ Ok (s, rest) = ap statement.read parts ∙ statement_laws.only s front rest spells (left_free rest) in
     ap (λ (r : Reading (Option Stmt)). told limit fault (value_of r)) e
 
-read_whole : (s : Option Stmt) (ts : List Lexeme) → statement.Spells s ts → statement.read ts ≡ Ok (s, [])
+pub read_whole : (s : Option Stmt) (ts : List Lexeme) → statement.Spells s ts → statement.read ts ≡ Ok (s, [])
 read_whole s ts spells = ap statement.read (sym (append-nil ts)) ∙ statement_laws.only s ts [] spells refl
 
-not_both : (r : Reading (Option Stmt)) (s : Option Stmt) (u : Stop) → r ≡ Ok (s, []) → r ≡ Err u → ⊥
+pub not_both : (r : Reading (Option Stmt)) (s : Option Stmt) (u : Stop) → r ≡ Ok (s, []) → r ≡ Err u → ⊥
 not_both r s u e f = absurd (cc (e, f))
 
 -- where reading tokens stops
@@ -196,7 +196,7 @@ begins_no_line text at start end s next spells =
     let l = lexeme_of text (record { from = at; token = t }) in
     not_both (statement.read (lexemes text (collected_by behind at (Ok (Some t))).pieces)) s (record { long = false; rest = _ }) (read_whole s (lexemes text (collected_by behind at (Ok (Some t))).pieces) here) (refuses l.gap l.word l.start _)
 
-no_line_of : (text : List ℕ) (at : ℕ) (s : Option Stmt) → statement.Spells s (lexemes text (collected text at).pieces) → (line : Option Token) → line_at text at ≡ line → line_at text at ≡ None
+pub no_line_of : (text : List ℕ) (at : ℕ) (s : Option Stmt) → statement.Spells s (lexemes text (collected text at).pieces) → (line : Option Token) → line_at text at ≡ line → line_at text at ≡ None
 no_line_of text at s spells None e = e
 no_line_of text at s spells (Some u) e = absurd (begins_no_line text at u.start u.end s (a_line text at u e) spells)
 
@@ -228,10 +228,10 @@ whole_bounds text at (Some s) w le e = let same : at ≡ w.end = cc e in (omega 
 abbrev read_all : List Located → Result (List Located) DdlFault
 read_all found = Ok found
 
-abbrev header : List ℕ → ℕ → Result (Option Stmt) DdlFault
+abbrev pub header : List ℕ → ℕ → Result (Option Stmt) DdlFault
 header text at = statement_of (length text) (lexemes text (collected text at).pieces) (collected text at).fault
 
-abbrev parsed : List ℕ → ℕ → Result Whole DdlFault
+abbrev pub parsed : List ℕ → ℕ → Result Whole DdlFault
 parsed text at = whole_of text (collected text at).end (header text at)
 
 abbrev by_start : ℕ → List ℕ → ℕ → Option ℕ → Result (List Located) DdlFault
@@ -240,11 +240,11 @@ by_start n text at start = statements_by (statements_within n text) text (collec
 abbrev by_line : ℕ → List ℕ → ℕ → Option Token → Result (List Located) DdlFault
 by_line n text at line = statements_at (statements_within n text) text at line
 
-begun_by : (n : ℕ) (text : List ℕ) (at : ℕ) (line : Option Token) → line_at text at ≡ line → statements_within (suc n) text at ≡ by_line n text at line
+pub begun_by : (n : ℕ) (text : List ℕ) (at : ℕ) (line : Option Token) → line_at text at ≡ line → statements_within (suc n) text at ≡ by_line n text at line
 unfolding statements_within
 begun_by n text at line e = ap (by_line n text at) e
 
-begun : (n : ℕ) (text : List ℕ) (at : ℕ) (start : Option ℕ) → line_at text at ≡ None → first_start (collected text at).pieces ≡ start → statements_within (suc n) text at ≡ by_start n text at start
+pub begun : (n : ℕ) (text : List ℕ) (at : ℕ) (start : Option ℕ) → line_at text at ≡ None → first_start (collected text at).pieces ≡ start → statements_within (suc n) text at ≡ by_start n text at start
 begun n text at start plain e = begun_by n text at None plain ∙ ap (by_start n text at) e
 
 bind_ok : {A B : Type 0} (r : Result A DdlFault) (f : A → Result B DdlFault) (y : B) → (r >>= f) ≡ Ok y → (x : A) × (r ≡ Ok x) × (f x ≡ Ok y)
@@ -255,7 +255,7 @@ bind_err : {A B : Type 0} (r : Result A DdlFault) (f : A → Result B DdlFault) 
 bind_err (Ok x) f s e = inr (x, refl, e)
 bind_err (Err d) f s e = inl cc
 
-spelled_whole : (text : List ℕ) (at : ℕ) (h : Option Stmt) → header text at ≡ Ok h → statement.Spells h (lexemes text (collected text at).pieces)
+pub spelled_whole : (text : List ℕ) (at : ℕ) (h : Option Stmt) → header text at ≡ Ok h → statement.Spells h (lexemes text (collected text at).pieces)
 spelled_whole text at h e =
     let p = is_spelled (length text) (lexemes text (collected text at).pieces) (collected text at).fault h e in
     let all : lexemes text (collected text at).pieces ≡ p.0 = p.2 ∙ ap (λ (r : List Lexeme). p.0 ++ r) (takes_all text at h p.0 p.1 p.2 p.3) ∙ append-nil p.0 in
@@ -328,7 +328,7 @@ finds_all : (n : ℕ) → FindsAll n
 finds_all zero text at le enough found e = absurd (omega arith)
 finds_all (suc n) text at le enough found e = finds_line n (finds_all n) text at le enough found (line_at text at) refl (sym (begun_by n text at (line_at text at) refl) ∙ e)
 
-some_fuel : (n k : ℕ) → k < n → (m : ℕ) × (n ≡ suc m)
+pub some_fuel : (n k : ℕ) → k < n → (m : ℕ) × (n ≡ suc m)
 some_fuel zero k lt = absurd (omega arith)
 some_fuel (suc n) k lt = (n, refl)
 

@@ -7,6 +7,7 @@ ghost use Rattle.ddl_parts.specs.Pieces.{lexemes};
 ghost use Rattle.ddl_read.specs.ValueGrammar.{path_in};
 ghost use Rattle.ddl_read.specs.declared.located.Located.{Located};
 ghost use Rattle.ddl_read.specs.declared.fault.DdlFault.{DdlFault};
+ghost use Rattle.ddl_read.specs.Faults.{fault_place};
 ghost use Rattle.ddl_read.specs.Reading.{statements_of};
 ghost use Rattle.ddl_laws.specs.Readings.{Reads, FailsAt};
 ghost use Rattle.cat_model.specs.declared.stmt.Stmt.{Stmt};
@@ -26,6 +27,12 @@ pub fn reading_is_exact()
 /// A fault is at the first place from which on no statement goes on: what stands before it can be finished.
 pub fn the_first_fault_is_told()
     ensures { (text : List ℕ) (fault : DdlFault) → statements_of text ≡ Err fault → FailsAt text 0 fault }
+{}
+
+/// And where a text reads up to a fault, it is read up to one, at the same place.
+pub fn a_fault_has_one_place()
+    ensures { (text : List ℕ) (fault : DdlFault) → FailsAt text 0 fault
+        → (found : DdlFault) × (statements_of text ≡ Err found) × (fault_place found ≡ fault_place fault) }
 {}
 
 /// A literal's text is a path exactly where all of its tokens together spell it, and no fault stands behind them.
