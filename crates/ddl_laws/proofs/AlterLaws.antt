@@ -52,7 +52,7 @@ foreign_body_laws =
     let parents = lawful_word (codes "references") (lawful_next qualified_laws (lawful_next columns_are.laws foreign_rest_laws columns_free) (λ t. refl)) in
     lawful_seen foreign_of (lawful_word (codes "key") (lawful_next columns_are.laws parents columns_free))
 
-constraint_body_laws : Lawful constraint_body
+pub constraint_body_laws : Lawful constraint_body
 unfolding constraint_body
 constraint_body_laws =
     one_of_laws (record { key = codes "check"; part = check_body })

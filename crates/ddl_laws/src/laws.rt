@@ -4,6 +4,8 @@ ghost use Rattle.cat_model.specs.declared.object.QName.{QName};
 ghost use Rattle.ddl_parts.specs.Collecting.{collected};
 ghost use Rattle.ddl_parts.specs.Leaves.{qualified};
 ghost use Rattle.ddl_parts.specs.Pieces.{lexemes};
+ghost use Rattle.ddl_parts.specs.Laws.{Lawful};
+ghost use Rattle.ddl_read.specs.AlterGrammar.{constraint_body};
 ghost use Rattle.ddl_read.specs.ValueGrammar.{path_in};
 ghost use Rattle.ddl_read.specs.declared.located.Located.{Located};
 ghost use Rattle.ddl_read.specs.declared.fault.DdlFault.{DdlFault};
@@ -33,6 +35,11 @@ pub fn the_first_fault_is_told()
 pub fn a_fault_has_one_place()
     ensures { (text : List ℕ) (fault : DdlFault) → FailsAt text 0 fault
         → (found : DdlFault) × (statements_of text ≡ Err found) × (fault_place found ≡ fault_place fault) }
+{}
+
+/// A constraint's definition has the laws of a part.
+pub fn constraints_have_their_laws()
+    ensures { Lawful constraint_body }
 {}
 
 /// A literal's text is a path exactly where all of its tokens together spell it, and no fault stands behind them.

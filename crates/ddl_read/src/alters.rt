@@ -117,9 +117,9 @@ fn foreign_body(
     ))
 }
 
-/// What a constraint says.
+/// What a constraint says: its definition, from a place of the tokens on.
 #[tactic(auto, unfolding(crate::specs::AlterGrammar::constraint_body))]
-fn constraint_body(
+pub fn constraint_body(
     alloc: Global,
     pieces: &Pieces<'_>,
     at: usize,

@@ -14,6 +14,7 @@ mod sequences;
 mod tables;
 mod values;
 
+pub use alters::{Constraint, constraint_body};
 pub use fault::{DdlFault, ReadStmtsError};
 pub use located::Located;
 pub use reading::read_stmts;
