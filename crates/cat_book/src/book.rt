@@ -70,35 +70,42 @@ impl<'a> Book<'a> {
     pub fn has_schema(&self, oid: u32) -> bool
         ensures { result ≡ has_oid (schema_oids self.now.pg_namespace) oid }
     {
-        self.leads.schemas.has(oid)
+        self.leads.oids.schemas.has(oid)
     }
 
     /// The first schema of this oid; `None` where there is none.
     pub fn schema_of(&self, oid: u32) -> Option<&NamespaceRow>
         ensures { option_map (λ s. s.now) result ≡ schema_of self.now.pg_namespace oid }
     {
-        schema_of(&self.leads.schemas, self.cat.pg_namespace.as_slice(), oid)
+        schema_of(
+            &self.leads.oids.schemas,
+            self.cat.pg_namespace.as_slice(),
+            oid,
+        )
     }
 
     /// Whether an oid is that of a type, or 0, which stands for none.
     pub fn is_base_there(&self, oid: u32) -> bool
         ensures { result ≡ is_base_there self.now.pg_type oid }
     {
-        oid == 0 || self.leads.types.has(oid)
+        oid == 0 || self.leads.oids.types.has(oid)
     }
 
     /// The first type of this oid; `None` where there is none.
     pub fn type_of(&self, oid: u32) -> Option<&TypeRow>
         ensures { option_map (λ t. t.now) result ≡ type_of self.now.pg_type oid }
     {
-        row_at(self.cat.pg_type.as_slice(), self.leads.types.find(oid))
+        row_at(self.cat.pg_type.as_slice(), self.leads.oids.types.find(oid))
     }
 
     /// The first relation of this oid; `None` where there is none.
     pub fn class_of(&self, oid: u32) -> Option<&ClassRow>
         ensures { option_map (λ c. c.now) result ≡ class_of self.now.pg_class oid }
     {
-        row_at(self.cat.pg_class.as_slice(), self.leads.classes.find(oid))
+        row_at(
+            self.cat.pg_class.as_slice(),
+            self.leads.oids.classes.find(oid),
+        )
     }
 
     /// What the first relation of this oid is; `None` where there is none.
@@ -117,7 +124,7 @@ impl<'a> Book<'a> {
     {
         row_at(
             self.cat.pg_constraint.as_slice(),
-            self.leads.constraints.find(oid),
+            self.leads.oids.constraints.find(oid),
         )
     }
 
@@ -126,7 +133,7 @@ impl<'a> Book<'a> {
         ensures { IfOk result (λ path. path ≡ path_in self.now.pg_namespace oid name.now) }
     {
         path_in(
-            &self.leads.schemas,
+            &self.leads.oids.schemas,
             self.cat.pg_namespace.as_slice(),
             oid,
             name,
@@ -171,35 +178,38 @@ impl<'a> Book<'a> {
     pub fn has_type(&self, path: &QName) -> bool
         ensures { result ≡ has_path (type_paths self.now) path.now }
     {
-        self.leads.type_paths.contains(path)
+        self.leads.named.type_paths.contains(path)
     }
 
     /// Whether there is a relation of this path.
     pub fn has_class(&self, path: &QName) -> bool
         ensures { result ≡ has_path (class_paths self.now) path.now }
     {
-        self.leads.class_paths.contains(path)
+        self.leads.named.class_paths.contains(path)
     }
 
     /// Whether the chain of a type's bases ends.
     pub fn chain_ends(&self, row: &TypeRow) -> bool
         ensures { result ≡ chain_ends self.now.pg_type row.now }
     {
-        ends_at(&self.leads.ends, base_place(&self.leads.types, row))
+        ends_at(&self.leads.ends, base_place(&self.leads.oids.types, row))
     }
 
     /// How many labels a type has.
     pub fn label_count(&self, oid: u32) -> usize
         ensures { result ≡ label_count self.now oid }
     {
-        self.leads.labels.count(oid)
+        self.leads.owners.labels.count(oid)
     }
 
     /// Whether a relation has a column of this number.
     pub fn has_number(&self, relation: u32, number: i64) -> bool
         ensures { result ≡ has_number self.now relation number }
     {
-        self.leads.column_numbers.contains(&(relation, number))
+        self.leads
+            .named
+            .column_numbers
+            .contains(&(relation, number))
     }
 
     /// Whether a relation has a column of this name.
@@ -207,35 +217,35 @@ impl<'a> Book<'a> {
         ensures { IfOk result (λ has. has ≡ has_column self.now relation name.now) }
     {
         let key = (relation, name.clone()?);
-        Ok(self.leads.column_names.contains(&key))
+        Ok(self.leads.named.column_names.contains(&key))
     }
 
     /// How many columns a relation has.
     pub fn column_count(&self, relation: u32) -> usize
         ensures { result ≡ column_count self.now relation }
     {
-        self.leads.columns.count(relation)
+        self.leads.owners.columns.count(relation)
     }
 
     /// Whether an index belongs to a primary key or a unique constraint.
     pub fn is_of_key(&self, index: u32) -> bool
         ensures { result ≡ has_oid (key_indexes self.now) index }
     {
-        0 < self.leads.key_indexes.count(index)
+        0 < self.leads.owners.key_indexes.count(index)
     }
 
     /// Whether no more than one key has this index.
     pub fn is_of_one_key(&self, index: u32) -> bool
         ensures { result ≡ nat_le (count_of (key_indexes self.now) index) 1 }
     {
-        self.leads.key_indexes.count(index) <= 1
+        self.leads.owners.key_indexes.count(index) <= 1
     }
 
     /// Whether a table has no more than one primary key.
     pub fn has_one_primary(&self, table: u32) -> bool
         ensures { result ≡ nat_le (count_of (primary_tables self.now) table) 1 }
     {
-        self.leads.primary_tables.count(table) <= 1
+        self.leads.owners.primary_tables.count(table) <= 1
     }
 
     /// Whether a relation of this kind has the row that it needs in another table.
@@ -243,9 +253,9 @@ impl<'a> Book<'a> {
         ensures { result ≡ has_own_row self.now kind oid }
     {
         match kind {
-            RelationKind::View => self.leads.views.has(oid),
-            RelationKind::Sequence => self.leads.sequences.has(oid),
-            RelationKind::Index => self.leads.indexes.has(oid) || self.is_of_key(oid),
+            RelationKind::View => self.leads.own_rows.views.has(oid),
+            RelationKind::Sequence => self.leads.own_rows.sequences.has(oid),
+            RelationKind::Index => self.leads.own_rows.indexes.has(oid) || self.is_of_key(oid),
             RelationKind::Table | RelationKind::Other(_) => true,
         }
     }

@@ -4,7 +4,7 @@ ghost use Rattle.cat_model.specs.declared.object.QName.{QName as Path};
 ghost use Rattle.cat_model.specs.Values.{Bytes};
 ghost use Rattle.cat_names.specs.Indexed.{AreKeys};
 ghost use Rattle.cat_names.specs.Schemas.{schema_oids};
-ghost use Rattle.cat_book.specs.Beside.{IsBeside};
+ghost use Rattle.cat_book.specs.Beside.{AreOids, AreOwnRows, AreOwners, AreNamed, IsBeside};
 ghost use Rattle.cat_book.specs.Leads.{column_cmp, numbered, named};
 ghost use Rattle.cat_book.specs.Paths.{path_cmp, schema_of, path_in, type_path, class_path};
 ghost use Rattle.cat_book.specs.Rules.{Place, place_cmp};
@@ -19,12 +19,10 @@ use copy_text::Name;
 use std::alloc::{AllocError, Global};
 use std::collections::BTreeSet;
 
-/// What stands beside a catalogue in its book. Where several rows have an oid, it leads to the first.
+/// The oids of rows, in their order.
 #[derive(Drop)]
-pub(crate) struct Leads<'a> {
-    /// The roles.
-    pub(crate) roles: RoleIndex<'a>,
-    /// The oids of the schemas.
+pub(crate) struct Oids {
+    /// Those of the schemas.
     pub(crate) schemas: OidIndex,
     /// Those of the types.
     pub(crate) types: OidIndex,
@@ -32,12 +30,22 @@ pub(crate) struct Leads<'a> {
     pub(crate) classes: OidIndex,
     /// Those of the constraints.
     pub(crate) constraints: OidIndex,
+}
+
+/// The relations that have a row in a table of their own.
+#[derive(Drop)]
+pub(crate) struct OwnRows {
     /// The views that have a row of pg_rewrite.
     pub(crate) views: OidIndex,
     /// The sequences that have a row of pg_sequence.
     pub(crate) sequences: OidIndex,
     /// The indexes that have a row of pg_index.
     pub(crate) indexes: OidIndex,
+}
+
+/// What keys, labels and columns belong to.
+#[derive(Drop)]
+pub(crate) struct Owners {
     /// The indexes of primary keys and unique constraints.
     pub(crate) key_indexes: OidCounts,
     /// The tables of primary keys.
@@ -46,14 +54,34 @@ pub(crate) struct Leads<'a> {
     pub(crate) labels: OidCounts,
     /// The relations of columns.
     pub(crate) columns: OidCounts,
+}
+
+/// What is found by names, and columns by numbers.
+#[derive(Drop)]
+pub(crate) struct Named {
     /// The columns by their relations and numbers.
     pub(crate) column_numbers: BTreeSet<(u32, i64)>,
     /// The columns by their relations and names.
     pub(crate) column_names: BTreeSet<(u32, Name)>,
-    /// The paths of types: schema and name.
+    /// The paths of types.
     pub(crate) type_paths: BTreeSet<QName>,
     /// The paths of relations of any kind.
     pub(crate) class_paths: BTreeSet<QName>,
+}
+
+/// What stands beside a catalogue in its book. Where several rows have an oid, it leads to the first.
+#[derive(Drop)]
+pub(crate) struct Leads<'a> {
+    /// The roles.
+    pub(crate) roles: RoleIndex<'a>,
+    /// The oids of rows.
+    pub(crate) oids: Oids,
+    /// The relations that have a row in a table of their own.
+    pub(crate) own_rows: OwnRows,
+    /// What keys, labels and columns belong to.
+    pub(crate) owners: Owners,
+    /// What is found by names.
+    pub(crate) named: Named,
     /// Whether the chain of the bases of the type at a place ends.
     pub(crate) ends: Vec<bool>,
 }
@@ -175,45 +203,86 @@ fn column_names(alloc: Global, rows: &[AttributeRow]) -> Result<BTreeSet<(u32, N
     Ok(set)
 }
 
-/// What leads where in a catalogue.
-pub(crate) fn leads_of(alloc: Global, cat: &Catalogue) -> Result<Leads<'_>, AllocError>
-    ensures { IfOk result (λ leads. IsBeside cat.now leads) }
+// The oids of rows.
+fn oids_of(alloc: Global, cat: &Catalogue) -> Result<Oids, AllocError>
+    ensures { IfOk result (λ oids. AreOids cat.now oids) }
 {
-    let spaces = cat.pg_namespace.as_slice();
-    let roles = RoleIndex::of(alloc, cat.pg_authid.as_slice())?;
-    let schemas = oids::schemas(alloc, spaces)?;
+    let schemas = oids::schemas(alloc, cat.pg_namespace.as_slice())?;
     let types = oids::types(alloc, cat.pg_type.as_slice())?;
     let classes = oids::classes(alloc, cat.pg_class.as_slice())?;
     let constraints = oids::constraints(alloc, cat)?;
-    let views = oids::views(alloc, cat)?;
-    let sequences = oids::sequences(alloc, cat)?;
-    let indexes = oids::indexes(alloc, cat)?;
-    let key_indexes = oids::key_indexes(alloc, cat)?;
-    let primary_tables = oids::primary_tables(alloc, cat)?;
-    let labels = oids::labels(alloc, cat)?;
-    let columns = oids::columns(alloc, cat)?;
-    let column_numbers = column_numbers(alloc, cat.pg_attribute.as_slice())?;
-    let column_names = column_names(alloc, cat.pg_attribute.as_slice())?;
-    let type_paths = type_paths(alloc, &schemas, spaces, cat.pg_type.as_slice())?;
-    let class_paths = class_paths(alloc, &schemas, spaces, cat.pg_class.as_slice())?;
-    let ends = chain_ends(alloc, &types, cat.pg_type.as_slice())?;
-    Ok(Leads {
-        roles,
+    Ok(Oids {
         schemas,
         types,
         classes,
         constraints,
+    })
+}
+
+// The relations that have a row in a table of their own.
+fn own_rows_of(alloc: Global, cat: &Catalogue) -> Result<OwnRows, AllocError>
+    ensures { IfOk result (λ own. AreOwnRows cat.now own) }
+{
+    let views = oids::views(alloc, cat)?;
+    let sequences = oids::sequences(alloc, cat)?;
+    let indexes = oids::indexes(alloc, cat)?;
+    Ok(OwnRows {
         views,
         sequences,
         indexes,
+    })
+}
+
+// What keys, labels and columns belong to.
+fn owners_of(alloc: Global, cat: &Catalogue) -> Result<Owners, AllocError>
+    ensures { IfOk result (λ owners. AreOwners cat.now owners) }
+{
+    let key_indexes = oids::key_indexes(alloc, cat)?;
+    let primary_tables = oids::primary_tables(alloc, cat)?;
+    let labels = oids::labels(alloc, cat)?;
+    let columns = oids::columns(alloc, cat)?;
+    Ok(Owners {
         key_indexes,
         primary_tables,
         labels,
         columns,
+    })
+}
+
+// What is found by names.
+fn named_of(alloc: Global, cat: &Catalogue, schemas: &OidIndex) -> Result<Named, AllocError>
+    requires { schemas.now ≡ schema_oids cat.now.pg_namespace }
+    ensures { IfOk result (λ found. AreNamed cat.now found) }
+{
+    let spaces = cat.pg_namespace.as_slice();
+    let column_numbers = column_numbers(alloc, cat.pg_attribute.as_slice())?;
+    let column_names = column_names(alloc, cat.pg_attribute.as_slice())?;
+    let type_paths = type_paths(alloc, schemas, spaces, cat.pg_type.as_slice())?;
+    let class_paths = class_paths(alloc, schemas, spaces, cat.pg_class.as_slice())?;
+    Ok(Named {
         column_numbers,
         column_names,
         type_paths,
         class_paths,
+    })
+}
+
+/// What leads where in a catalogue.
+pub(crate) fn leads_of(alloc: Global, cat: &Catalogue) -> Result<Leads<'_>, AllocError>
+    ensures { IfOk result (λ leads. IsBeside cat.now leads) }
+{
+    let oids = oids_of(alloc, cat)?;
+    let named = named_of(alloc, cat, &oids.schemas)?;
+    let ends = chain_ends(alloc, &oids.types, cat.pg_type.as_slice())?;
+    let own_rows = own_rows_of(alloc, cat)?;
+    let owners = owners_of(alloc, cat)?;
+    let roles = RoleIndex::of(alloc, cat.pg_authid.as_slice())?;
+    Ok(Leads {
+        roles,
+        oids,
+        own_rows,
+        owners,
+        named,
         ends,
     })
 }

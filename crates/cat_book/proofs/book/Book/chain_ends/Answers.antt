@@ -9,6 +9,6 @@ returns c =
     let ends = c.self.inside.leads.ends.items in
     c.ends_at.ensures
     ∙ ap (λ es. unwrap_or (option_and_then (slice_get es) c.base_place.result) true) c.deref.ensures.value
-    ∙ ap (λ o. unwrap_or (option_and_then (slice_get ends) o) true) (c.base_place.ensures ∙ ap (λ os. base_place os c.args.row.now) c.self.invariant.types)
+    ∙ ap (λ o. unwrap_or (option_and_then (slice_get ends) o) true) (c.base_place.ensures ∙ ap (λ os. base_place os c.args.row.now) c.self.invariant.oids.types)
     ∙ chain_by_place cat.pg_type ends c.self.invariant.ends c.args.row.now
     ∙ ap (λ k. chain_ends k.pg_type c.args.row.now) c.self.view_is

@@ -10,6 +10,6 @@ returns c =
     let z = c.args.number in
     let back : to_z w64 (of_z w64 z) ≡ z = to_z-of_z w64 z (search rules) in
     c.contains.ensures
-    ∙ ap (λ n. contains place_cmp c.self.inside.leads.column_numbers (c.args.relation, n)) back
-    ∙ c.self.invariant.column_numbers (c.args.relation, z)
+    ∙ ap (λ n. contains place_cmp c.self.inside.leads.named.column_numbers (c.args.relation, n)) back
+    ∙ c.self.invariant.named.column_numbers (c.args.relation, z)
     ∙ ap (λ k. has_number k c.args.relation z) c.self.view_is

@@ -12,6 +12,6 @@ returns c =
     let rows = c.self.inside.cat.now.pg_type in
     c.row_at.ensures
     ∙ ap (λ rs. option_and_then (slice_get rs) c.find.result) c.as_slice.ensures
-    ∙ ap (option_and_then (slice_get rows)) (c.find.ensures ∙ ap (place_of c.args.oid) c.self.invariant.types)
+    ∙ ap (option_and_then (slice_get rows)) (c.find.ensures ∙ ap (place_of c.args.oid) c.self.invariant.oids.types)
     ∙ sym (row_at_place (λ (r : TypeRow). r.oid) rows c.args.oid)
     ∙ ap (λ k. type_of k.pg_type c.args.oid) c.self.view_is
