@@ -8,10 +8,9 @@ use Rattle.std.specs.Ordering.{nat_cmp, eq_by_cmp}
 use Rattle.cat_model.specs.declared.words.What.{What}
 use Rattle.cat_names.specs.declared.fault.FaultKind.{FaultKind}
 use Rattle.cat_names.specs.declared.fault.Findings.{Findings}
-use Rattle.cat_names.specs.Findings.{first_kind, fault_or, first_from}
+use Rattle.cat_names.specs.Findings.{first_kind, fault_or, first_from, dangling_unless}
 use Rattle.cat_names.specs.Firsts.{IsCleanTable}
 use Rattle.cat_names.specs.Lookups.{has_key}
-use Rattle.cat_names.specs.Roles.{dangling_unless}
 use Rattle.cat_names.proofs.FirstFaults.{no_fault_is_clean}
 use Rattle.cat_names.proofs.Steps.{passed}
 use Rattle.cat_book.specs.Meets.{AreDistinct, AtMostOne, Meets}

@@ -3,7 +3,7 @@ use Rattle.std.specs.Prelude.{◌≡◌}
 use Rattle.cat_rows.specs.declared.catalogue.Catalogue.{Catalogue}
 use Rattle.cat_names.specs.Indexed.{AreKeys}
 use Rattle.cat_names.specs.Kinds.{class_oids}
-use Rattle.cat_names.specs.Schemas.{schema_oids}
+use Rattle.cat_names.specs.Lookups.{schema_oids}
 use Rattle.cat_book.specs.declared.leads.Leads.{Leads}
 use Rattle.cat_book.specs.declared.leads.Oids.{Oids}
 use Rattle.cat_book.specs.declared.leads.OwnRows.{OwnRows}

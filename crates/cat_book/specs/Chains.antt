@@ -2,8 +2,7 @@
 use Rattle.std.specs.Prelude.{◌≡◌, ℕ, zero, suc, Bool, true, false, not, ◌&&◌, ◌==◌, List, length, map, Option, Some, None, option_map, option_and_then, if◌then◌else◌}
 use Rattle.std.specs.List.{find, slice_get}
 use Rattle.cat_rows.specs.declared.types.TypeRow.{TypeRow}
-use Rattle.cat_names.specs.Lookups.{same_oid, place_of}
-use Rattle.cat_names.specs.Roles.{is_no_oid}
+use Rattle.cat_names.specs.Lookups.{same_oid, place_of, is_no_oid}
 
 -- the letter of a domain among the types
 abbrev pub is_domain_letter : ℕ → Bool

@@ -9,10 +9,9 @@ use Rattle.cat_rows.specs.declared.relations.AttributeRow.{AttributeRow}
 use Rattle.cat_rows.specs.declared.constraints.ConstraintRow.{ConstraintRow}
 use Rattle.cat_rows.specs.declared.types.TypeRow.{TypeRow}
 use Rattle.cat_model.specs.Values.{Bytes, bytes_cmp}
-use Rattle.cat_names.specs.declared.class_index.RelationKind.{RelationKind}
-use Rattle.cat_names.specs.declared.class_index.RelationKind.TheVariants.{Table, View, Sequence, Index, Other}
-use Rattle.cat_names.specs.Lookups.{same_oid, has_key, has_oid, count_of}
-use Rattle.cat_names.specs.Roles.{is_no_oid}
+use Rattle.cat_names.specs.declared.relations.RelationKind.{RelationKind}
+use Rattle.cat_names.specs.declared.relations.RelationKind.TheVariants.{Table, View, Sequence, Index, Other}
+use Rattle.cat_names.specs.Lookups.{same_oid, has_key, has_oid, count_of, is_no_oid}
 use Rattle.cat_book.specs.Rules.{Place, place_cmp}
 
 -- ---- types

@@ -7,9 +7,8 @@ use Rattle.cat_model.specs.Values.{Bytes, bytes_cmp}
 use Rattle.cat_names.specs.declared.fault.Findings.{Findings}
 use Rattle.cat_names.specs.declared.fault.FaultKind.{FaultKind}
 use Rattle.cat_names.specs.declared.fault.LineFault.{LineFault}
-use Rattle.cat_names.specs.Findings.{first_fault}
-use Rattle.cat_names.specs.Lookups.{has_key}
-use Rattle.cat_names.specs.Roles.{is_no_oid, dangling_unless}
+use Rattle.cat_names.specs.Findings.{first_fault, dangling_unless}
+use Rattle.cat_names.specs.Lookups.{has_key, is_no_oid}
 use Rattle.cat_book.specs.declared.lines.Unmet.{Unmet}
 
 -- ---- what no two rows of a table have in common

@@ -1,8 +1,7 @@
 //! A catalogue with what leads where in it.
 ghost use Rattle.std.specs.Prelude.{◌≡◌, nat_le, option_map, IfOk};
 ghost use Rattle.cat_names.specs.Kinds.{kind_of, class_of};
-ghost use Rattle.cat_names.specs.Lookups.{has_oid, count_of, role_name};
-ghost use Rattle.cat_names.specs.Schemas.{schema_oids};
+ghost use Rattle.cat_names.specs.Lookups.{has_oid, count_of, role_name, schema_oids};
 ghost use Rattle.cat_book.specs.Chains.{type_of, chain_ends};
 ghost use Rattle.cat_book.specs.Leads.{is_base_there, label_count, has_number, has_column, column_count, constraint_of, key_indexes, primary_tables, has_own_row};
 ghost use Rattle.cat_book.specs.Paths.{schema_of, path_in, type_path, class_path, class_path_of, path_of, type_paths, class_paths, has_path};

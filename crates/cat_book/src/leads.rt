@@ -3,7 +3,7 @@ ghost use Rattle.std.specs.Prelude.{◌≡◌, [], ◌∷◌, ◌++◌, ℕ, map
 ghost use Rattle.cat_model.specs.declared.object.QName.{QName as Path};
 ghost use Rattle.cat_model.specs.Values.{Bytes};
 ghost use Rattle.cat_names.specs.Indexed.{AreKeys};
-ghost use Rattle.cat_names.specs.Schemas.{schema_oids};
+ghost use Rattle.cat_names.specs.Lookups.{schema_oids};
 ghost use Rattle.cat_book.specs.Beside.{AreOids, AreOwnRows, AreOwners, AreNamed, IsBeside};
 ghost use Rattle.cat_book.specs.Leads.{column_cmp, numbered, named};
 ghost use Rattle.cat_book.specs.Paths.{path_cmp, schema_of, path_in, type_path, class_path};

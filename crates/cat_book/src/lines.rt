@@ -1,8 +1,7 @@
 //! The one loop over a table's lines.
 ghost use Rattle.std.specs.Prelude.{◌≡◌, ◌&&◌, ◌||◌, ◌+◌, ◌<◌, ◌^◌, [], ◌∷◌, ◌++◌, length, None, List, IfOk, IfErr, OnOk};
-ghost use Rattle.cat_names.specs.Findings.{first_kind, fault_or};
+ghost use Rattle.cat_names.specs.Findings.{first_kind, fault_or, dangling_unless};
 ghost use Rattle.cat_names.specs.Gives.{GivesLine, IsLineDue};
-ghost use Rattle.cat_names.specs.Roles.{dangling_unless};
 ghost use Rattle.cat_book.specs.Rules.{named, named_in, found, fault_by};
 ghost use Rattle.cat_book.specs.Seen.{AreSeen};
 

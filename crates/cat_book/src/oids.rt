@@ -2,7 +2,7 @@
 ghost use Rattle.std.specs.Prelude.{◌≡◌, map, IfOk};
 ghost use Rattle.std.specs.List.{filter};
 ghost use Rattle.cat_names.specs.Kinds.{class_oids};
-ghost use Rattle.cat_names.specs.Schemas.{schema_oids};
+ghost use Rattle.cat_names.specs.Lookups.{schema_oids};
 ghost use Rattle.cat_book.specs.Leads.{type_oids, label_types, column_relations, constraint_oids, is_key, is_primary, key_indexes, primary_tables, view_oids, sequence_oids, index_oids};
 
 use cat_names::{OidCounts, OidIndex};

@@ -46,9 +46,9 @@ reference kind (Some q) = kind q ∷ []
 
 -- ---- in an expression
 
--- whether `::` and the word regclass stand at the front
+-- whether `::` and the word regclass stand at the front; with a dot behind it the word would be a schema
 abbrev pub casts_to_regclass : List Lexeme → Bool
-casts_to_regclass (a ∷ b ∷ w ∷ rest) = is_sign 58 a && is_sign 58 b && is_word (codes "regclass") w
+casts_to_regclass (a ∷ b ∷ w ∷ rest) = is_sign 58 a && is_sign 58 b && is_word (codes "regclass") w && no_dot rest
 casts_to_regclass _ = false
 
 -- a literal before `::regclass` names a relation

@@ -4,4 +4,3 @@ pub mod Places
 pub mod Items
 pub mod FirstFaults
 pub mod Counts
-pub mod Classes

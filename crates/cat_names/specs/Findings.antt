@@ -1,6 +1,6 @@
 -- What is wrong with a row of a table, and the first fault of a table's lines.
 -- Lines are tried in order, and at one line the kinds of fault in the order in which they are listed here.
-use Rattle.std.specs.Prelude.{ℕ, ◌+◌, List, [], ◌∷◌, ◌++◌, length, Option, Some, None, if◌then◌else◌}
+use Rattle.std.specs.Prelude.{ℕ, ◌+◌, Bool, List, [], ◌∷◌, ◌++◌, length, Option, Some, None, if◌then◌else◌}
 use Rattle.cat_rows.specs.declared.table.SysTable.{SysTable}
 use Rattle.cat_model.specs.declared.words.What.{What}
 use Rattle.cat_names.specs.declared.fault.FaultKind.{FaultKind}
@@ -13,6 +13,14 @@ use Rattle.cat_names.specs.declared.fault.Findings.{Findings}
 abbrev pub left_out_kind : Option What → Option FaultKind
 left_out_kind (Some what) = Some (kind.OutOfProfile what)
 left_out_kind None = None
+
+-- the first of two things that are left out
+abbrev pub left_out_first : Option What → Option What → Option What
+left_out_first (Some what) later = Some what
+left_out_first None later = later
+
+abbrev pub dangling_unless : Bool → Option FaultKind
+dangling_unless there = if there then None else Some kind.Dangling
 
 -- the first of a row's faults
 abbrev pub first_kind : Findings → Option FaultKind

@@ -2,8 +2,8 @@
 use Rattle.std.specs.Prelude.{ℕ, Bool, true, false, ◌==◌, List, map, Option, Some, option_map, if◌then◌else◌}
 use Rattle.std.specs.List.{find}
 use Rattle.cat_rows.specs.declared.relations.ClassRow.{ClassRow}
-use Rattle.cat_names.specs.declared.class_index.RelationKind.{RelationKind}
-use Rattle.cat_names.specs.declared.class_index.RelationKind.TheVariants.{Table, View, Sequence, Index, Other}
+use Rattle.cat_names.specs.declared.relations.RelationKind.{RelationKind}
+use Rattle.cat_names.specs.declared.relations.RelationKind.TheVariants.{Table, View, Sequence, Index, Other}
 use Rattle.cat_names.specs.Lookups.{same_oid}
 
 abbrev pub relation_kind : ℕ → RelationKind

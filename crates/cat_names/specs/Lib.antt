@@ -2,13 +2,7 @@ pub mod Findings
 pub mod Firsts
 pub mod Lookups
 pub mod Rights
-pub mod Roles
-pub mod Schemas
 pub mod Kinds
-pub mod Enums
-pub mod Relations
-pub mod Comments
-pub mod Cluster
 pub mod Gives
 pub mod Indexed
 pub mod Grants

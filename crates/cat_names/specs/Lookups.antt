@@ -5,9 +5,14 @@ use Rattle.std.specs.declared.cmp.Ordering.{Ordering}
 use Rattle.std.specs.Ordering.{nat_cmp, eq_by_cmp}
 use Rattle.cat_model.specs.Values.{Bytes, bytes_cmp}
 use Rattle.cat_rows.specs.declared.roles.AuthidRow.{AuthidRow}
+use Rattle.cat_rows.specs.declared.schemas.NamespaceRow.{NamespaceRow}
 
 abbrev pub same_oid : ℕ → ℕ → Bool
 same_oid = eq_by_cmp nat_cmp
+
+-- an own oid of 0 stands for no object
+abbrev pub is_no_oid : ℕ → Bool
+is_no_oid oid = same_oid oid 0
 
 abbrev pub same_name : Bytes → Bytes → Bool
 same_name = eq_by_cmp bytes_cmp
@@ -31,6 +36,13 @@ role_oids roles = map (λ r. r.oid) roles
 
 abbrev pub role_names : List AuthidRow → List Bytes
 role_names roles = map (λ r. r.rolname) roles
+
+abbrev pub schema_oids : List NamespaceRow → List ℕ
+schema_oids schemas = map (λ s. s.oid) schemas
+
+-- the role to which a new cluster's objects belong
+abbrev pub boot_oid : ℕ
+boot_oid = 10
 
 -- whether a role has this oid, or this name
 abbrev pub is_role : List AuthidRow → ℕ → Bool

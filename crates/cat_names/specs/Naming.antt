@@ -16,8 +16,7 @@ use Rattle.cat_model.specs.Values as value
 use Rattle.cat_model.specs.Values.{Bytes, Value, Named}
 use Rattle.cat_names.specs.declared.rights.GrantKind.TheVariants as on
 use Rattle.cat_names.specs.Grants.{grants_of}
-use Rattle.cat_names.specs.Lookups.{role_name}
-use Rattle.cat_names.specs.Roles.{boot_oid}
+use Rattle.cat_names.specs.Lookups.{boot_oid, role_name}
 
 abbrev pub Entry : Type 0
 Entry = Key × Value

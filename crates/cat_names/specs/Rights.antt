@@ -1,6 +1,6 @@
 -- What is wrong with a list of rights. An item without rights gives nothing, and its names aren't tried.
 -- https://www.postgresql.org/docs/16/ddl-priv.html
-use Rattle.std.specs.Prelude.{Bool, true, false, not, ◌||◌, ◌&&◌, List, [], ◌∷◌, ◌++◌, map, Option, Some, None}
+use Rattle.std.specs.Prelude.{Bool, true, false, not, ◌||◌, ◌&&◌, List, [], ◌∷◌, ◌++◌, map, Option, Some, None, if◌then◌else◌}
 use Rattle.std.specs.List.{list_any, list_all, filter}
 use Rattle.std.specs.declared.cmp.Ordering.{Ordering}
 use Rattle.std.specs.Option.{option_cmp}
@@ -8,6 +8,8 @@ use Rattle.acl_text.specs.declared.rights.Privilege.{Privilege}
 use Rattle.acl_text.specs.declared.rights.Privilege.TheVariants.{Select, Update, Usage, Create}
 use Rattle.acl_text.specs.declared.list.AclItem.{AclItem}
 use Rattle.cat_rows.specs.declared.roles.AuthidRow.{AuthidRow}
+use Rattle.cat_model.specs.declared.words.What.{What}
+use Rattle.cat_model.specs.declared.words.What.TheVariants as what
 use Rattle.cat_model.specs.Values.{Bytes, bytes_cmp}
 use Rattle.cat_names.specs.declared.rights.GrantKind.{GrantKind}
 use Rattle.cat_names.specs.declared.rights.GrantKind.TheVariants as on
@@ -73,3 +75,7 @@ abbrev pub is_by_other : Option Bytes → Option (List AclItem) → Bool
 is_by_other None acl = false
 is_by_other (Some owner) None = false
 is_by_other (Some owner) (Some items) = list_any (is_others_item owner) items
+
+-- grants by others than the owner are left out
+abbrev pub other_left_out : Bool → Option What
+other_left_out by_other = if by_other then Some what.GrantByOther else None

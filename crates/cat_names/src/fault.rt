@@ -1,8 +1,10 @@
 //! What is wrong with a catalogue, and where.
-ghost use Rattle.std.specs.Prelude.{◌≡◌};
+ghost use Rattle.std.specs.Prelude.{◌≡◌, Option, Ok};
 ghost use Rattle.cat_names.specs.declared.fault.LineError.TheVariants as line_errors;
 ghost use Rattle.cat_names.specs.declared.fault.CheckError.TheVariants as check_errors;
-ghost use Rattle.cat_names.specs.Findings.{first_kind};
+ghost use Rattle.cat_names.specs.declared.fault.LineFault.{LineFault as Fault};
+ghost use Rattle.cat_names.specs.Findings.{first_kind, in_table, left_out_first};
+ghost use Rattle.cat_names.specs.Gives.{GivesLine, GivesTable};
 
 use cat_model::What;
 use cat_rows::SysTable;
@@ -119,5 +121,31 @@ impl From<AllocError> for CheckError {
 
     fn from(_e: AllocError) -> CheckError {
         CheckError::Memory
+    }
+}
+
+/// The answer for a line as one for its table.
+pub fn at_table<T: Drop>(table: SysTable, answer: Result<T, LineError>) -> Result<T, CheckError>
+    ensures due { (due : Option Fault) → GivesLine answer due → GivesTable result (in_table table due) }
+    ensures ok { (x : T) → result ≡ Ok x → answer ≡ Ok x }
+{
+    match answer {
+        Ok(x) => Ok(x),
+        Err(LineError::Fault(fault)) => Err(CheckError::Fault(CatFault {
+            table,
+            line: fault.line,
+            kind: fault.kind,
+        })),
+        Err(LineError::Memory) => Err(CheckError::Memory),
+    }
+}
+
+/// The first of two things that are left out.
+pub fn left_out_first(first: Option<What>, later: Option<What>) -> Option<What>
+    ensures { result ≡ left_out_first first later }
+{
+    match first {
+        Some(what) => Some(what),
+        None => later,
     }
 }

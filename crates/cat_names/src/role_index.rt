@@ -42,15 +42,6 @@ impl<'a> RoleIndex<'a> {
         Ok(RoleIndex { rows, oids, names })
     }
 
-    /// These roles, with their oids and the set of their names.
-    pub fn new(rows: &'a [AuthidRow], oids: OidIndex, names: BTreeSet<Name>) -> RoleIndex<'a>
-        requires oids { oids ≡ role_oids rows.now }
-        requires names { AreKeys bytes_cmp names (role_names rows.now) }
-        ensures { result ≡ rows.now }
-    {
-        RoleIndex { rows, oids, names }
-    }
-
     /// Whether there is a role of this oid.
     pub fn has(&self, oid: u32) -> bool
         ensures { result ≡ is_role self.now oid }

@@ -12,9 +12,8 @@ use Rattle.cat_model.specs.declared.key.Key.TheVariants as key
 use Rattle.cat_model.specs.Values as value
 use Rattle.cat_names.specs.Lookups.{same_oid}
 use Rattle.cat_names.specs.Naming.{Entry}
-use Rattle.cat_names.specs.Relations.{is_zero}
-use Rattle.cat_book.specs.Paths.{path_of}
-use Rattle.cat_book.specs.Paths.{schema_of, class_path_of}
+use Rattle.plain_tables.specs.Comments.{is_whole}
+use Rattle.cat_book.specs.Paths.{path_of, schema_of, class_path_of}
 use Rattle.cat_naming.specs.Relations.{column_name}
 
 -- the first constraint of an oid
@@ -28,7 +27,7 @@ constraint_object cat row = option_map (λ table. object.Constraint table row.co
 -- a relation, or its column
 abbrev pub relation_object : Catalogue → DescriptionRow → QName → Option Object
 relation_object cat row path =
-    if is_zero row.objsubid then Some (object.Relation path)
+    if is_whole row.objsubid then Some (object.Relation path)
     else option_map (λ column. object.Column path column) (column_name cat row.objoid row.objsubid)
 
 -- What a comment is on, by the system table in which the object's row stands: pg_namespace, pg_type, pg_class or

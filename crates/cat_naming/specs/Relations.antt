@@ -20,10 +20,9 @@ use Rattle.cat_names.specs.declared.rights.GrantKind.{GrantKind}
 use Rattle.cat_names.specs.declared.rights.GrantKind.TheVariants as on
 use Rattle.cat_names.specs.Grants.{grants_of}
 use Rattle.cat_names.specs.Kinds.{relation_kind, is_table, is_view, is_sequence, is_index}
-use Rattle.cat_names.specs.Lookups.{same_oid, role_name}
+use Rattle.cat_names.specs.Lookups.{same_oid, role_name, is_no_oid}
 use Rattle.cat_names.specs.Naming.{Entry, under}
 use Rattle.cat_book.specs.Leads.{is_key}
-use Rattle.cat_names.specs.Roles.{is_no_oid}
 use Rattle.cat_book.specs.Paths.{class_path, class_path_of}
 use Rattle.row_texts.specs.SequenceTypes.{sequence_kind}
 use Rattle.text_tables.specs.Sequences.{numbers}

@@ -38,8 +38,8 @@ constraint_oids cat = map (λ c. c.oid) cat.pg_constraint
 
 -- what rows are found by: the columns, the checks of domains, the indexes, the primary keys and unique constraints with
 -- the oids of their indexes, and the constraints
-pub record IsBeside (cat lookup ends : Catalogue) (columns checks : List (ℕ × ℤ)) (indexes : List ℕ) (keys : List (Bor ConstraintRow)) (key_indexes constraints : List ℕ) : Type 0 where
-  pub of_lookup : lookup ≡ cat
+pub record IsBeside (cat book ends : Catalogue) (columns checks : List (ℕ × ℤ)) (indexes : List ℕ) (keys : List (Bor ConstraintRow)) (key_indexes constraints : List ℕ) : Type 0 where
+  pub of_book : book ≡ cat
   pub of_ends : ends ≡ cat
   pub of_columns : columns ≡ column_keys cat
   pub of_checks : checks ≡ check_keys cat

@@ -2,7 +2,7 @@
 use Rattle.std.specs.Prelude.{◌≡◌, true, List}
 use Rattle.std.specs.List.{AllByRecursion}
 use Rattle.cat_rows.specs.declared.relations.ClassRow.{ClassRow}
-use Rattle.cat_names.specs.declared.class_index.RelationKind.TheVariants.{Table}
+use Rattle.cat_names.specs.declared.relations.RelationKind.TheVariants.{Table}
 use Rattle.cat_names.specs.DataSets.{TextsByOid}
 use Rattle.cat_names.specs.Kinds.{relation_kind}
 use Rattle.cat_values.specs.Rows.{rows_in, are_rows}

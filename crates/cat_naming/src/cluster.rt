@@ -38,18 +38,18 @@ pub(crate) fn add_roles<'a>(
 // A membership, by the names of the role, its member and the grantor.
 fn member_entries<'a>(
     alloc: Global,
-    lookup: &'a Book<'a>,
+    book: &'a Book<'a>,
     row: &'a AuthMembersRow,
 ) -> Result<Entries<'a>, AllocError>
-    ensures { IfOk result (λ entries. entries_seen entries ≡ member_entries lookup.now.pg_authid row.now) }
+    ensures { IfOk result (λ entries. entries_seen entries ≡ member_entries book.now.pg_authid row.now) }
 {
-    let Some(role) = lookup.role_name(row.roleid) else {
+    let Some(role) = book.role_name(row.roleid) else {
         return Ok(Entries::none(alloc));
     };
-    let Some(member) = lookup.role_name(row.member) else {
+    let Some(member) = book.role_name(row.member) else {
         return Ok(Entries::none(alloc));
     };
-    let Some(grantor) = lookup.role_name(row.grantor) else {
+    let Some(grantor) = book.role_name(row.grantor) else {
         return Ok(Entries::none(alloc));
     };
     let key = Key::Member(role.clone()?, member.clone()?, grantor.clone()?);
@@ -60,13 +60,13 @@ fn member_entries<'a>(
 pub(crate) fn add_members<'a>(
     alloc: Global,
     entries: &mut Entries<'a>,
-    lookup: &'a Book<'a>,
+    book: &'a Book<'a>,
     rows: &'a [AuthMembersRow],
 ) -> Result<(), AllocError>
-    ensures { OnOk result (entries_seen entries.new ≡ entries_seen entries.old ++ flat_map (member_entries lookup.now.pg_authid) rows.now) }
+    ensures { OnOk result (entries_seen entries.new ≡ entries_seen entries.old ++ flat_map (member_entries book.now.pg_authid) rows.now) }
 {
     for row in rows {
-        let more = member_entries(alloc, lookup, row)?;
+        let more = member_entries(alloc, book, row)?;
         entries.append(more)?;
     }
     Ok(())
@@ -75,12 +75,12 @@ pub(crate) fn add_members<'a>(
 // A database and its owner.
 fn database_entries<'a>(
     alloc: Global,
-    lookup: &'a Book<'a>,
+    book: &'a Book<'a>,
     row: &'a DatabaseRow,
 ) -> Result<Entries<'a>, AllocError>
-    ensures { IfOk result (λ entries. entries_seen entries ≡ database_entries lookup.now.pg_authid row.now) }
+    ensures { IfOk result (λ entries. entries_seen entries ≡ database_entries book.now.pg_authid row.now) }
 {
-    let Some(owner) = lookup.role_name(row.datdba) else {
+    let Some(owner) = book.role_name(row.datdba) else {
         return Ok(Entries::none(alloc));
     };
     let key = Key::Database(row.datname.clone()?);
@@ -95,13 +95,13 @@ fn database_entries<'a>(
 pub(crate) fn add_databases<'a>(
     alloc: Global,
     entries: &mut Entries<'a>,
-    lookup: &'a Book<'a>,
+    book: &'a Book<'a>,
     rows: &'a [DatabaseRow],
 ) -> Result<(), AllocError>
-    ensures { OnOk result (entries_seen entries.new ≡ entries_seen entries.old ++ flat_map (database_entries lookup.now.pg_authid) rows.now) }
+    ensures { OnOk result (entries_seen entries.new ≡ entries_seen entries.old ++ flat_map (database_entries book.now.pg_authid) rows.now) }
 {
     for row in rows {
-        let more = database_entries(alloc, lookup, row)?;
+        let more = database_entries(alloc, book, row)?;
         entries.append(more)?;
     }
     Ok(())
@@ -110,12 +110,12 @@ pub(crate) fn add_databases<'a>(
 // A schema, its owner and its grants.
 fn schema_entries<'a>(
     alloc: Global,
-    lookup: &'a Book<'a>,
+    book: &'a Book<'a>,
     row: &'a NamespaceRow,
 ) -> Result<Entries<'a>, AllocError>
-    ensures { IfOk result (λ entries. entries_seen entries ≡ schema_entries lookup.now.pg_authid row.now) }
+    ensures { IfOk result (λ entries. entries_seen entries ≡ schema_entries book.now.pg_authid row.now) }
 {
-    let Some(owner) = lookup.role_name(row.nspowner) else {
+    let Some(owner) = book.role_name(row.nspowner) else {
         return Ok(Entries::none(alloc));
     };
     let key = Key::Schema(row.nspname.clone()?);
@@ -131,13 +131,13 @@ fn schema_entries<'a>(
 pub(crate) fn add_schemas<'a>(
     alloc: Global,
     entries: &mut Entries<'a>,
-    lookup: &'a Book<'a>,
+    book: &'a Book<'a>,
     rows: &'a [NamespaceRow],
 ) -> Result<(), AllocError>
-    ensures { OnOk result (entries_seen entries.new ≡ entries_seen entries.old ++ flat_map (schema_entries lookup.now.pg_authid) rows.now) }
+    ensures { OnOk result (entries_seen entries.new ≡ entries_seen entries.old ++ flat_map (schema_entries book.now.pg_authid) rows.now) }
 {
     for row in rows {
-        let more = schema_entries(alloc, lookup, row)?;
+        let more = schema_entries(alloc, book, row)?;
         entries.append(more)?;
     }
     Ok(())

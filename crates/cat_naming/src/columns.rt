@@ -87,7 +87,7 @@ fn default_entries<'a>(
 ) -> Result<Entries<'a>, AllocError>
     ensures { IfOk result (λ entries. entries_seen entries ≡ default_entries naming.now row.now) }
 {
-    let Some(table) = naming.lookup().class_path_of(row.adrelid)? else {
+    let Some(table) = naming.book().class_path_of(row.adrelid)? else {
         return Ok(Entries::none(alloc));
     };
     let Some(column) = naming.column_name(row.adrelid, row.adnum) else {

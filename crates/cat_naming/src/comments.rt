@@ -28,7 +28,7 @@ const PG_CONSTRAINT: u32 = 2606;
 fn schema_object(naming: &Naming<'_>, oid: u32) -> Result<Option<Object>, AllocError>
     ensures { IfOk result (λ on. on ≡ option_map (λ s. object.Schema s.nspname) (schema_of naming.now.pg_namespace oid)) }
 {
-    match naming.lookup().schema_of(oid) {
+    match naming.book().schema_of(oid) {
         Some(schema) => Ok(Some(Object::Schema(schema.nspname.clone()?))),
         None => Ok(None),
     }
@@ -38,7 +38,7 @@ fn schema_object(naming: &Naming<'_>, oid: u32) -> Result<Option<Object>, AllocE
 fn type_object(naming: &Naming<'_>, oid: u32) -> Result<Option<Object>, AllocError>
     ensures { IfOk result (λ on. on ≡ option_map object.Type (path_of naming.now oid)) }
 {
-    match naming.lookup().path_of(oid)? {
+    match naming.book().path_of(oid)? {
         Some(path) => Ok(Some(Object::Type(path))),
         None => Ok(None),
     }
@@ -65,7 +65,7 @@ fn relation_object(
 fn class_object(naming: &Naming<'_>, row: &DescriptionRow) -> Result<Option<Object>, AllocError>
     ensures { IfOk result (λ on. on ≡ option_and_then (relation_object naming.now row.now) (class_path_of naming.now row.now.objoid)) }
 {
-    match naming.lookup().class_path_of(row.objoid)? {
+    match naming.book().class_path_of(row.objoid)? {
         Some(path) => relation_object(naming, row, path),
         None => Ok(None),
     }
@@ -75,7 +75,7 @@ fn class_object(naming: &Naming<'_>, row: &DescriptionRow) -> Result<Option<Obje
 fn constraint_object(naming: &Naming<'_>, row: &ConstraintRow) -> Result<Option<Object>, AllocError>
     ensures { IfOk result (λ on. on ≡ constraint_object naming.now row.now) }
 {
-    match naming.lookup().class_path_of(row.conrelid)? {
+    match naming.book().class_path_of(row.conrelid)? {
         Some(table) => Ok(Some(Object::Constraint(table, row.conname.clone()?))),
         None => Ok(None),
     }

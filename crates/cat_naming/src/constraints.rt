@@ -142,7 +142,7 @@ fn constraint_entries<'a>(
 ) -> Result<Entries<'a>, AllocError>
     ensures { IfOk result (λ entries. entries_seen entries ≡ constraint_entries naming.now row.now) }
 {
-    let Some(table) = naming.lookup().class_path_of(row.conrelid)? else {
+    let Some(table) = naming.book().class_path_of(row.conrelid)? else {
         return Ok(Entries::none(alloc));
     };
     let name = row.conname.clone()?;

@@ -24,12 +24,12 @@ fn cluster_entries<'a>(alloc: Global, naming: &'a Naming<'a>) -> Result<Entries<
     ensures { IfOk result (λ entries. entries_seen entries ≡ cluster_entries naming.now) }
 {
     let cat = naming.tables();
-    let lookup = naming.lookup();
+    let book = naming.book();
     let mut entries = Entries::none(alloc);
     add_roles(alloc, &mut entries, cat.pg_authid.as_slice())?;
-    add_members(alloc, &mut entries, lookup, cat.pg_auth_members.as_slice())?;
-    add_databases(alloc, &mut entries, lookup, cat.pg_database.as_slice())?;
-    add_schemas(alloc, &mut entries, lookup, cat.pg_namespace.as_slice())?;
+    add_members(alloc, &mut entries, book, cat.pg_auth_members.as_slice())?;
+    add_databases(alloc, &mut entries, book, cat.pg_database.as_slice())?;
+    add_schemas(alloc, &mut entries, book, cat.pg_namespace.as_slice())?;
     Ok(entries)
 }
 

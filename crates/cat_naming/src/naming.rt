@@ -21,7 +21,7 @@ use type_ends::TypeEnds;
 #[derive(Drop)]
 pub struct Naming<'a> {
     cat: &'a Catalogue,
-    lookup: Book<'a>,
+    book: Book<'a>,
     ends: TypeEnds<'a>,
     places: Places,
     keys: KeyRows<'a>,
@@ -35,7 +35,7 @@ impl<'a> Model for Naming<'a> {
 
     ghost view = { λ n. n.cat.now };
 
-    ghost invariant = { λ n. IsBeside n.cat.now n.lookup n.ends n.places.columns n.places.checks n.places.indexes n.keys.rows.items n.keys.indexes n.places.constraints };
+    ghost invariant = { λ n. IsBeside n.cat.now n.book n.ends n.places.columns n.places.checks n.places.indexes n.keys.rows.items n.keys.indexes n.places.constraints };
 }
 
 // What the places of rows are found by.
@@ -138,17 +138,17 @@ fn key_rows(alloc: Global, rows: &[ConstraintRow]) -> Result<KeyRows<'_>, AllocE
 }
 
 impl<'a> Naming<'a> {
-    /// This catalogue, with what its rows are found by. The only error is want of memory.
-    pub fn of(alloc: Global, cat: &'a Catalogue) -> Result<Naming<'a>, AllocError>
-        ensures { IfOk result (λ naming. naming ≡ cat.now) }
+    /// The catalogue of this book, with what else its rows are found by. The only error is want of memory.
+    pub fn of(alloc: Global, book: Book<'a>) -> Result<Naming<'a>, AllocError>
+        ensures { IfOk result (λ naming. naming ≡ book.now) }
     {
+        let cat = book.tables();
         let places = places_of(alloc, cat)?;
         let keys = key_rows(alloc, cat.pg_constraint.as_slice())?;
-        let lookup = Book::of(alloc, cat)?;
-        let ends = TypeEnds::of(alloc, &lookup)?;
+        let ends = TypeEnds::of(alloc, &book)?;
         Ok(Naming {
             cat,
-            lookup,
+            book,
             ends,
             places,
             keys,
@@ -163,10 +163,10 @@ impl<'a> Naming<'a> {
     }
 
     /// The catalogue by oids and paths.
-    pub(crate) fn lookup(&self) -> &Book<'a>
+    pub(crate) fn book(&self) -> &Book<'a>
         ensures { result.now ≡ self.now }
     {
-        &self.lookup
+        &self.book
     }
 
     /// What types are at the ends of their chains.

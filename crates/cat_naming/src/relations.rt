@@ -29,7 +29,7 @@ fn owned_entries<'a>(
 ) -> Result<Entries<'a>, AllocError>
     ensures { IfOk result (λ entries. entries_seen entries ≡ owned_entries naming.now kind row.now path.now) }
 {
-    let Some(owner) = naming.lookup().role_name(row.relowner) else {
+    let Some(owner) = naming.book().role_name(row.relowner) else {
         return Ok(Entries::none(alloc));
     };
     let object = Object::Relation(same_path(path)?);
@@ -111,7 +111,7 @@ fn index_relation_entries<'a>(
     let Some(table) = naming.table_of_index(row.oid) else {
         return Ok(Entries::none(alloc));
     };
-    let Some(table) = naming.lookup().class_path_of(table)? else {
+    let Some(table) = naming.book().class_path_of(table)? else {
         return Ok(Entries::none(alloc));
     };
     let key = Key::Rel(same_path(path)?);
@@ -148,7 +148,7 @@ fn class_entries<'a>(
     requires { IsRead rows.now row.now }
     ensures { IfOk result (λ entries. entries_seen entries ≡ class_entries naming.now (rows_by_oid rows.now) row.now) }
 {
-    match naming.lookup().class_path(row)? {
+    match naming.book().class_path(row)? {
         Some(path) => relation_entries(alloc, naming, rows, row, &path),
         None => Ok(Entries::none(alloc)),
     }

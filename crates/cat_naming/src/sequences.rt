@@ -25,7 +25,7 @@ fn owner_entries<'a>(
     if row.ownrel == 0 {
         return Ok(Entries::none(alloc));
     }
-    let Some(table) = naming.lookup().class_path_of(row.ownrel)? else {
+    let Some(table) = naming.book().class_path_of(row.ownrel)? else {
         return Ok(Entries::none(alloc));
     };
     let Some(column) = naming.column_name(row.ownrel, row.owncol) else {
@@ -43,7 +43,7 @@ fn sequence_entries<'a>(
 ) -> Result<Entries<'a>, AllocError>
     ensures { IfOk result (λ entries. entries_seen entries ≡ sequence_entries naming.now row.now) }
 {
-    let Some(path) = naming.lookup().class_path_of(row.seqrelid)? else {
+    let Some(path) = naming.book().class_path_of(row.seqrelid)? else {
         return Ok(Entries::none(alloc));
     };
     let Some(kind) = sequence_kind(alloc, row.seqtype.as_bytes())? else {
@@ -81,7 +81,7 @@ fn body_entries<'a>(
 ) -> Result<Entries<'a>, AllocError>
     ensures { IfOk result (λ entries. entries_seen entries ≡ body_entries naming.now row.now) }
 {
-    let Some(path) = naming.lookup().class_path_of(row.ev_class)? else {
+    let Some(path) = naming.book().class_path_of(row.ev_class)? else {
         return Ok(Entries::none(alloc));
     };
     let Some(body) = view_body(alloc, row.viewdef.as_bytes())? else {

@@ -133,10 +133,10 @@ fn type_entries<'a>(
 ) -> Result<Entries<'a>, AllocError>
     ensures { IfOk result (λ entries. entries_seen entries ≡ type_entries naming.now row.now) }
 {
-    let Some(path) = naming.lookup().type_path(row)? else {
+    let Some(path) = naming.book().type_path(row)? else {
         return Ok(Entries::none(alloc));
     };
-    match naming.lookup().role_name(row.typowner) {
+    match naming.book().role_name(row.typowner) {
         Some(owner) => owned_type(alloc, naming, row, &path, owner),
         None => Ok(Entries::none(alloc)),
     }

@@ -6,8 +6,8 @@ use Rattle.std.specs.Ordering.{int_cmp, is_le}
 use Rattle.std.proofs.lemmas.List.Elements.{recursion_from_All}
 use Rattle.cat_rows.specs.declared.catalogue.Catalogue.{Catalogue}
 use Rattle.cat_rows.specs.declared.relations.ClassRow.{ClassRow}
-use Rattle.cat_names.specs.declared.class_index.RelationKind.{RelationKind}
-use Rattle.cat_names.specs.declared.class_index.RelationKind.TheVariants.{Table}
+use Rattle.cat_names.specs.declared.relations.RelationKind.{RelationKind}
+use Rattle.cat_names.specs.declared.relations.RelationKind.TheVariants.{Table}
 use Rattle.cat_names.specs.DataSets.{TextsByOid}
 use Rattle.cat_names.specs.Kinds.{relation_kind, is_table}
 use Rattle.oid_groups.specs.Orders.{placed, by_number}

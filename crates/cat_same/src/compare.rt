@@ -129,7 +129,7 @@ fn compare_with(
     requires second { values_fault b.now b_rows.now ≡ None }
     ensures { IfOk result (λ verdict. IsVerdict (catalogue_named a.now (rows_by_oid a_rows.now)) (catalogue_named b.now (rows_by_oid b_rows.now)) verdict) }
 {
-    let b = Naming::of(alloc, b.rows())?;
+    let b = Naming::of(alloc, b.book(alloc)?)?;
     compare_namings(alloc, a, a_rows, &b, b_rows)
 }
 
@@ -147,6 +147,6 @@ pub fn same(
     requires second { values_fault b.now b_rows.now ≡ None }
     ensures { IfOk result (λ verdict. IsVerdict (catalogue_named a.now (rows_by_oid a_rows.now)) (catalogue_named b.now (rows_by_oid b_rows.now)) verdict) }
 {
-    let a = Naming::of(alloc, a.rows())?;
+    let a = Naming::of(alloc, a.book(alloc)?)?;
     compare_with(alloc, &a, a_rows, b, b_rows)
 }

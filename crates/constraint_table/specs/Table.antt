@@ -9,8 +9,7 @@ use Rattle.cat_model.specs.declared.words.What.TheVariants as what
 use Rattle.cat_model.specs.KeyEffects.{index_path}
 use Rattle.cat_model.specs.Values.{Bytes}
 use Rattle.cat_names.specs.Kinds.{kind_of, is_table, is_index}
-use Rattle.cat_names.specs.Lookups.{count_of}
-use Rattle.cat_names.specs.Roles.{is_no_oid}
+use Rattle.cat_names.specs.Lookups.{count_of, is_no_oid}
 use Rattle.cat_book.specs.Chains.{type_of, is_domain_letter}
 use Rattle.cat_book.specs.Leads.{is_primary, is_key, key_indexes, primary_tables}
 use Rattle.cat_book.specs.Paths.{class_path_of}

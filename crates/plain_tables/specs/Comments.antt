@@ -7,8 +7,7 @@ use Rattle.cat_rows.specs.declared.notes.DescriptionRow.{DescriptionRow}
 use Rattle.cat_model.specs.declared.words.What.{What}
 use Rattle.cat_model.specs.declared.words.What.TheVariants as what
 use Rattle.cat_names.specs.Kinds.{kind_of, is_view}
-use Rattle.cat_names.specs.Lookups.{has_oid}
-use Rattle.cat_names.specs.Schemas.{schema_oids}
+use Rattle.cat_names.specs.Lookups.{has_oid, schema_oids}
 use Rattle.cat_book.specs.Chains.{type_of}
 use Rattle.cat_book.specs.Leads.{has_columns, has_number, constraint_of}
 use Rattle.cat_book.specs.Rules.{Rules}

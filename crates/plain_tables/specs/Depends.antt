@@ -4,8 +4,8 @@ use Rattle.cat_rows.specs.declared.catalogue.Catalogue.{Catalogue}
 use Rattle.cat_rows.specs.declared.notes.DependRow.{DependRow}
 use Rattle.cat_model.specs.declared.words.What.{What}
 use Rattle.cat_model.specs.declared.words.What.TheVariants as what
-use Rattle.cat_names.specs.declared.class_index.RelationKind.{RelationKind}
-use Rattle.cat_names.specs.declared.class_index.RelationKind.TheVariants.{Table, Sequence}
+use Rattle.cat_names.specs.declared.relations.RelationKind.{RelationKind}
+use Rattle.cat_names.specs.declared.relations.RelationKind.TheVariants.{Table, Sequence}
 use Rattle.cat_names.specs.Kinds.{kind_of}
 use Rattle.cat_names.specs.Lookups.{same_oid}
 use Rattle.cat_book.specs.Rules.{Rules}

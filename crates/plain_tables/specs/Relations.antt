@@ -6,14 +6,13 @@ use Rattle.cat_rows.specs.declared.roles.AuthidRow.{AuthidRow}
 use Rattle.cat_rows.specs.declared.relations.ClassRow.{ClassRow}
 use Rattle.cat_model.specs.declared.words.What.{What}
 use Rattle.cat_model.specs.declared.words.What.TheVariants as what
-use Rattle.cat_names.specs.declared.class_index.RelationKind.{RelationKind}
-use Rattle.cat_names.specs.declared.class_index.RelationKind.TheVariants.{Table, View, Sequence, Index, Other}
+use Rattle.cat_names.specs.declared.relations.RelationKind.{RelationKind}
+use Rattle.cat_names.specs.declared.relations.RelationKind.TheVariants.{Table, View, Sequence, Index, Other}
 use Rattle.cat_names.specs.declared.rights.GrantKind.TheVariants as on
 use Rattle.cat_names.specs.Kinds.{relation_kind}
-use Rattle.cat_names.specs.Lookups.{has_oid, is_role, role_name}
-use Rattle.cat_names.specs.Relations.{left_out_first}
-use Rattle.cat_names.specs.Rights.{is_bad_acl, is_by_other}
-use Rattle.cat_names.specs.Schemas.{schema_oids, other_left_out}
+use Rattle.cat_names.specs.Lookups.{has_oid, is_role, role_name, schema_oids}
+use Rattle.cat_names.specs.Findings.{left_out_first}
+use Rattle.cat_names.specs.Rights.{is_bad_acl, is_by_other, other_left_out}
 use Rattle.cat_book.specs.Leads.{column_count, has_own_row}
 use Rattle.cat_book.specs.Rules.{Rules, named_in}
 

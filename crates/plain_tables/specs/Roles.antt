@@ -9,7 +9,7 @@ use Rattle.cat_model.specs.declared.words.What.{What}
 use Rattle.cat_model.specs.declared.words.What.TheVariants as what
 use Rattle.cat_model.specs.Lexemes.{same_text}
 use Rattle.cat_model.specs.Values.{Bytes}
-use Rattle.cat_names.specs.Lookups.{is_role}
+use Rattle.cat_names.specs.Lookups.{boot_oid, is_role}
 use Rattle.cat_book.specs.Rules.{Rules, named}
 
 -- ---- pg_authid
@@ -17,10 +17,6 @@ use Rattle.cat_book.specs.Rules.{Rules, named}
 -- `public` stands for all roles and is the name of none
 abbrev pub is_public : Bytes → Bool
 is_public name = same_text name (codes "public")
-
--- the boot role, to which a new cluster's objects belong
-abbrev pub boot_oid : ℕ
-boot_oid = 10
 
 -- oids and names are distinct, `public` is no name, and the boot role is there
 abbrev pub role_rules : Rules Catalogue AuthidRow

@@ -5,8 +5,7 @@ use Rattle.cat_rows.specs.declared.schemas.NamespaceRow.{NamespaceRow}
 use Rattle.cat_model.specs.References.{is_system}
 use Rattle.cat_names.specs.declared.rights.GrantKind.TheVariants as on
 use Rattle.cat_names.specs.Lookups.{is_role, role_name}
-use Rattle.cat_names.specs.Rights.{is_bad_acl, is_by_other}
-use Rattle.cat_names.specs.Schemas.{other_left_out}
+use Rattle.cat_names.specs.Rights.{is_bad_acl, is_by_other, other_left_out}
 use Rattle.cat_book.specs.Rules.{Rules, named}
 
 -- oids and names are distinct, the owner is a role and grants all rights, they are those of schemas, and the system's own

@@ -1,7 +1,7 @@
 //! The conditions of pg_namespace.
 ghost use Rattle.std.specs.Prelude.{◌≡◌};
 ghost use Rattle.cat_model.specs.References.{is_system};
-ghost use Rattle.cat_names.specs.Schemas.{other_left_out};
+ghost use Rattle.cat_names.specs.Rights.{other_left_out};
 ghost use Rattle.plain_tables.specs.Schemas.{schema_rules};
 
 use cat_book::{Book, Conditions, RowKeys, Unmet};

@@ -4,7 +4,7 @@ ghost use Rattle.cat_model.specs.References.{casts_to_regclass, relation_named, 
 ghost use Rattle.stmt_refs.specs.Said.{said};
 
 use crate::lexeme::{Lexeme, lexemes};
-use crate::path::{first_three, front_path, push_relation, push_type, whole_path};
+use crate::path::{first_three, front_path, no_dot, push_relation, push_type, whole_path};
 use cat_model::{Key, QName};
 use std::alloc::{AllocError, Global};
 
@@ -12,7 +12,9 @@ fn casts_to_regclass(xs: &[Lexeme]) -> bool
     ensures { result ≡ casts_to_regclass (map said xs.now) }
 {
     match first_three(xs) {
-        Some((a, b, w, _)) => a.is_sign(b':') && b.is_sign(b':') && w.is_word(b"regclass"),
+        Some((a, b, w, rest)) => {
+            a.is_sign(b':') && b.is_sign(b':') && w.is_word(b"regclass") && no_dot(rest)
+        }
         None => false,
     }
 }

@@ -62,7 +62,8 @@ pub(crate) fn first_two(xs: &[Lexeme]) -> Option<(&Lexeme, &Lexeme, &[Lexeme])>
     }
 }
 
-fn no_dot(xs: &[Lexeme]) -> bool
+/// Whether no dot stands at the front.
+pub(crate) fn no_dot(xs: &[Lexeme]) -> bool
     ensures { result ≡ no_dot (map said xs.now) }
 {
     match xs.split_first() {

@@ -9,7 +9,7 @@ use Rattle.cat_model.specs.declared.type_name.TypeName.{TypeName}
 use Rattle.cat_model.specs.declared.type_name.TypeName.TheVariants as type_name
 use Rattle.cat_model.specs.References.{is_system, expression_references}
 use Rattle.cat_model.specs.Values.{Bytes}
-use Rattle.cat_names.specs.Roles.{is_no_oid}
+use Rattle.cat_names.specs.Lookups.{is_no_oid}
 use Rattle.cat_book.specs.Paths.{same_path, path_of, type_paths, class_paths, has_path}
 use Rattle.row_texts.specs.DefaultTexts.{is_default}
 use Rattle.row_texts.specs.TypeTexts.{type_named}

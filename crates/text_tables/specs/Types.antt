@@ -7,10 +7,9 @@ use Rattle.cat_model.specs.declared.words.What.{What}
 use Rattle.cat_model.specs.declared.words.What.TheVariants as what
 use Rattle.cat_model.specs.Values.{Bytes}
 use Rattle.cat_names.specs.declared.rights.GrantKind.TheVariants as on
-use Rattle.cat_names.specs.Lookups.{has_oid, is_role, role_name}
-use Rattle.cat_names.specs.Relations.{left_out_first}
-use Rattle.cat_names.specs.Rights.{is_bad_acl, is_by_other}
-use Rattle.cat_names.specs.Schemas.{schema_oids, other_left_out}
+use Rattle.cat_names.specs.Lookups.{has_oid, is_role, role_name, schema_oids}
+use Rattle.cat_names.specs.Findings.{left_out_first}
+use Rattle.cat_names.specs.Rights.{is_bad_acl, is_by_other, other_left_out}
 use Rattle.cat_book.specs.Chains.{is_domain_letter, chain_ends}
 use Rattle.cat_book.specs.Leads.{is_base_there}
 use Rattle.cat_book.specs.Paths.{type_path}

@@ -12,10 +12,8 @@ use Rattle.cat_model.specs.References.{is_system}
 use Rattle.cat_model.specs.Values.{Bytes}
 use Rattle.well_formed.specs.Catalogues.{table_fault}
 use Rattle.cat_names.specs.Findings.{first_kind, fault_or, first_from}
-use Rattle.cat_names.specs.Lookups.{has_key, role_name}
-use Rattle.cat_names.specs.Rights.{is_by_other}
-use Rattle.cat_names.specs.Roles.{is_no_oid}
-use Rattle.cat_names.specs.Schemas.{other_left_out}
+use Rattle.cat_names.specs.Lookups.{has_key, role_name, is_no_oid}
+use Rattle.cat_names.specs.Rights.{is_by_other, other_left_out}
 use Rattle.cat_book.specs.Rules.{RowName, name_cmp, found}
 use Rattle.plain_tables.specs.Schemas.{schema_rules}
 use Rattle.schema_folders.specs.declared.schemas.SchemaRow.{SchemaRow}

@@ -18,7 +18,7 @@ use Rattle.cat_rows.specs.Writing.{AreRowsOf}
 use Rattle.cat_model.specs.References.{is_system}
 use Rattle.cat_model.specs.Values.{Bytes}
 use Rattle.well_formed.specs.Catalogues.{catalogue_fault}
-use Rattle.cat_names.specs.Roles.{is_no_oid}
+use Rattle.cat_names.specs.Lookups.{is_no_oid}
 use Rattle.cat_book.specs.Meets.{Meets}
 use Rattle.plain_tables.specs.Schemas.{schema_rules}
 use Rattle.folder_io.specs.declared.fault.FolderFault.{FolderFault}

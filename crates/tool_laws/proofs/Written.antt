@@ -13,7 +13,7 @@ use Rattle.cat_rows.specs.declared.table.SysTable.TheVariants.{PgNamespace}
 use Rattle.cat_rows.specs.Reading.{table_of}
 use Rattle.cat_model.specs.References.{is_system}
 use Rattle.cat_model.specs.Values.{Bytes}
-use Rattle.cat_names.specs.Roles.{is_no_oid}
+use Rattle.cat_names.specs.Lookups.{is_no_oid}
 use Rattle.schema_folders.specs.declared.schemas.SchemaRow.{SchemaRow}
 use Rattle.schema_folders.specs.Folder.{opening_of, cells_of_row}
 use Rattle.schema_folders.specs.Run.{IsUsers}

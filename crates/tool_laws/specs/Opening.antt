@@ -5,7 +5,7 @@ use Rattle.std.specs.Ordering.{nat_cmp, eq_by_cmp}
 use Rattle.copy_text.specs.Texts.{IsName}
 use Rattle.cat_model.specs.References.{is_system}
 use Rattle.cat_model.specs.Values.{bytes_cmp}
-use Rattle.cat_names.specs.Roles.{is_no_oid}
+use Rattle.cat_names.specs.Lookups.{is_no_oid}
 use Rattle.schema_folders.specs.Folder.{has_public}
 use Rattle.schema_folders.specs.declared.schemas.SchemaRow.{SchemaRow}
 

@@ -17,8 +17,7 @@ use Rattle.cat_model.specs.declared.object.QName.{QName}
 use Rattle.cat_model.specs.declared.type_name.TypeName.{TypeName}
 use Rattle.cat_model.specs.TypeEffects.{as_it_is}
 use Rattle.cat_model.specs.Values.{Bytes, Resolved}
-use Rattle.cat_names.specs.Lookups.{same_oid, place_of}
-use Rattle.cat_names.specs.Roles.{is_no_oid}
+use Rattle.cat_names.specs.Lookups.{same_oid, place_of, is_no_oid}
 use Rattle.cat_book.specs.Chains.{has_base, type_of, base_of, ends_behind, ends_within, chain_ends, is_domain_letter}
 use Rattle.cat_book.specs.Paths.{type_path}
 use Rattle.row_texts.specs.TypeTexts.{type_named}

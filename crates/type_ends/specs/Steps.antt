@@ -7,8 +7,7 @@ use Rattle.cat_model.specs.declared.object.QName.{QName}
 use Rattle.cat_model.specs.declared.type_name.TypeName.{TypeName}
 use Rattle.cat_model.specs.declared.type_name.TypeName.TheVariants.{Path}
 use Rattle.cat_model.specs.Values.{Bytes}
-use Rattle.cat_names.specs.Lookups.{place_of}
-use Rattle.cat_names.specs.Roles.{is_no_oid}
+use Rattle.cat_names.specs.Lookups.{place_of, is_no_oid}
 use Rattle.cat_book.specs.Chains.{is_domain_letter, has_base}
 use Rattle.cat_book.specs.Paths.{type_path}
 use Rattle.row_texts.specs.TypeTexts.{type_named}

@@ -10,7 +10,7 @@ use cat_names::{CheckError, at_table};
 use cat_rows::{Catalogue, SysTable};
 use constraint_table::{Beside, Constraints};
 use plain_tables::{Comments, Databases, Depends, Labels, Members, Relations, Roles, Schemas};
-use std::alloc::Global;
+use std::alloc::{AllocError, Global};
 use std::marker::Model;
 use text_tables::{Columns, Defaults, Indexes, Sequences, Types, Views};
 
@@ -49,6 +49,14 @@ impl WellFormed {
         ensures { result.now ≡ self.now }
     {
         &self.cat
+    }
+
+    /// What leads where among its rows, made in time near linear. It borrows from the rows, so whoever needs it makes
+    /// it once, beside them.
+    pub fn book(&self, alloc: Global) -> Result<Book<'_>, AllocError>
+        ensures { IfOk result (λ book. book ≡ self.now) }
+    {
+        Book::of(alloc, &self.cat)
     }
 }
 

@@ -1,9 +1,8 @@
 use Rattle.std.proofs.Common.{◌≡◌, [], ◌∷◌, ◌++◌, ◌+◌, ◌≤◌, length, take, None, sym, ap, subst, ◌∙◌, arith}
 use Rattle.std.proofs.lemmas.List.{take_all, drop_all, take_more}
 use Rattle.std.proofs.lemmas.Result.{err_from_is_err_and}
-use Rattle.cat_names.specs.Findings.{first_kind, fault_or}
+use Rattle.cat_names.specs.Findings.{first_kind, fault_or, dangling_unless}
 use Rattle.cat_names.specs.Gives.{GivesLine, IsLineDue}
-use Rattle.cat_names.specs.Roles.{dangling_unless}
 use Rattle.cat_names.proofs.Steps.{passed_at, failed_at, ended_at}
 use Rattle.cat_book.specs.Rules.{found, ending, fault_by}
 use Rattle.cat_book.specs.Seen.{AreSeen}

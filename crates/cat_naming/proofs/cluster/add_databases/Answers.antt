@@ -5,11 +5,11 @@ use Rattle.cat_naming.proofs.Rows.{row_none, row_more, rows_all}
 use Rattle.cat_naming.proofs.cluster.add_databases.Goals as goal
 
 pub loop-row-init : goal.loop-row-init
-loop-row-init c = row_none (database_entries c.args.lookup.now.pg_authid) (entries_seen c.args.entries.now) c.args.rows.now
+loop-row-init c = row_none (database_entries c.args.book.now.pg_authid) (entries_seen c.args.entries.now) c.args.rows.now
 
 pub loop-row-preserved : goal.loop-row-preserved
 loop-row-preserved c =
-    row_more (database_entries c.args.lookup.now.pg_authid) (entries_seen c.args.entries.now) _ _ (entries_seen c.in_ok-more.more) c.args.rows.now c.loop-row.row-index c.row-item.result c.loop-row.invariant c.in_ok-append.ensures c.in_ok-more.ensures c.loop-row-test.true c.row-item.is
+    row_more (database_entries c.args.book.now.pg_authid) (entries_seen c.args.entries.now) _ _ (entries_seen c.in_ok-more.more) c.args.rows.now c.loop-row.row-index c.row-item.result c.loop-row.invariant c.in_ok-append.ensures c.in_ok-more.ensures c.loop-row-test.true c.row-item.is
 
 pub returns : goal.returns
-returns c = rows_all (database_entries c.args.lookup.now.pg_authid) (entries_seen c.args.entries.now) _ c.args.rows.now c.loop-row.row-index c.loop-row.invariant (omega (arith, c.loop-row-test.false))
+returns c = rows_all (database_entries c.args.book.now.pg_authid) (entries_seen c.args.entries.now) _ c.args.rows.now c.loop-row.row-index c.loop-row.invariant (omega (arith, c.loop-row-test.false))

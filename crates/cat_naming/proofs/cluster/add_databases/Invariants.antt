@@ -6,4 +6,4 @@ use Rattle.cat_naming.specs.Seen.{entries_seen}
 use Rattle.cat_naming.proofs.cluster.add_databases.Given as goal
 
 abbrev pub invariant-loop-row : goal.invariant-loop-row
-invariant-loop-row l = entries_seen l.entries ≡ entries_seen l.fn.entries ++ flat_map (database_entries l.fn.lookup.pg_authid) (take l.row-index l.rows)
+invariant-loop-row l = entries_seen l.entries ≡ entries_seen l.fn.entries ++ flat_map (database_entries l.fn.book.pg_authid) (take l.row-index l.rows)

@@ -1,5 +1,5 @@
 use Rattle.std.proofs.Common.{◌≡◌, true, ap}
-use Rattle.cat_names.specs.Roles.{is_no_oid}
+use Rattle.cat_names.specs.Lookups.{is_no_oid}
 use Rattle.cat_naming.proofs.Looking.{without_row}
 use Rattle.cat_naming.proofs.texts.with_end.Goals as goal
 

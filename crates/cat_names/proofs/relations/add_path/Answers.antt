@@ -1,7 +1,0 @@
-use Rattle.std.proofs.Common.{[], ◌∷◌, ◌++◌, subst}
-use Rattle.cat_names.specs.Indexed.{AreKeys}
-use Rattle.cat_names.specs.Relations.{path_cmp}
-use Rattle.cat_names.proofs.relations.add_path.Goals as goal
-
-pub returns-clause-added : goal.returns-clause-added
-returns-clause-added c = λ ps h. subst (λ n. AreKeys path_cmp c.add_key.new.keys (ps ++ (c.args.row.now.relnamespace, n) ∷ [])) c.in_ok-name.ensures.cases (c.in_ok-first.ensures.added ps h)
