@@ -1,4 +1,4 @@
-pub mod Holders
 pub mod KeyOrder
+pub mod MapsSeen
 pub mod MarkLaws
 pub mod Parts

@@ -5,7 +5,7 @@ use Rattle.std.specs.List.{fold, list_all, list_any}
 use Rattle.cat_model.specs.declared.type_name.TypeName.{TypeName}
 use Rattle.cat_model.specs.declared.type_name.TypeName.TheVariants.{Words, Path}
 use Rattle.cat_model.specs.Values.{Bytes, Resolved}
-use Rattle.cat_model.specs.Lexemes.{Lexeme, word, number, lexemes, is_sign, is_word, same_text}
+use Rattle.cat_model.specs.Lexemes.{Lexeme, number, lexemes, is_sign, is_word, same_text}
 
 -- the types whose values are looked at; all other types take any text
 pub data FieldType : Type 0 where
@@ -101,7 +101,7 @@ is_label_or_value None type text = is_value (field_type type) text
 
 -- whether a type takes a text
 abbrev pub takes : Resolved → Bytes → Bool
-takes r text = is_label_or_value r.labels r.type text
+takes r text = is_label_or_value r.labels r.type_name text
 
 -- ---- comparing
 
@@ -119,4 +119,4 @@ compared_as _ text = text
 
 -- values are equal where these are
 abbrev pub comparable : Resolved → Bytes → Bytes
-comparable r text = compared_as (field_type r.type) text
+comparable r text = compared_as (field_type r.type_name) text

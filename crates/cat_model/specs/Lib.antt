@@ -5,6 +5,8 @@ pub mod Effects
 pub mod FieldTypes
 pub mod Footprints
 pub mod Grants
+pub mod HolderLaws
+pub mod Holders
 pub mod IndexColumns
 pub mod KeyEffects
 pub mod KeyLaws

@@ -1,10 +1,9 @@
 -- The effects of statements that make tables, sequences and views.
-use Rattle.std.specs.Prelude.{ℕ, ℤ, pos, negsuc, Bool, true, false, ◌&&◌, not, nat_le, List, [], ◌∷◌, ◌++◌, map, length, Option, Some, None, if◌then◌else◌}
+use Rattle.std.specs.Prelude.{ℤ, pos, negsuc, Bool, false, ◌&&◌, not, nat_le, List, [], ◌∷◌, ◌++◌, map, length, Option, Some, None}
 use Rattle.std.specs.Ordering.{int_cmp, is_le, int_eq}
 use Rattle.std.specs.List.{flat_map}
 use Rattle.cat_model.specs.declared.object.QName.{QName}
 use Rattle.cat_model.specs.declared.object.Object.TheVariants as object
-use Rattle.cat_model.specs.declared.key.Key.{Key}
 use Rattle.cat_model.specs.declared.key.Key.TheVariants as key
 use Rattle.cat_model.specs.declared.cause.Cause.TheVariants as cause
 use Rattle.cat_model.specs.declared.table.ColumnDef.{ColumnDef}
@@ -30,7 +29,7 @@ needs_columns q [] next = next []
 needs_columns q (c ∷ cs) next =
     needs_type c.type_name (λ resolved.
     needs_each (but (key.Rel q) (default_references c.default))
-    (needs_columns q cs (λ columns. next (record { name = c.name; type = c.type_name; resolved = resolved; not_null = c.not_null } ∷ columns))))
+    (needs_columns q cs (λ columns. next (record { name = c.name; type_name = c.type_name; resolved = resolved; not_null = c.not_null } ∷ columns))))
 
 abbrev pub default_set : QName → Bytes → Option Bytes → List Change
 default_set q column None = []

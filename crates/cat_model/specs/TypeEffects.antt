@@ -1,7 +1,7 @@
 -- The effects of statements about enums and domains, and what a type is at the end of its chain of domains.
-use Rattle.std.specs.Prelude.{Bool, true, false, ◌&&◌, ◌||◌, not, List, [], ◌∷◌, ◌++◌, map, Option, Some, None, if◌then◌else◌}
+use Rattle.std.specs.Prelude.{Bool, false, ◌||◌, not, List, [], ◌∷◌, map, Option, Some, None, if◌then◌else◌}
 use Rattle.std.specs.Ordering.{eq_by_cmp}
-use Rattle.std.specs.List.{filter, list_any, flat_map}
+use Rattle.std.specs.List.{filter, flat_map}
 use Rattle.std.specs.FinMap.{contains_key, insert, from_entries}
 use Rattle.cat_model.specs.declared.object.QName.{QName}
 use Rattle.cat_model.specs.declared.object.Object.TheVariants as object
@@ -24,10 +24,10 @@ use Rattle.cat_model.specs.ObjectEffects.{made}
 -- ---- types
 
 abbrev pub as_it_is : TypeName → Resolved
-as_it_is type = record { type = type; labels = None; not_null = false }
+as_it_is type = record { type_name = type; labels = None; not_null = false }
 
 abbrev pub if_type : QName → (Resolved → Tree) → Option Value → Tree
-if_type q next (Some (value.enum labels)) = next (record { type = Path q; labels = Some labels; not_null = false })
+if_type q next (Some (value.enum labels)) = next (record { type_name = Path q; labels = Some labels; not_null = false })
 if_type q next (Some (value.domain d)) = next (record d.resolved { not_null = d.resolved.not_null || d.not_null })
 if_type q next _ = refuse (cause.Absent (key.UserType q))
 

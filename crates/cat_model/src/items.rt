@@ -1,5 +1,6 @@
 //! Lists as values.
 ghost use Rattle.std.specs.Prelude.{◌≡◌};
+ghost use Rattle.std.specs.List.{AllZip};
 ghost use Rattle.std.specs.Cmp.Lexicographic.{pointwise, lists_equiv, lists_per};
 
 use std::alloc::AllocError;
@@ -50,6 +51,8 @@ impl<T: Eq> Eq for Items<T> {
 }
 
 impl<T: Clone> Clone for Items<T> {
+    ghost is_clone = { λ a b. AllZip T.is_clone a b };
+
     fn clone(&self) -> Result<Items<T>, AllocError> {
         Ok(Items {
             items: self.items.clone()?,

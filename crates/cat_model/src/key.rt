@@ -1,11 +1,13 @@
 //! The keys of the catalogue by names.
+ghost use Rattle.std.specs.Prelude.{◌≡◌};
 ghost use Rattle.cat_model.specs.KeyLaws.{key_alike};
 
 use crate::object::{Object, QName};
 use copy_text::Name;
+use std::alloc::AllocError;
 
 /// What the catalogue by names is keyed by: 16 kinds, each object by its path.
-#[derive(Debug, Hash, Clone, Drop)]
+#[derive(Debug, Hash, Drop)]
 pub enum Key {
     /// A role.
     Role(Name),
@@ -45,4 +47,33 @@ pub enum Key {
 #[derived]
 impl Hash for Key {
     ghost respects_eq = { key_alike _ };
+}
+
+impl Clone for Key {
+    ghost is_clone = { λ a b. b ≡ a };
+
+    fn clone(&self) -> Result<Key, AllocError> {
+        match self {
+            Key::Role(name) => Ok(Key::Role(name.clone()?)),
+            Key::Member(role, member, grantor) => Ok(Key::Member(
+                role.clone()?,
+                member.clone()?,
+                grantor.clone()?,
+            )),
+            Key::Schema(name) => Ok(Key::Schema(name.clone()?)),
+            Key::UserType(q) => Ok(Key::UserType(q.clone()?)),
+            Key::Rel(q) => Ok(Key::Rel(q.clone()?)),
+            Key::Owner(object) => Ok(Key::Owner(object.clone()?)),
+            Key::Default(q, column) => Ok(Key::Default(q.clone()?, column.clone()?)),
+            Key::Con(q, name) => Ok(Key::Con(q.clone()?, name.clone()?)),
+            Key::Index(q, name) => Ok(Key::Index(q.clone()?, name.clone()?)),
+            Key::Rows(q) => Ok(Key::Rows(q.clone()?)),
+            Key::SeqVal(q) => Ok(Key::SeqVal(q.clone()?)),
+            Key::OwnedBy(q) => Ok(Key::OwnedBy(q.clone()?)),
+            Key::Acl(object) => Ok(Key::Acl(object.clone()?)),
+            Key::Comment(object) => Ok(Key::Comment(object.clone()?)),
+            Key::Body(q) => Ok(Key::Body(q.clone()?)),
+            Key::Database(name) => Ok(Key::Database(name.clone()?)),
+        }
+    }
 }

@@ -1,8 +1,11 @@
 //! Paths of names.
+ghost use Rattle.std.specs.Prelude.{◌≡◌};
+
 use copy_text::Name;
+use std::alloc::AllocError;
 
 /// The path of an object in a schema.
-#[derive(Debug, PartialEq, Eq, PartialOrd, Ord, Hash, Clone, Drop)]
+#[derive(Debug, PartialEq, Eq, PartialOrd, Ord, Hash, Drop)]
 pub struct QName {
     /// The schema.
     pub schema: Name,
@@ -11,7 +14,7 @@ pub struct QName {
 }
 
 /// An object that may have an owner, grants or a comment, by its path.
-#[derive(Debug, PartialEq, Eq, PartialOrd, Ord, Hash, Clone, Drop)]
+#[derive(Debug, PartialEq, Eq, PartialOrd, Ord, Hash, Drop)]
 pub enum Object {
     /// A schema.
     Schema(Name),
@@ -25,4 +28,30 @@ pub enum Object {
     Constraint(QName, Name),
     /// A database.
     Database(Name),
+}
+
+impl Clone for QName {
+    ghost is_clone = { λ a b. b ≡ a };
+
+    fn clone(&self) -> Result<QName, AllocError> {
+        Ok(QName {
+            schema: self.schema.clone()?,
+            name: self.name.clone()?,
+        })
+    }
+}
+
+impl Clone for Object {
+    ghost is_clone = { λ a b. b ≡ a };
+
+    fn clone(&self) -> Result<Object, AllocError> {
+        match self {
+            Object::Schema(name) => Ok(Object::Schema(name.clone()?)),
+            Object::Type(q) => Ok(Object::Type(q.clone()?)),
+            Object::Relation(q) => Ok(Object::Relation(q.clone()?)),
+            Object::Column(q, name) => Ok(Object::Column(q.clone()?, name.clone()?)),
+            Object::Constraint(q, name) => Ok(Object::Constraint(q.clone()?, name.clone()?)),
+            Object::Database(name) => Ok(Object::Database(name.clone()?)),
+        }
+    }
 }
