@@ -6,7 +6,8 @@ use Rattle.cat_model.specs.declared.key.Key.{Key}
 use Rattle.cat_model.specs.declared.cause.Cause.{Cause}
 use Rattle.cat_model.specs.Keys.{key_cmp, key_eq}
 use Rattle.cat_model.specs.KeyLaws.{key_cmp_total, key_eq-Decides}
-use Rattle.cat_model.specs.Values.{Value, Named}
+use Rattle.cat_model.specs.declared.value.Value.{Value}
+use Rattle.cat_model.specs.Values.{Named}
 use Rattle.cat_model.specs.Trees.{Change, changed_at, changed, after}
 
 pub key_eq_self : (k : Key) → key_eq k k ≡ true

@@ -14,8 +14,11 @@ use Rattle.cat_model.specs.declared.footprint.Footprint.{Footprint}
 use Rattle.cat_model.specs.declared.cause.Cause.{Cause}
 use Rattle.cat_model.specs.declared.cause.Cause.TheVariants as cause
 use Rattle.cat_model.specs.declared.stmt.Stmt.TheVariants as stmt
-use Rattle.cat_model.specs.Values as value
-use Rattle.cat_model.specs.Values.{Bytes, Value, Named, Column, Row, Constraint}
+use Rattle.cat_model.specs.declared.value.Value.TheVariants as value
+use Rattle.cat_model.specs.declared.value.Value.{Value}
+use Rattle.cat_model.specs.declared.value.Column.{Column}
+use Rattle.cat_model.specs.declared.value.Constraint.{Constraint}
+use Rattle.cat_model.specs.Values.{Bytes, Named, Row}
 use Rattle.cat_model.specs.Tables.{repeated, orphan}
 use Rattle.cat_model.specs.CopiedRows.{all_columns, copied_rows}
 use Rattle.cat_model.specs.Trees.{Tree, refuse, sets, Seen, seen, same_path, there_and_of, class_of}
@@ -60,17 +63,17 @@ AllGiven pairs q (f ∷ fs) = (is_given pairs q f.parent ≡ true) × AllGiven p
 
 -- what COPY asks of the pairs
 abbrev Gives : List (QName × QName) → Named → QName → Type 0
-Gives pairs n q = (name : Bytes) (c : Constraint) (parent : QName) (parent_names : List Bytes) → get n (key.Con q name) ≡ Some (value.constraint c) → c.parent ≡ Some (parent, parent_names) → is_given pairs q parent ≡ true
+Gives pairs n q = (name : Bytes) (c : Constraint) (parent : QName) (parent_names : List Bytes) → get n (key.Con q name) ≡ Some (value.Constraint c) → c.parent ≡ Some (parent, parent_names) → is_given pairs q parent ≡ true
 
 parent-given : (pairs : List (QName × QName)) (q : QName) (name : Bytes) (c : Constraint) (o : Option (QName × List Bytes)) → c.parent ≡ o → ((parent : QName) (names : List Bytes) → c.parent ≡ Some (parent, names) → is_given pairs q parent ≡ true) → IsGiven pairs q (foreign_of name c o)
 parent-given pairs q name c None e h = tt
 parent-given pairs q name c (Some (parent, names)) e h = h parent names e
 
 entry-given : (pairs : List (QName × QName)) (n : Named) (q : QName) → Gives pairs n q → (k : Key) (v : Value) → (get n k ≡ Some v) × (there_and_of (class.Constraints q) k (get n k) ≡ true) → IsGiven pairs q (foreign_in (k, v))
-entry-given pairs n q gives (key.Con t name) (value.constraint c) h =
+entry-given pairs n q gives (key.Con t name) (value.Constraint c) h =
     let of_table : same_path q t ≡ true = subst (λ (o : Option Value). there_and_of (class.Constraints q) (key.Con t name) o ≡ true) h.0 h.1 in
     let same : t ≡ q = sym (same_path-equal q t of_table) in
-    let there : get n (key.Con q name) ≡ Some (value.constraint c) = subst (λ (p : QName). get n (key.Con p name) ≡ Some (value.constraint c)) same h.0 in
+    let there : get n (key.Con q name) ≡ Some (value.Constraint c) = subst (λ (p : QName). get n (key.Con p name) ≡ Some (value.Constraint c)) same h.0 in
     parent-given pairs q name c c.parent refl (λ parent names e. gives name c parent names there e)
 entry-given pairs n q gives (key.Con t name) _ h = tt
 entry-given pairs n q gives _ v h = tt
@@ -103,7 +106,7 @@ parents-stay f s pairs q (g ∷ gs) columns new all next given read h =
     stays-orphan g.name (orphan columns g.columns new (columns_of parent) g.parent_columns (cond (same_path q g.parent) all (rows_in rows)))
     (parents-stay f s pairs q gs columns new all next given.1 read h)))
 
-rows-stay : (f : Footprint) (s : Seen) (pairs : List (QName × QName)) (q : QName) (columns : List Column) (us : List Unique) (fs : List Foreign) (old : List Row) (r : Result (List Row) Cause) → AllGiven pairs q fs → ((m : Mark) → Among (parent_reads q pairs) m → Among f.reads m) → ((rows : List Row) → Stays f s (sets ((key.Rows q, Some (value.rows rows)) ∷ []))) → Stays f s (rows_added q columns us fs old r)
+rows-stay : (f : Footprint) (s : Seen) (pairs : List (QName × QName)) (q : QName) (columns : List Column) (us : List Unique) (fs : List Foreign) (old : List Row) (r : Result (List Row) Cause) → AllGiven pairs q fs → ((m : Mark) → Among (parent_reads q pairs) m → Among f.reads m) → ((rows : List Row) → Stays f s (sets ((key.Rows q, Some (value.Rows rows)) ∷ []))) → Stays f s (rows_added q columns us fs old r)
 rows-stay f s pairs q columns us fs old (Err because) given read h = record { is = tt }
 rows-stay f s pairs q columns us fs old (Ok new) given read h =
     uniques-stay f s us columns (old ++ new) _ (parents-stay f s pairs q fs columns new (old ++ new) _ given read (h (old ++ new)))

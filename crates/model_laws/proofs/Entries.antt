@@ -9,7 +9,8 @@ use Rattle.cat_model.specs.declared.key.Key.{Key}
 use Rattle.cat_model.specs.declared.class.Class.{Class}
 use Rattle.cat_model.specs.Keys.{key_cmp}
 use Rattle.cat_model.specs.KeyLaws.{key_cmp_total}
-use Rattle.cat_model.specs.Values.{Value, Named}
+use Rattle.cat_model.specs.declared.value.Value.{Value}
+use Rattle.cat_model.specs.Values.{Named}
 use Rattle.cat_model.specs.Trees.{there_and_of, class_of}
 use Rattle.model_laws.proofs.Changes.{key_eq_self}
 use Rattle.model_laws.proofs.Exchange.{shown, get-class}

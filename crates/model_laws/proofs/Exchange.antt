@@ -11,7 +11,8 @@ use Rattle.cat_model.specs.declared.footprint.Footprint.{Footprint}
 use Rattle.cat_model.specs.declared.cause.Cause.{Cause}
 use Rattle.cat_model.specs.Keys.{key_cmp, key_eq}
 use Rattle.cat_model.specs.KeyLaws.{key_cmp_total, key_cmp-IsAntisymmetric, key_eq-same}
-use Rattle.cat_model.specs.Values.{Value, Named}
+use Rattle.cat_model.specs.declared.value.Value.{Value}
+use Rattle.cat_model.specs.Values.{Named}
 use Rattle.cat_model.specs.Trees.{Change, Tree, Seen, seen, outcome, changed, after_or_same, next, there_and_of, class_of}
 use Rattle.cat_model.specs.Marks.{Among, Covers, IsCovered, AllCovered, IsWithin, Agree, meets, key_meets, any_meet, conflict}
 use Rattle.model_laws.proofs.Changes.{value_after, get-changed}

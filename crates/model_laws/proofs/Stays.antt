@@ -32,8 +32,17 @@ use Rattle.cat_model.specs.declared.table.RoleChanges.{RoleChanges}
 use Rattle.cat_model.specs.declared.cause.Cause.TheVariants as cause
 use Rattle.cat_model.specs.declared.stmt.Stmt.{Stmt}
 use Rattle.cat_model.specs.declared.stmt.Stmt.TheVariants as stmt
-use Rattle.cat_model.specs.Values as value
-use Rattle.cat_model.specs.Values.{Bytes, Value, Named, Column, Row, Sequence, Domain, Role, Membership, Resolved, Grants, Holder, Index}
+use Rattle.cat_model.specs.declared.value.Value.TheVariants as value
+use Rattle.cat_model.specs.declared.value.Value.{Value}
+use Rattle.cat_model.specs.declared.value.Column.{Column}
+use Rattle.cat_model.specs.declared.value.Sequence.{Sequence}
+use Rattle.cat_model.specs.declared.value.Domain.{Domain}
+use Rattle.cat_model.specs.declared.value.Role.{Role}
+use Rattle.cat_model.specs.declared.value.Membership.{Membership}
+use Rattle.cat_model.specs.declared.value.Resolved.{Resolved}
+use Rattle.cat_model.specs.declared.holder.Holder.{Holder}
+use Rattle.cat_model.specs.declared.value.Index.{Index}
+use Rattle.cat_model.specs.Values.{Bytes, Named, Row, Grants}
 use Rattle.cat_model.specs.Lexemes.{same_text}
 use Rattle.cat_model.specs.Grants.{granted, revoked, holder_of, joined, owner_only, type_grants, schema_rights, table_rights, sequence_rights}
 use Rattle.cat_model.specs.Tables.{distinct, columns_there, column_there, null_in, repeated, orphan}
@@ -62,8 +71,8 @@ covers-among reads (m ∷ ms) k old new (inr h) = inr (covers-among reads ms k o
 new-object : (f : Footprint) (s : Seen) (k : Key) (o : Object) (boot : Bytes) (grants : Grants) (v : Value) → Among f.writes (mark.Key k) → Among f.writes (mark.Key (key.Owner o)) → Among f.writes (mark.Key (key.Acl o)) → Covered f s ((k, Some v) ∷ made o boot grants)
 new-object f s k o boot grants v a b c =
     more f s k (Some v) (covers-among f.reads f.writes k (s.at k) (Some v) a)
-    (more f s (key.Owner o) (Some (value.owner boot)) (covers-among f.reads f.writes (key.Owner o) (s.at (key.Owner o)) (Some (value.owner boot)) b)
-    (more f s (key.Acl o) (Some (value.grants grants)) (covers-among f.reads f.writes (key.Acl o) (s.at (key.Acl o)) (Some (value.grants grants)) c)
+    (more f s (key.Owner o) (Some (value.Owner boot)) (covers-among f.reads f.writes (key.Owner o) (s.at (key.Owner o)) (Some (value.Owner boot)) b)
+    (more f s (key.Acl o) (Some (value.Grants grants)) (covers-among f.reads f.writes (key.Acl o) (s.at (key.Acl o)) (Some (value.Grants grants)) c)
     nothing))
 
 -- the same with another key of the object between
@@ -79,7 +88,7 @@ schema-stays s ps boot name =
     let f = footprint_of (stmt.CreateSchema name) ps in
     stays-free (key.Schema name) (inl refl) (λ _.
     stays-check (not (is_system name)) (cause.Exists (key.Schema name))
-    (stays-sets (new-object f s (key.Schema name) (object.Schema name) boot (owner_only schema_rights) value.schema (inl refl) (inr (inl refl)) (inr (inr (inl refl))))))
+    (stays-sets (new-object f s (key.Schema name) (object.Schema name) boot (owner_only schema_rights) value.Schema (inl refl) (inr (inl refl)) (inr (inr (inl refl))))))
 
 owned-stays : (f : Footprint) (s : Seen) (what : Owned) (next : Tree) → Among f.reads (mark.Key (owned_key what)) → Stays f s next → Stays f s (needs_owned what next)
 owned-stays f s (owned.Schema name) next read h = stays-needs (key.Schema name) read h
@@ -91,7 +100,7 @@ owned-stays f s (owned.View q) next read h = stays-kind _ (key.Rel q) read h
 owned-stays f s (owned.Database name) next read h = stays-needs (key.Database name) read h
 
 joined-covered : (f : Footprint) (s : Seen) (o : Object) (role : Bytes) (v : Option Value) → Among f.writes (mark.Key (key.Acl o)) → Covered f s (grants_joined o role v)
-joined-covered f s o role (Some (value.grants g)) h = more f s (key.Acl o) _ (covers-among f.reads f.writes (key.Acl o) (s.at (key.Acl o)) (Some (value.grants (joined role g))) h) nothing
+joined-covered f s o role (Some (value.Grants g)) h = more f s (key.Acl o) _ (covers-among f.reads f.writes (key.Acl o) (s.at (key.Acl o)) (Some (value.Grants (joined role g))) h) nothing
 joined-covered f s o role (Some _) h = nothing
 joined-covered f s o role None h = nothing
 
@@ -101,7 +110,7 @@ owner-stays s ps what role =
     owned-stays f s what _ (inl refl)
     (stays-needs (key.Role role) (inr (inl refl))
     (stays-look {k = key.Acl (owned_object what)} (inr (inr (inl refl))) (λ v.
-    stays-sets (more f s (key.Owner (owned_object what)) (Some (value.owner role)) (inl refl) (joined-covered f s (owned_object what) role v (inr (inl refl)))))))
+    stays-sets (more f s (key.Owner (owned_object what)) (Some (value.Owner role)) (inl refl) (joined-covered f s (owned_object what) role v (inr (inl refl)))))))
 
 granted-stays : (f : Footprint) (s : Seen) (what : Granted) (next : Tree) → Among f.reads (mark.Key (granted_key what)) → Stays f s next → Stays f s (needs_granted what next)
 granted-stays f s (on.Table q) next read h = stays-kind _ (key.Rel q) read h
@@ -114,7 +123,7 @@ grantee-stays f s grantee.Public next read h = h
 grantee-stays f s (grantee.Role name) next read h = stays-needs (key.Role name) (read (mark.Key (key.Role name)) (inl refl)) h
 
 changed-covered : (f : Footprint) (s : Seen) (o : Object) (change : Grants → Grants) (v : Option Value) → Among f.writes (mark.Key (key.Acl o)) → Covered f s (grants_changed o change v)
-changed-covered f s o change (Some (value.grants g)) h = more f s (key.Acl o) _ (covers-among f.reads f.writes (key.Acl o) (s.at (key.Acl o)) (Some (value.grants (change g))) h) nothing
+changed-covered f s o change (Some (value.Grants g)) h = more f s (key.Acl o) _ (covers-among f.reads f.writes (key.Acl o) (s.at (key.Acl o)) (Some (value.Grants (change g))) h) nothing
 changed-covered f s o change (Some _) h = nothing
 changed-covered f s o change None h = nothing
 
@@ -149,7 +158,7 @@ commented-stays f s (commented.Constraint q name) next read h = stays-needs (key
 pub comment-stays : (s : Seen) (ps : List (QName × QName)) (what : Commented) (text : Option Bytes) → Stays (footprint_of (stmt.Comment what text) ps) s (comment_on what text)
 comment-stays s ps what text =
     let f = footprint_of (stmt.Comment what text) ps in
-    commented-stays f s what _ (inl refl) (stays-sets (more f s (key.Comment (commented_object what)) (option_map value.comment text) (inl refl) nothing))
+    commented-stays f s what _ (inl refl) (stays-sets (more f s (key.Comment (commented_object what)) (option_map value.Comment text) (inl refl) nothing))
 
 -- ---- roles and databases
 
@@ -188,11 +197,11 @@ enum-stays s ps boot q labels =
     stays-needs (key.Schema q.schema) (inl refl)
     (stays-free (key.UserType q) (inr (inl refl)) (λ _.
     stays-check (distinct labels) (cause.Exists (key.UserType q))
-    (stays-sets (new-object f s (key.UserType q) (object.Type q) boot type_grants (value.enum labels) (inl refl) (inr (inl refl)) (inr (inr (inl refl)))))))
+    (stays-sets (new-object f s (key.UserType q) (object.Type q) boot type_grants (value.Enum labels) (inl refl) (inr (inl refl)) (inr (inr (inl refl)))))))
 
 if-type : (f : Footprint) (s : Seen) (q : QName) (next : Resolved → Tree) (v : Option Value) → ((r : Resolved) → Stays f s (next r)) → Stays f s (if_type q next v)
-if-type f s q next (Some (value.enum labels)) h = h _
-if-type f s q next (Some (value.domain d)) h = h _
+if-type f s q next (Some (value.Enum labels)) h = h _
+if-type f s q next (Some (value.Domain d)) h = h _
 if-type f s q next (Some _) h = record { is = tt }
 if-type f s q next None h = record { is = tt }
 
@@ -240,7 +249,7 @@ columns-stay f s q (c ∷ cs) next read h =
 
 default-covered : (f : Footprint) (s : Seen) (q : QName) (column : Bytes) (o : Option Bytes) → ((m : Mark) → Among (default_mark q column o) m → Among f.writes m) → AllCovered f s (default_set q column o)
 default-covered f s q column None write = tt
-default-covered f s q column (Some text) write = (covers-among f.reads f.writes (key.Default q column) (s.at (key.Default q column)) (Some (value.default_text text)) (write (mark.Key (key.Default q column)) (inl refl)), tt)
+default-covered f s q column (Some text) write = (covers-among f.reads f.writes (key.Default q column) (s.at (key.Default q column)) (Some (value.DefaultText text)) (write (mark.Key (key.Default q column)) (inl refl)), tt)
 
 defaults-covered : (f : Footprint) (s : Seen) (q : QName) (columns : List ColumnDef) → ((m : Mark) → Among (flat_map (default_writes q) columns) m → Among f.writes m) → AllCovered f s (flat_map (λ c. default_set q c.name c.default) columns)
 defaults-covered f s q [] write = tt
@@ -373,7 +382,7 @@ index-stays s ps q name method rest =
     stays-table q (inl refl) (λ columns.
     stays-free (key.Rel (index_path q name)) (inr (inl refl)) (λ _.
     stays-free (key.Index q name) (inr (inr (inl refl))) (λ absent.
-    stays-sets (more f s (key.Index q name) (Some (value.index (record { method = method; unique = false; text = rest }))) (inl (refl, absent, refl, inr (inr (inl refl)))) (more f s (key.Rel (index_path q name)) _ (inr (inl refl)) nothing)))))
+    stays-sets (more f s (key.Index q name) (Some (value.Index (record { method = method; unique = false; text = rest }))) (inl (refl, absent, refl, inr (inr (inl refl)))) (more f s (key.Rel (index_path q name)) _ (inr (inl refl)) nothing)))))
 
 unique_rows-stay : (f : Footprint) (s : Seen) (q : QName) (name : Bytes) (columns : List Column) (on : Option (List Bytes)) (next : Tree) → ((m : Mark) → Among (row_reads q on) m → Among f.reads m) → Stays f s next → Stays f s (unique_rows q name columns on next)
 unique_rows-stay f s q name columns None next read h = h
@@ -388,4 +397,4 @@ unique_index-stays s ps q name method rest =
     stays-free (key.Rel (index_path q name)) (inr (inl refl)) (λ _.
     stays-free (key.Index q name) (inr (inr (inl refl))) (λ absent.
     unique_rows-stay f s q name columns (plain_columns rest) _ (λ m h. inr (inr (inr h)))
-    (stays-sets (more f s (key.Index q name) (Some (value.index (record { method = method; unique = true; text = rest }))) (inl (refl, absent, refl, inr (inr (inl refl)))) (more f s (key.Rel (index_path q name)) _ (inr (inl refl)) nothing))))))
+    (stays-sets (more f s (key.Index q name) (Some (value.Index (record { method = method; unique = true; text = rest }))) (inl (refl, absent, refl, inr (inr (inl refl)))) (more f s (key.Rel (index_path q name)) _ (inr (inl refl)) nothing))))))

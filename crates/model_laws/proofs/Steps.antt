@@ -10,8 +10,13 @@ use Rattle.cat_model.specs.declared.class.Mark.TheVariants as mark
 use Rattle.cat_model.specs.declared.footprint.Footprint.{Footprint}
 use Rattle.cat_model.specs.declared.cause.Cause.{Cause}
 use Rattle.cat_model.specs.declared.cause.Cause.TheVariants as cause
-use Rattle.cat_model.specs.Values as value
-use Rattle.cat_model.specs.Values.{Bytes, Value, Column, Sequence, Domain, Role}
+use Rattle.cat_model.specs.declared.value.Value.TheVariants as value
+use Rattle.cat_model.specs.declared.value.Value.{Value}
+use Rattle.cat_model.specs.declared.value.Column.{Column}
+use Rattle.cat_model.specs.declared.value.Sequence.{Sequence}
+use Rattle.cat_model.specs.declared.value.Domain.{Domain}
+use Rattle.cat_model.specs.declared.value.Role.{Role}
+use Rattle.cat_model.specs.Values.{Bytes}
 use Rattle.cat_model.specs.Trees.{Change, Tree, refuse, sets, look, scan, Seen}
 use Rattle.cat_model.specs.Marks.{Among, IsCovered, AllCovered, IsWithin}
 use Rattle.cat_model.specs.Footprints.{marks}
@@ -83,7 +88,7 @@ module _ {f : Footprint} {s : Seen} where
   stays-kind kind k {next} read h = record { is = (read, of_kind kind k next (s.at k) h) }
 
   of_table : (q : QName) (next : List Column → Tree) (v : Option Value) → ((columns : List Column) → Stays f s (next columns)) → IsWithin f s (if_table q next v)
-  of_table q next (Some (value.table columns)) h = (h columns).is
+  of_table q next (Some (value.Table columns)) h = (h columns).is
   of_table q next (Some _) h = tt
   of_table q next None h = tt
 
@@ -91,7 +96,7 @@ module _ {f : Footprint} {s : Seen} where
   stays-table q {next} read h = record { is = (read, of_table q next (s.at (key.Rel q)) h) }
 
   of_sequence : (q : QName) (next : Sequence → Tree) (v : Option Value) → ((n : Sequence) → Stays f s (next n)) → IsWithin f s (if_sequence q next v)
-  of_sequence q next (Some (value.sequence n)) h = (h n).is
+  of_sequence q next (Some (value.Sequence n)) h = (h n).is
   of_sequence q next (Some _) h = tt
   of_sequence q next None h = tt
 
@@ -99,7 +104,7 @@ module _ {f : Footprint} {s : Seen} where
   stays-sequence q {next} read h = record { is = (read, of_sequence q next (s.at (key.Rel q)) h) }
 
   of_domain : (q : QName) (next : Domain → Tree) (v : Option Value) → ((d : Domain) → Stays f s (next d)) → IsWithin f s (if_domain q next v)
-  of_domain q next (Some (value.domain d)) h = (h d).is
+  of_domain q next (Some (value.Domain d)) h = (h d).is
   of_domain q next (Some _) h = tt
   of_domain q next None h = tt
 
@@ -107,7 +112,7 @@ module _ {f : Footprint} {s : Seen} where
   stays-domain q {next} read h = record { is = (read, of_domain q next (s.at (key.UserType q)) h) }
 
   of_role : (name : Bytes) (next : Role → Tree) (v : Option Value) → ((r : Role) → Stays f s (next r)) → IsWithin f s (if_role name next v)
-  of_role name next (Some (value.role r)) h = (h r).is
+  of_role name next (Some (value.Role r)) h = (h r).is
   of_role name next (Some _) h = tt
   of_role name next None h = tt
 

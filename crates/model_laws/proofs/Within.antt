@@ -7,7 +7,8 @@ use Rattle.cat_model.specs.declared.class.Mark.{Mark}
 use Rattle.cat_model.specs.declared.class.Mark.TheVariants as mark
 use Rattle.cat_model.specs.declared.footprint.Footprint.{Footprint}
 use Rattle.cat_model.specs.declared.cause.Cause.{Cause}
-use Rattle.cat_model.specs.Values.{Value, Named}
+use Rattle.cat_model.specs.declared.value.Value.{Value}
+use Rattle.cat_model.specs.Values.{Named}
 use Rattle.cat_model.specs.Trees.{Change, Tree, refuse, sets, look, scan, Seen, seen, outcome}
 use Rattle.cat_model.specs.Marks.{Among, Covers, IsCovered, AllCovered, IsWithin, Agree}
 

@@ -11,8 +11,9 @@ use Rattle.cat_model.specs.declared.type_name.TypeName.TheVariants.{Words, Path}
 use Rattle.cat_model.specs.declared.table.ColumnDef.{ColumnDef}
 use Rattle.cat_model.specs.declared.stmt.Stmt.{Stmt}
 use Rattle.cat_model.specs.declared.stmt.Stmt.TheVariants as stmt
-use Rattle.cat_model.specs.Values as value
-use Rattle.cat_model.specs.Values.{Bytes, Value, Named}
+use Rattle.cat_model.specs.declared.value.Value.TheVariants as value
+use Rattle.cat_model.specs.declared.value.Value.{Value}
+use Rattle.cat_model.specs.Values.{Bytes, Named}
 use Rattle.cat_model.specs.Effects.{effect}
 use Rattle.cat_model.specs.Trees.{Change, seen, outcome, next}
 
@@ -36,7 +37,7 @@ catalogue_after boot (s ∷ ss) named = catalogue_after boot ss (next (effect bo
 
 -- the schema public, and nothing else
 abbrev pub opening : Named
-opening = from_sorted ((key.Schema (codes "public"), value.schema) ∷ [])
+opening = from_sorted ((key.Schema (codes "public"), value.Schema) ∷ [])
 
 abbrev pub postgres : Bytes
 postgres = codes "postgres"

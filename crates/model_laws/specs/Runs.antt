@@ -18,8 +18,9 @@ use Rattle.cat_model.specs.declared.constraint.SequenceKind.TheVariants as seque
 use Rattle.cat_model.specs.declared.type_name.TypeName.TheVariants.{Words, Path}
 use Rattle.cat_model.specs.declared.constraint.Encoding.TheVariants as encoding
 use Rattle.cat_model.specs.Grants.{owner_only, schema_rights}
-use Rattle.cat_model.specs.Values as value
-use Rattle.cat_model.specs.Values.{Bytes, Value, Named}
+use Rattle.cat_model.specs.declared.value.Value.TheVariants as value
+use Rattle.cat_model.specs.declared.value.Value.{Value}
+use Rattle.cat_model.specs.Values.{Bytes, Named}
 use Rattle.model_laws.specs.Examples.{postgres}
 
 abbrev pub at : Bytes → Bytes → QName
@@ -28,12 +29,12 @@ at schema name = record { schema = schema; name = name }
 -- the role and the database postgres, and the schema public
 abbrev pub empty_entries : List (Key × Value)
 empty_entries =
-    (key.Role postgres, value.role (record { superuser = true; inherit = true; create_role = true; create_db = true; login = true; replication = true; bypass_rls = true; limit = negsuc 0; password = None; valid_until = None }))
-    ∷ (key.Schema (codes "public"), value.schema)
-    ∷ (key.Owner (object.Schema (codes "public")), value.owner postgres)
-    ∷ (key.Owner (object.Database postgres), value.owner postgres)
-    ∷ (key.Acl (object.Schema (codes "public")), value.grants (owner_only schema_rights))
-    ∷ (key.Database postgres, value.database encoding.Utf8)
+    (key.Role postgres, value.Role (record { superuser = true; inherit = true; create_role = true; create_db = true; login = true; replication = true; bypass_rls = true; limit = negsuc 0; password = None; valid_until = None }))
+    ∷ (key.Schema (codes "public"), value.Schema)
+    ∷ (key.Owner (object.Schema (codes "public")), value.Owner postgres)
+    ∷ (key.Owner (object.Database postgres), value.Owner postgres)
+    ∷ (key.Acl (object.Schema (codes "public")), value.Grants (owner_only schema_rights))
+    ∷ (key.Database postgres, value.Database encoding.Utf8)
     ∷ []
 
 abbrev pub empty_cluster : Named

@@ -8,8 +8,11 @@ ghost use Rattle.cat_model.specs.Grants.{granted, revoked, joined, both_items, i
 ghost use Rattle.cat_model.specs.Marks.{conflict};
 ghost use Rattle.model_laws.specs.Runs.{empty_cluster, run_one, said_one, keys_one, run_two, said_two, keys_two, run_three, said_three, keys_three, run_four, said_four, keys_four};
 ghost use Rattle.cat_model.specs.Trees.{same_path};
-ghost use Rattle.cat_model.specs.Values as value;
-ghost use Rattle.cat_model.specs.Values.{Bytes, Holder, OWNER, ROLE, Item, Grants};
+ghost use Rattle.cat_model.specs.declared.value.Value.TheVariants as value;
+ghost use Rattle.cat_model.specs.declared.holder.Holder.{Holder};
+ghost use Rattle.cat_model.specs.declared.holder.Item.{Item};
+ghost use Rattle.cat_model.specs.declared.holder.Holder.TheVariants.{Owner as OWNER, Role as ROLE};
+ghost use Rattle.cat_model.specs.Values.{Bytes, Grants};
 ghost use Rattle.cat_model.specs.declared.cause.Cause.{Cause};
 ghost use Rattle.cat_model.specs.declared.cause.Cause.TheVariants as cause;
 ghost use Rattle.cat_model.specs.declared.grant.Rights.{Rights};
@@ -22,7 +25,7 @@ ghost use Rattle.cat_model.specs.declared.stmt.Stmt.TheVariants as stmt;
 pub fn statements_meet_the_examples()
     ensures setvals { causes postgres setvals opening ≡ None ∷ Some cause.OutOfRange ∷ None ∷ [] }
     ensures bigints { causes postgres bigints opening ≡ None ∷ None ∷ Some (cause.BadValue 1 1) ∷ Some (cause.BadValue 1 2) ∷ [] }
-    ensures kept { get (catalogue_after postgres bigints opening) (key.Rows (public (codes "t"))) ≡ Some (value.rows ((Some (codes "9223372036854775807") ∷ []) ∷ [])) }
+    ensures kept { get (catalogue_after postgres bigints opening) (key.Rows (public (codes "t"))) ≡ Some (value.Rows ((Some (codes "9223372036854775807") ∷ []) ∷ [])) }
     ensures children { causes postgres children opening ≡ None ∷ None ∷ None ∷ None ∷ None ∷ Some (cause.NoParent (codes "c_fk") 3) ∷ None ∷ None ∷ [] }
     ensures equal_rows { causes postgres equal_rows opening ≡ None ∷ None ∷ Some (cause.Duplicate (codes "t_n_key") 2 3) ∷ Some (cause.NullValue 1 5) ∷ Some (cause.Duplicate (codes "t_i") 2 3) ∷ None ∷ [] }
     ensures domains { causes postgres domains opening ≡ None ∷ Some (cause.Absent (key.UserType (public (codes "e")))) ∷ [] }

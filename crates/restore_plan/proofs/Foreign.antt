@@ -27,8 +27,12 @@ use Rattle.cat_model.specs.declared.stmt.Stmt.TheVariants as stmt
 use Rattle.cat_model.specs.Keys.{key_cmp, key_eq}
 use Rattle.cat_model.specs.KeyLaws.{key_cmp_total, key_eq-same}
 use Rattle.cat_model.specs.Lexemes.{same_text}
-use Rattle.cat_model.specs.Values as value
-use Rattle.cat_model.specs.Values.{Bytes, Value, Named, Constraint, Column, Resolved}
+use Rattle.cat_model.specs.declared.value.Value.TheVariants as value
+use Rattle.cat_model.specs.declared.value.Value.{Value}
+use Rattle.cat_model.specs.declared.value.Constraint.{Constraint}
+use Rattle.cat_model.specs.declared.value.Column.{Column}
+use Rattle.cat_model.specs.declared.value.Resolved.{Resolved}
+use Rattle.cat_model.specs.Values.{Bytes, Named}
 use Rattle.cat_model.specs.Trees.{Change, Tree, refuse, sets, look, scan, Seen, seen, outcome, changed_at, changed, after_or_same, next, same_path}
 use Rattle.cat_model.specs.Marks.{IsWithin, key_meets}
 use Rattle.cat_model.specs.Effects.{effect}
@@ -51,7 +55,7 @@ FitsParent pairs table None = Unit {0}
 FitsParent pairs table (Some (parent, names)) = is_given pairs table parent ≡ true
 
 abbrev pub FitsValue : List (QName × QName) → QName → Option Value → Type 0
-FitsValue pairs table (Some (value.constraint c)) = FitsParent pairs table c.parent
+FitsValue pairs table (Some (value.Constraint c)) = FitsParent pairs table c.parent
 FitsValue pairs table _ = Unit {0}
 
 -- where it is a foreign key, it is given
@@ -61,7 +65,7 @@ Fits pairs _ v = Unit {0}
 
 fits-from : (pairs : List (QName × QName)) (n : Named) → Given pairs n → (table : QName) (name : Bytes) (v : Option Value) → get n (key.Con table name) ≡ v → FitsValue pairs table v
 fits-from pairs n given table name None e = tt
-fits-from pairs n given table name (Some (value.constraint c)) e = at c.parent refl
+fits-from pairs n given table name (Some (value.Constraint c)) e = at c.parent refl
   where
     at : (p : Option (QName × List Bytes)) → c.parent ≡ p → FitsParent pairs table p
     at None g = tt
@@ -162,7 +166,7 @@ module _ {pairs : List (QName × QName)} where
   fit-free k {more} h = record { is = absent k more h }
 
   of_table : (q : QName) (more : List Column → Tree) → ((columns : List Column) → Fit pairs (more columns)) → (v : Option Value) → Fitting pairs (if_table q more v)
-  of_table q more h (Some (value.table columns)) = (h columns).is
+  of_table q more h (Some (value.Table columns)) = (h columns).is
   of_table q more h (Some _) = tt
   of_table q more h None = tt
 
@@ -196,8 +200,8 @@ module _ {pairs : List (QName × QName)} where
   fit-has_key parent (e ∷ es) h = h
 
   of_type : (q : QName) (more : Resolved → Tree) → ((r : Resolved) → Fit pairs (more r)) → (v : Option Value) → Fitting pairs (if_type q more v)
-  of_type q more h (Some (value.enum labels)) = (h _).is
-  of_type q more h (Some (value.domain d)) = (h _).is
+  of_type q more h (Some (value.Enum labels)) = (h _).is
+  of_type q more h (Some (value.Domain d)) = (h _).is
   of_type q more h (Some _) = tt
   of_type q more h None = tt
 
@@ -205,7 +209,7 @@ module _ {pairs : List (QName × QName)} where
   fit-type (Words text) more h = h _
   fit-type (Path q) more h = at (is_system q.schema)
     where
-      at : (b : Bool) → Fit pairs (cond b (more (record { type = Path q; labels = None; not_null = false })) (look (key.UserType q) (if_type q more)))
+      at : (b : Bool) → Fit pairs (cond b (more (record { type_name = Path q; labels = None; not_null = false })) (look (key.UserType q) (if_type q more)))
       at true = h _
       at false = record { is = of_type q more h }
 
@@ -351,7 +355,7 @@ later-given e es table parent h =
     ∙ list_any-append (λ pair. same_path table pair.0 && same_path parent pair.1) (filter_map foreign_key_in (e ∷ [])) (filter_map foreign_key_in es)
     ∙ or_by_second (is_given (filter_map foreign_key_in (e ∷ [])) table parent) (is_given (filter_map foreign_key_in es) table parent) h
 
-here-given : (k : Key) (v : Value) (es : List (Key × Value)) (table : QName) (name : Bytes) (c : Constraint) (parent : QName) (names : List Bytes) → key.Con table name ≡ k → value.constraint c ≡ v → c.parent ≡ Some (parent, names) → is_given (filter_map foreign_key_in ((k, v) ∷ es)) table parent ≡ true
+here-given : (k : Key) (v : Value) (es : List (Key × Value)) (table : QName) (name : Bytes) (c : Constraint) (parent : QName) (names : List Bytes) → key.Con table name ≡ k → value.Constraint c ≡ v → c.parent ≡ Some (parent, names) → is_given (filter_map foreign_key_in ((k, v) ∷ es)) table parent ≡ true
 here-given k v es table name c parent names is same e =
     let P : Key → Type 0 = λ j. is_given (filter_map foreign_key_in ((j, v) ∷ es)) table parent ≡ true in
     let Q : Value → Type 0 = λ w. is_given (filter_map foreign_key_in ((key.Con table name, w) ∷ es)) table parent ≡ true in
@@ -360,12 +364,12 @@ here-given k v es table name c parent names is same e =
     at : (p : Option (QName × List Bytes)) → p ≡ Some (parent, names) → is_given (cons_option (with_parent table p) (filter_map foreign_key_in es)) table parent ≡ true
     at p e = ap (λ (o : Option (QName × List Bytes)). is_given (cons_option (with_parent table o) (filter_map foreign_key_in es)) table parent) e ∙ given_itself table parent (filter_map foreign_key_in es)
 
-given-found : (es : List (Key × Value)) (table : QName) (name : Bytes) (c : Constraint) (parent : QName) (names : List Bytes) → find key_cmp (key.Con table name) es ≡ Some (value.constraint c) → c.parent ≡ Some (parent, names) → is_given (filter_map foreign_key_in es) table parent ≡ true
+given-found : (es : List (Key × Value)) (table : QName) (name : Bytes) (c : Constraint) (parent : QName) (names : List Bytes) → find key_cmp (key.Con table name) es ≡ Some (value.Constraint c) → c.parent ≡ Some (parent, names) → is_given (filter_map foreign_key_in es) table parent ≡ true
 given-found [] table name c parent names e g = cc
 given-found (x ∷ es) table name c parent names e g = at (key_eq (key.Con table name) x.0) refl e (λ h. given-found es table name c parent names h g)
   where
-    at : (b : Bool) → key_eq (key.Con table name) x.0 ≡ b → cond b (Some x.1) (find key_cmp (key.Con table name) es) ≡ Some (value.constraint c) → (find key_cmp (key.Con table name) es ≡ Some (value.constraint c) → is_given (filter_map foreign_key_in es) table parent ≡ true) → is_given (filter_map foreign_key_in (x ∷ es)) table parent ≡ true
-    at true h e later = let is : value.constraint c ≡ x.1 = cc in here-given x.0 x.1 es table name c parent names (key_eq-same (key.Con table name) x.0 h) is g
+    at : (b : Bool) → key_eq (key.Con table name) x.0 ≡ b → cond b (Some x.1) (find key_cmp (key.Con table name) es) ≡ Some (value.Constraint c) → (find key_cmp (key.Con table name) es ≡ Some (value.Constraint c) → is_given (filter_map foreign_key_in es) table parent ≡ true) → is_given (filter_map foreign_key_in (x ∷ es)) table parent ≡ true
+    at true h e later = let is : value.Constraint c ≡ x.1 = cc in here-given x.0 x.1 es table name c parent names (key_eq-same (key.Con table name) x.0 h) is g
     at false h e later = later-given x es table parent (later e)
 
 pub given-opening : (n : Named) → Given (foreign_keys n) n

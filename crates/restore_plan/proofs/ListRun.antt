@@ -11,7 +11,8 @@ use Rattle.cat_model.specs.declared.class.Class.{Class}
 use Rattle.cat_model.specs.declared.cause.Cause.{Cause}
 use Rattle.cat_model.specs.Keys.{key_cmp, key_eq}
 use Rattle.cat_model.specs.KeyLaws.{key_cmp_total, key_cmp-IsAntisymmetric}
-use Rattle.cat_model.specs.Values.{Bytes, Value, Named}
+use Rattle.cat_model.specs.declared.value.Value.{Value}
+use Rattle.cat_model.specs.Values.{Bytes, Named}
 use Rattle.cat_model.specs.Effects.{effect}
 use Rattle.cat_model.specs.Trees.{Change, Tree, refuse, sets, look, scan, Seen, seen, outcome, there_and_of, class_of, changed_at, changed, after_or_same, next}
 use Rattle.restore_plan.specs.declared.status.EntryStatus.{EntryStatus}

@@ -6,7 +6,7 @@ use Rattle.cat_model.specs.declared.key.Key.TheVariants as key
 use Rattle.cat_model.specs.declared.class.Mark.{Mark}
 use Rattle.cat_model.specs.declared.class.Mark.TheVariants as mark
 use Rattle.cat_model.specs.declared.footprint.Footprint.{Footprint}
-use Rattle.cat_model.specs.Values.{Value}
+use Rattle.cat_model.specs.declared.value.Value.{Value}
 use Rattle.cat_model.specs.Trees.{Change, Tree, refuse, sets, look, scan, Seen}
 use Rattle.cat_model.specs.Marks.{Among, Covers, IsCovered, AllCovered, IsWithin, IsConstraint, IsIndex}
 

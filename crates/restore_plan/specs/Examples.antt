@@ -7,7 +7,7 @@ use Rattle.cat_model.specs.declared.stmt.Stmt.{Stmt}
 use Rattle.cat_model.specs.declared.stmt.Stmt.TheVariants as stmt
 use Rattle.cat_model.specs.declared.type_name.TypeName.TheVariants.{Words, Path}
 use Rattle.cat_model.specs.declared.table.ColumnDef.{ColumnDef}
-use Rattle.cat_model.specs.Values as value
+use Rattle.cat_model.specs.declared.value.Value.TheVariants as value
 use Rattle.cat_model.specs.Values.{Bytes, Named}
 use Rattle.restore_plan.specs.declared.kind.Kind.{Kind}
 use Rattle.restore_plan.specs.declared.kind.Kind.TheVariants as kind
@@ -15,7 +15,7 @@ use Rattle.restore_plan.specs.Entries.{Step, Entry}
 
 -- an opening with the schema public and nothing else
 abbrev pub with_public : Named
-with_public = from_sorted ((key.Schema (codes "public"), value.schema) ∷ [])
+with_public = from_sorted ((key.Schema (codes "public"), value.Schema) ∷ [])
 
 abbrev pub postgres : Bytes
 postgres = codes "postgres"

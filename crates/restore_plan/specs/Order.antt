@@ -9,8 +9,10 @@ use Rattle.cat_model.specs.declared.key.Key.TheVariants as key
 use Rattle.cat_model.specs.declared.footprint.Footprint.{Footprint}
 use Rattle.cat_model.specs.declared.stmt.Stmt.{Stmt}
 use Rattle.cat_model.specs.declared.stmt.Stmt.TheVariants as stmt
-use Rattle.cat_model.specs.Values as value
-use Rattle.cat_model.specs.Values.{Bytes, Value, Named, Constraint}
+use Rattle.cat_model.specs.declared.value.Value.TheVariants as value
+use Rattle.cat_model.specs.declared.value.Value.{Value}
+use Rattle.cat_model.specs.declared.value.Constraint.{Constraint}
+use Rattle.cat_model.specs.Values.{Bytes, Named}
 use Rattle.cat_model.specs.Footprints.{reads_of, writes_of}
 use Rattle.cat_model.specs.Marks.{conflict}
 use Rattle.restore_plan.specs.Entries.{Step, Entry, deps, locks, is_among}
@@ -22,7 +24,7 @@ with_parent table None = None
 with_parent table (Some (parent, names)) = Some (table, parent)
 
 abbrev pub foreign_key_in : Key × Value → Option (QName × QName)
-foreign_key_in (key.Con table name, value.constraint c) = with_parent table c.parent
+foreign_key_in (key.Con table name, value.Constraint c) = with_parent table c.parent
 foreign_key_in _ = None
 
 -- the foreign keys of a catalogue

@@ -6,8 +6,9 @@ use Rattle.cat_model.specs.declared.object.QName.{QName}
 use Rattle.cat_model.specs.declared.key.Key.TheVariants as key
 use Rattle.cat_model.specs.declared.footprint.Footprint.{Footprint}
 use Rattle.cat_model.specs.declared.stmt.Stmt.{Stmt}
-use Rattle.cat_model.specs.Values as value
-use Rattle.cat_model.specs.Values.{Bytes, Named, Constraint}
+use Rattle.cat_model.specs.declared.value.Value.TheVariants as value
+use Rattle.cat_model.specs.declared.value.Constraint.{Constraint}
+use Rattle.cat_model.specs.Values.{Bytes, Named}
 use Rattle.cat_model.specs.Effects.{effect}
 use Rattle.cat_model.specs.Footprints.{is_given}
 use Rattle.cat_model.specs.Marks.{IsWithin}
@@ -19,7 +20,7 @@ use Rattle.restore_plan.specs.Order.{Planned}
 abbrev pub Given : List (QName × QName) → Named → Type 0
 Given pairs named =
     (table : QName) (name : Bytes) (c : Constraint) (parent : QName) (names : List Bytes)
-    → get named (key.Con table name) ≡ Some (value.constraint c) → c.parent ≡ Some (parent, names) → is_given pairs table parent ≡ true
+    → get named (key.Con table name) ≡ Some (value.Constraint c) → c.parent ≡ Some (parent, names) → is_given pairs table parent ≡ true
 
 -- A statement stays within a footprint wherever the foreign keys are given, and leaves them given.
 pub record Stays (boot : Bytes) (pairs : List (QName × QName)) (f : Footprint) (s : Stmt) : Type 0 where

@@ -2,8 +2,11 @@ use Rattle.std.proofs.Common.{◌≡◌, Bool, true, false, cond, Option, Some, 
 use Rattle.std.specs.Ordering.{eq_by_cmp}
 use Rattle.std.specs.FinMap.{get, insert, remove, get-insert, get-remove}
 use Rattle.cat_model.specs.Grants.{join, joined, both_items, item_or_none}
-use Rattle.cat_model.specs.Values.{Bytes, Holder, OWNER, ROLE, Item, Grants, holder_cmp}
-use Rattle.cat_model.proofs.Holders.{holder_cmp_total, holder-self}
+use Rattle.cat_model.specs.declared.holder.Holder.{Holder}
+use Rattle.cat_model.specs.declared.holder.Item.{Item}
+use Rattle.cat_model.specs.declared.holder.Holder.TheVariants.{Owner as OWNER, Role as ROLE}
+use Rattle.cat_model.specs.Values.{Bytes, Grants, holder_cmp}
+use Rattle.cat_model.specs.HolderLaws.{holder_cmp_total, holder-self}
 use Rattle.model_laws.proofs.examples.new_owner_keeps_its_rights.Goals as goal
 
 owner_has : (role : Bytes) (grants : Grants) (item : Item) → get grants (ROLE role) ≡ Some item → get (joined role grants) OWNER ≡ Some (both_items item (item_or_none (get grants OWNER)))

@@ -3,8 +3,10 @@ use Rattle.std.specs.Prelude.{if◌then◌else◌}
 use Rattle.std.specs.FinMap.{get, insert, remove, get-insert, get-remove}
 use Rattle.cat_model.specs.declared.grant.Rights.{Rights}
 use Rattle.cat_model.specs.Grants.{revoked, with_item, rights_less, has_rights, item_or_none}
-use Rattle.cat_model.specs.Values.{Holder, Item, Grants}
-use Rattle.cat_model.proofs.Holders.{holder_cmp_total, holder-self}
+use Rattle.cat_model.specs.declared.holder.Holder.{Holder}
+use Rattle.cat_model.specs.declared.holder.Item.{Item}
+use Rattle.cat_model.specs.Values.{Grants}
+use Rattle.cat_model.specs.HolderLaws.{holder_cmp_total, holder-self}
 use Rattle.model_laws.proofs.examples.options_go_with_rights.Goals as goal
 
 abbrev less : Rights → Item → Item

@@ -18,7 +18,7 @@ use Rattle.cat_model.specs.Keys.{key_cmp}
 use Rattle.cat_model.specs.IndexColumns.{plain_columns}
 use Rattle.cat_model.specs.Lexemes.{lexemes}
 use Rattle.cat_model.specs.References.{expression_references, view_references}
-use Rattle.cat_model.specs.Values.{Value}
+use Rattle.cat_model.specs.declared.value.Value.{Value}
 use Rattle.model_laws.specs.Examples.{postgres, causes, catalogue_after}
 use Rattle.model_laws.specs.Runs.{empty_entries, empty_cluster, run_one, said_one, keys_one, run_two, said_two, keys_two, run_three, said_three, keys_three, run_four, said_four, keys_four}
 use Rattle.model_laws.proofs.Listed.{Entries, causes_in, entries_after, causes-in, catalogue-in}

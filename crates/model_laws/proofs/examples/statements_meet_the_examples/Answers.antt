@@ -22,14 +22,14 @@ use Rattle.cat_model.specs.Keys.{key_cmp}
 use Rattle.cat_model.specs.IndexColumns.{plain_columns}
 use Rattle.cat_model.specs.Lexemes.{lexemes}
 use Rattle.cat_model.specs.References.{expression_references, view_references}
-use Rattle.cat_model.specs.Values as value
-use Rattle.cat_model.specs.Values.{Value}
+use Rattle.cat_model.specs.declared.value.Value.TheVariants as value
+use Rattle.cat_model.specs.declared.value.Value.{Value}
 use Rattle.model_laws.specs.Examples.{causes, catalogue_after, opening, postgres, public, setvals, bigints, children, equal_rows, domains, views}
 use Rattle.model_laws.proofs.Listed.{Entries, causes_in, entries_after, causes-in, catalogue-in}
 use Rattle.model_laws.proofs.examples.statements_meet_the_examples.Goals as goal
 
 abbrev listed : Entries
-listed = (key.Schema (codes "public"), value.schema) ∷ []
+listed = (key.Schema (codes "public"), value.Schema) ∷ []
 
 opened : entries opening ≡ listed
 opened = entries-from_sorted key_cmp listed tt
@@ -49,7 +49,7 @@ big_numbers : causes_in postgres bigints listed ≡ None ∷ None ∷ Some (caus
 unfolding lines row_of fields_of field_of pieces_after escape decode_behind ends_escaping chars is_utf8 encode_utf8 is_blank is_digit begins_word in_word is_sign marks_escapes in_line next_is run_end quote_end escape_end comment_end fraction_end number_end begins_line closed begun in_utf8 piece_at next_within next_token_of tokens_within tokens_of spelling inside undoubled name_of literal_of lexemes expression_references view_references plain_columns
 big_numbers = refl
 
-number_kept : find key_cmp (key.Rows (public (codes "t"))) (entries_after postgres bigints listed) ≡ Some (value.rows ((Some (codes "9223372036854775807") ∷ []) ∷ []))
+number_kept : find key_cmp (key.Rows (public (codes "t"))) (entries_after postgres bigints listed) ≡ Some (value.Rows ((Some (codes "9223372036854775807") ∷ []) ∷ []))
 unfolding lines row_of fields_of field_of pieces_after escape decode_behind ends_escaping chars is_utf8 encode_utf8 is_blank is_digit begins_word in_word is_sign marks_escapes in_line next_is run_end quote_end escape_end comment_end fraction_end number_end begins_line closed begun in_utf8 piece_at next_within next_token_of tokens_within tokens_of spelling inside undoubled name_of literal_of lexemes expression_references view_references plain_columns
 number_kept = refl
 

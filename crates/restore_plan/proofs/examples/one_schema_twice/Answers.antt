@@ -4,14 +4,14 @@ use Rattle.std.specs.Prelude.{codes}
 use Rattle.std.specs.FinMap.{entries, entries-from_sorted}
 use Rattle.cat_model.specs.declared.key.Key.TheVariants as key
 use Rattle.cat_model.specs.Keys.{key_cmp}
-use Rattle.cat_model.specs.Values as value
+use Rattle.cat_model.specs.declared.value.Value.TheVariants as value
 use Rattle.restore_plan.specs.Examples.{with_public, postgres, two_schemas}
 use Rattle.restore_plan.specs.Order.{plan}
 use Rattle.restore_plan.proofs.ListRun.{Items, statuses_in, statuses-in}
 use Rattle.restore_plan.proofs.examples.one_schema_twice.Goals as goal
 
 abbrev items : Items
-items = (key.Schema (codes "public"), value.schema) ∷ []
+items = (key.Schema (codes "public"), value.Schema) ∷ []
 
 pub returns : goal.returns
 returns c =

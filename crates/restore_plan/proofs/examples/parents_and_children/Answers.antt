@@ -10,7 +10,7 @@ use Rattle.copy_text.specs.Pieces.{pieces_after, ends_escaping}
 use Rattle.copy_text.specs.Reading.{field_of, fields_of, row_of}
 use Rattle.cat_model.specs.declared.key.Key.TheVariants as key
 use Rattle.cat_model.specs.Keys.{key_cmp}
-use Rattle.cat_model.specs.Values as value
+use Rattle.cat_model.specs.declared.value.Value.TheVariants as value
 use Rattle.restore_plan.specs.declared.status.EntryStatus.TheVariants.{Done, Refused, Skipped}
 use Rattle.cat_model.specs.declared.cause.Cause.TheVariants as cause
 use Rattle.restore_plan.specs.Entries.{Entry}
@@ -21,7 +21,7 @@ use Rattle.restore_plan.proofs.ListRun.{Items, statuses_in, statuses-in}
 use Rattle.restore_plan.proofs.examples.parents_and_children.Goals as goal
 
 abbrev items : Items
-items = (key.Schema (codes "public"), value.schema) ∷ []
+items = (key.Schema (codes "public"), value.Schema) ∷ []
 
 computed : (es : List Entry) → (serial postgres with_public (plan with_public es)).statuses ≡ statuses_in postgres [] items (plan with_public es)
 computed es =
