@@ -15,8 +15,8 @@ use Rattle.std.specs.FinMap.{from_entries}
 use Rattle.cat_model.specs.declared.key.Key.TheVariants as key
 use Rattle.cat_model.specs.declared.object.Object.TheVariants as object
 use Rattle.cat_model.specs.Grants.{owner_only, schema_rights, type_rights, without_option}
-use Rattle.cat_model.specs.Values as value
-use Rattle.cat_model.specs.Values.{PUBLIC, ROLE}
+use Rattle.cat_model.specs.declared.value.Value.TheVariants as value
+use Rattle.cat_model.specs.declared.holder.Holder.TheVariants.{Public as PUBLIC, Role as ROLE}
 use Rattle.cat_names.specs.declared.rights.GrantKind.TheVariants as on
 use Rattle.cat_names.specs.Grants.{grants_of}
 use Rattle.cat_names.specs.Naming.{cluster_entries, boot}
@@ -68,7 +68,7 @@ pub record Names : Type 0 where
   pub other_oids : cluster_entries (with_schemas (schema 16384 (codes "a") 10 None ∷ [])) ≡ cluster_entries (with_schemas (schema 20000 (codes "a") 10 None ∷ []))
   pub other_role_oids : cluster_entries (catalogue (postgres ∷ bob ∷ []) (member 1 10 16400 10 ∷ []) (main ∷ []) []) ≡ cluster_entries (catalogue (postgres ∷ record bob { oid = 17 } ∷ []) (member 2 10 17 10 ∷ []) (main ∷ []) [])
   pub other_current : cluster_entries (with_databases (main ∷ [])) ≡ cluster_entries (with_databases (record main { datcurrent = false } ∷ []))
-  pub one_more : cluster_entries (with_schemas (public ∷ schema 16384 (codes "a") 10 None ∷ [])) ≡ cluster_entries (with_schemas (public ∷ [])) ++ (key.Schema (codes "a"), value.schema) ∷ (key.Owner (object.Schema (codes "a")), value.owner (codes "postgres")) ∷ (key.Acl (object.Schema (codes "a")), value.grants (owner_only schema_rights)) ∷ []
+  pub one_more : cluster_entries (with_schemas (public ∷ schema 16384 (codes "a") 10 None ∷ [])) ≡ cluster_entries (with_schemas (public ∷ [])) ++ (key.Schema (codes "a"), value.Schema) ∷ (key.Owner (object.Schema (codes "a")), value.Owner (codes "postgres")) ∷ (key.Acl (object.Schema (codes "a")), value.Grants (owner_only schema_rights)) ∷ []
   pub spelled_out : grants_of on.Schema (codes "postgres") (Some (owner_item (privilege.Usage ∷ privilege.Create ∷ []) ∷ [])) ≡ grants_of on.Schema (codes "postgres") None
   pub repeated_letter : grants_of on.Schema (codes "postgres") (Some (owner_item (privilege.Usage ∷ privilege.Create ∷ privilege.Usage ∷ []) ∷ [])) ≡ grants_of on.Schema (codes "postgres") None
   pub no_items : grants_of on.Schema (codes "postgres") (Some []) ≡ from_entries []

@@ -8,7 +8,10 @@ use Rattle.acl_text.specs.declared.rights.Right.{Right}
 use Rattle.acl_text.specs.declared.list.AclItem.{AclItem}
 use Rattle.cat_model.specs.declared.grant.Rights.{Rights}
 use Rattle.cat_model.specs.Grants.{no_rights, table_rights, sequence_rights, schema_rights, owner_only, type_grants, both_rights}
-use Rattle.cat_model.specs.Values.{Bytes, Holder, OWNER, PUBLIC, ROLE, Item, Grants}
+use Rattle.cat_model.specs.declared.holder.Holder.{Holder}
+use Rattle.cat_model.specs.declared.holder.Item.{Item}
+use Rattle.cat_model.specs.declared.holder.Holder.TheVariants.{Owner as OWNER, Public as PUBLIC, Role as ROLE}
+use Rattle.cat_model.specs.Values.{Bytes, Grants}
 use Rattle.cat_names.specs.declared.rights.GrantKind.{GrantKind}
 use Rattle.cat_names.specs.declared.rights.GrantKind.TheVariants as on
 use Rattle.cat_model.specs.Lexemes.{same_text}

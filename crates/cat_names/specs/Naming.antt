@@ -12,8 +12,9 @@ use Rattle.cat_model.specs.declared.constraint.Encoding.TheVariants as encoding
 use Rattle.cat_model.specs.declared.key.Key.{Key}
 use Rattle.cat_model.specs.declared.key.Key.TheVariants as key
 use Rattle.cat_model.specs.declared.object.Object.TheVariants as object
-use Rattle.cat_model.specs.Values as value
-use Rattle.cat_model.specs.Values.{Bytes, Value, Named}
+use Rattle.cat_model.specs.declared.value.Value.TheVariants as value
+use Rattle.cat_model.specs.declared.value.Value.{Value}
+use Rattle.cat_model.specs.Values.{Bytes, Named}
 use Rattle.cat_names.specs.declared.rights.GrantKind.TheVariants as on
 use Rattle.cat_names.specs.Grants.{grants_of}
 use Rattle.cat_names.specs.Lookups.{boot_oid, role_name}
@@ -30,7 +31,7 @@ under (Some name) entries = entries name
 abbrev pub role_entries : AuthidRow → List Entry
 role_entries r = (
   key.Role r.rolname,
-  value.role (record {
+  value.Role (record {
     superuser = r.rolsuper;
     inherit = r.rolinherit;
     create_role = r.rolcreaterole;
@@ -50,21 +51,21 @@ member_entries roles m =
     under (role_name roles m.roleid) (λ role.
     under (role_name roles m.member) (λ member.
     under (role_name roles m.grantor) (λ grantor.
-    (key.Member role member grantor, value.member (record { admin = m.admin_option; inherit = m.inherit_option; «set» = m.set_option })) ∷ [])))
+    (key.Member role member grantor, value.Member (record { admin = m.admin_option; inherit = m.inherit_option; «set» = m.set_option })) ∷ [])))
 
 -- a database and its owner; which one is the current one gives nothing
 abbrev pub database_entries : List AuthidRow → DatabaseRow → List Entry
 database_entries roles d =
     under (role_name roles d.datdba) (λ owner.
-    (key.Database d.datname, value.database encoding.Utf8) ∷ (key.Owner (object.Database d.datname), value.owner owner) ∷ [])
+    (key.Database d.datname, value.Database encoding.Utf8) ∷ (key.Owner (object.Database d.datname), value.Owner owner) ∷ [])
 
 -- a schema, its owner and its grants
 abbrev pub schema_entries : List AuthidRow → NamespaceRow → List Entry
 schema_entries roles s =
     under (role_name roles s.nspowner) (λ owner.
-    (key.Schema s.nspname, value.schema)
-    ∷ (key.Owner (object.Schema s.nspname), value.owner owner)
-    ∷ (key.Acl (object.Schema s.nspname), value.grants (grants_of on.Schema owner s.nspacl))
+    (key.Schema s.nspname, value.Schema)
+    ∷ (key.Owner (object.Schema s.nspname), value.Owner owner)
+    ∷ (key.Acl (object.Schema s.nspname), value.Grants (grants_of on.Schema owner s.nspacl))
     ∷ [])
 
 -- all entries of these tables

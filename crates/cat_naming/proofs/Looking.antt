@@ -5,7 +5,8 @@ use Rattle.std.proofs.lemmas.List.{take_more}
 use Rattle.std.proofs.lemmas.List.Elements.{filter_map-append}
 use Rattle.cat_model.specs.declared.type_name.TypeName.{TypeName}
 use Rattle.cat_model.specs.TypeEffects.{as_it_is}
-use Rattle.cat_model.specs.Values.{Bytes, Resolved}
+use Rattle.cat_model.specs.declared.value.Resolved.{Resolved}
+use Rattle.cat_model.specs.Values.{Bytes}
 use Rattle.cat_names.specs.Lookups.{same_oid, place_of, is_no_oid}
 use Rattle.cat_book.specs.Leads.{is_key}
 use Rattle.cat_rows.specs.declared.catalogue.Catalogue.{Catalogue}

@@ -9,7 +9,7 @@ use Rattle.cat_model.specs.declared.object.QName.{QName}
 use Rattle.cat_model.specs.declared.object.Object.{Object}
 use Rattle.cat_model.specs.declared.object.Object.TheVariants as object
 use Rattle.cat_model.specs.declared.key.Key.TheVariants as key
-use Rattle.cat_model.specs.Values as value
+use Rattle.cat_model.specs.declared.value.Value.TheVariants as value
 use Rattle.cat_names.specs.Lookups.{same_oid}
 use Rattle.cat_names.specs.Naming.{Entry}
 use Rattle.plain_tables.specs.Comments.{is_whole}
@@ -42,7 +42,7 @@ commented_object cat row =
 
 abbrev pub with_object : DescriptionRow → Option Object → List Entry
 with_object row None = []
-with_object row (Some o) = (key.Comment o, value.comment row.description) ∷ []
+with_object row (Some o) = (key.Comment o, value.Comment row.description) ∷ []
 
 abbrev pub comment_entries : Catalogue → DescriptionRow → List Entry
 comment_entries cat row = with_object row (commented_object cat row)

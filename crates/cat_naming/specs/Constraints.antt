@@ -10,8 +10,8 @@ use Rattle.cat_model.specs.declared.stmt.Stmt.{Stmt}
 use Rattle.cat_model.specs.declared.stmt.Stmt.TheVariants as stmt
 use Rattle.cat_model.specs.KeyEffects.{key_value, foreign_value}
 use Rattle.cat_model.specs.RelationEffects.{check_value}
-use Rattle.cat_model.specs.Values as value
-use Rattle.cat_model.specs.Values.{Value}
+use Rattle.cat_model.specs.declared.value.Value.TheVariants as value
+use Rattle.cat_model.specs.declared.value.Value.{Value}
 use Rattle.cat_names.specs.Naming.{Entry}
 use Rattle.cat_book.specs.Paths.{class_path_of}
 use Rattle.row_texts.specs.IndexTexts.{index_said}
@@ -35,7 +35,7 @@ constraint_entries cat row =
     (key.Con table row.conname, v) ∷ []))
 
 abbrev pub index_entry : IndexText → Entry
-index_entry said = (key.Index said.table said.name, value.index (record { method = said.method; unique = said.unique; text = said.rest }))
+index_entry said = (key.Index said.table said.name, value.Index (record { method = said.method; unique = said.unique; text = said.rest }))
 
 abbrev pub said_entries : Option IndexText → List Entry
 said_entries None = []

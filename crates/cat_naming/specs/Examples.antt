@@ -17,8 +17,10 @@ use Rattle.cat_model.specs.declared.object.Object.TheVariants as object
 use Rattle.cat_model.specs.declared.key.Key.TheVariants as key
 use Rattle.cat_model.specs.declared.type_name.TypeName.TheVariants.{Words, Path}
 use Rattle.cat_model.specs.Grants.{owner_only, table_rights, sequence_rights, type_grants}
-use Rattle.cat_model.specs.Values as value
-use Rattle.cat_model.specs.Values.{Bytes, Row, Column}
+use Rattle.cat_model.specs.declared.value.Value.TheVariants as value
+use Rattle.cat_model.specs.declared.value.Resolved.{Resolved}
+use Rattle.cat_model.specs.declared.value.Column.{Column}
+use Rattle.cat_model.specs.Values.{Bytes, Row}
 use Rattle.cat_names.specs.Examples.{postgres}
 use Rattle.cat_naming.specs.Types.{type_entries}
 use Rattle.cat_naming.specs.Relations.{class_entries, columns_of, default_entries, sequence_entries, body_entries}
@@ -75,46 +77,46 @@ cat = record no_rows {
 abbrev pub labels : List Bytes
 labels = codes "x" ∷ codes "y" ∷ []
 
-abbrev pub integer : value.Resolved
-integer = record { type = Words (codes "integer"); labels = None; not_null = false }
+abbrev pub integer : Resolved
+integer = record { type_name = Words (codes "integer"); labels = None; not_null = false }
 
 -- the domain d: its base, and then d itself as the type of a column
-abbrev pub of_e : value.Resolved
-of_e = record { type = Path (path (codes "e")); labels = Some labels; not_null = false }
+abbrev pub of_e : Resolved
+of_e = record { type_name = Path (path (codes "e")); labels = Some labels; not_null = false }
 
-abbrev pub of_d : value.Resolved
+abbrev pub of_d : Resolved
 of_d = record of_e { not_null = true }
 
 abbrev pub columns : List Column
 columns =
-    record { name = codes "b"; type = Words (codes "integer"); resolved = integer; not_null = false }
-    ∷ record { name = codes "a"; type = Path (path (codes "d")); resolved = of_d; not_null = false } ∷ []
+    record { name = codes "b"; type_name = Words (codes "integer"); resolved = integer; not_null = false }
+    ∷ record { name = codes "a"; type_name = Path (path (codes "d")); resolved = of_d; not_null = false } ∷ []
 
 abbrev pub rows : ℕ → List Row
 rows oid = (Some (codes "1") ∷ Some (codes "x") ∷ []) ∷ []
 
 pub record Types : Type 0 where
-  pub enum : type_entries cat e ≡ (key.UserType (path (codes "e")), value.enum labels) ∷ (key.Owner (object.Type (path (codes "e"))), value.owner (codes "postgres")) ∷ (key.Acl (object.Type (path (codes "e"))), value.grants type_grants) ∷ []
+  pub enum : type_entries cat e ≡ (key.UserType (path (codes "e")), value.Enum labels) ∷ (key.Owner (object.Type (path (codes "e"))), value.Owner (codes "postgres")) ∷ (key.Acl (object.Type (path (codes "e"))), value.Grants type_grants) ∷ []
   pub domain : type_entries cat d ≡ (
     key.UserType (path (codes "d")),
-    value.domain (record { base = Path (path (codes "e")); resolved = of_e; not_null = true; «default» = Some (codes "'x'"); checks = from_entries ((codes "c", codes "(VALUE <> 'y')") ∷ []) }),
-  ) ∷ (key.Owner (object.Type (path (codes "d"))), value.owner (codes "postgres")) ∷ (key.Acl (object.Type (path (codes "d"))), value.grants type_grants) ∷ []
+    value.Domain (record { base = Path (path (codes "e")); resolved = of_e; not_null = true; «default» = Some (codes "'x'"); checks = from_entries ((codes "c", codes "(VALUE <> 'y')") ∷ []) }),
+  ) ∷ (key.Owner (object.Type (path (codes "d"))), value.Owner (codes "postgres")) ∷ (key.Acl (object.Type (path (codes "d"))), value.Grants type_grants) ∷ []
 
 pub record Relations : Type 0 where
   pub gaps_close : columns_of cat 16500 ≡ columns
-  pub table : class_entries cat rows (relation 16500 (codes "t") 114) ≡ (key.Rel (path (codes "t")), value.table columns) ∷ (key.Rows (path (codes "t")), value.rows (rows 16500)) ∷ (key.Owner (object.Relation (path (codes "t"))), value.owner (codes "postgres")) ∷ (key.Acl (object.Relation (path (codes "t"))), value.grants (owner_only table_rights)) ∷ []
-  pub view : class_entries cat rows (relation 16501 (codes "v") 118) ≡ (key.Rel (path (codes "v")), value.view) ∷ (key.Owner (object.Relation (path (codes "v"))), value.owner (codes "postgres")) ∷ (key.Acl (object.Relation (path (codes "v"))), value.grants (owner_only table_rights)) ∷ []
-  pub index_of_a_key : class_entries cat rows (relation 16503 (codes "k") 105) ≡ (key.Rel (path (codes "k")), value.index_of (path (codes "t"))) ∷ []
-  pub owner_of_a_sequence : class_entries cat rows (relation 16502 (codes "s") 83) ≡ (key.Owner (object.Relation (path (codes "s"))), value.owner (codes "postgres")) ∷ (key.Acl (object.Relation (path (codes "s"))), value.grants (owner_only sequence_rights)) ∷ []
-  pub sequence : sequence_entries cat sequence ≡ (key.Rel (path (codes "s")), value.sequence (record { kind = sequences.BigInt; start = pos 1; step = pos 1; min = pos 1; max = pos 100; cache = pos 1; cycle = false })) ∷ (key.SeqVal (path (codes "s")), value.sequence_value (pos 5) true) ∷ (key.OwnedBy (path (codes "s")), value.owned_by (path (codes "t")) (codes "a")) ∷ []
-  pub body : body_entries cat (record { oid = 19000; ev_class = 16501; viewdef = codes " SELECT b FROM public.t;" }) ≡ (key.Body (path (codes "v")), value.body (codes "SELECT b FROM public.t")) ∷ []
-  pub «default» : default_entries cat (record { oid = 17000; adrelid = 16500; adnum = pos 3; adexpr = codes "'x'::public.d" }) ≡ (key.Default (path (codes "t")) (codes "a"), value.default_text (codes "'x'::public.d")) ∷ []
-  pub comment : comment_entries cat (record { objoid = 16500; classoid = 1259; objsubid = pos 3; description = codes "a column" }) ≡ (key.Comment (object.Column (path (codes "t")) (codes "a")), value.comment (codes "a column")) ∷ []
+  pub table : class_entries cat rows (relation 16500 (codes "t") 114) ≡ (key.Rel (path (codes "t")), value.Table columns) ∷ (key.Rows (path (codes "t")), value.Rows (rows 16500)) ∷ (key.Owner (object.Relation (path (codes "t"))), value.Owner (codes "postgres")) ∷ (key.Acl (object.Relation (path (codes "t"))), value.Grants (owner_only table_rights)) ∷ []
+  pub view : class_entries cat rows (relation 16501 (codes "v") 118) ≡ (key.Rel (path (codes "v")), value.View) ∷ (key.Owner (object.Relation (path (codes "v"))), value.Owner (codes "postgres")) ∷ (key.Acl (object.Relation (path (codes "v"))), value.Grants (owner_only table_rights)) ∷ []
+  pub index_of_a_key : class_entries cat rows (relation 16503 (codes "k") 105) ≡ (key.Rel (path (codes "k")), value.IndexOf (path (codes "t"))) ∷ []
+  pub owner_of_a_sequence : class_entries cat rows (relation 16502 (codes "s") 83) ≡ (key.Owner (object.Relation (path (codes "s"))), value.Owner (codes "postgres")) ∷ (key.Acl (object.Relation (path (codes "s"))), value.Grants (owner_only sequence_rights)) ∷ []
+  pub sequence : sequence_entries cat sequence ≡ (key.Rel (path (codes "s")), value.Sequence (record { kind = sequences.BigInt; start = pos 1; step = pos 1; min = pos 1; max = pos 100; cache = pos 1; cycle = false })) ∷ (key.SeqVal (path (codes "s")), value.SequenceValue (pos 5) true) ∷ (key.OwnedBy (path (codes "s")), value.OwnedBy (path (codes "t")) (codes "a")) ∷ []
+  pub body : body_entries cat (record { oid = 19000; ev_class = 16501; viewdef = codes " SELECT b FROM public.t;" }) ≡ (key.Body (path (codes "v")), value.Body (codes "SELECT b FROM public.t")) ∷ []
+  pub «default» : default_entries cat (record { oid = 17000; adrelid = 16500; adnum = pos 3; adexpr = codes "'x'::public.d" }) ≡ (key.Default (path (codes "t")) (codes "a"), value.DefaultText (codes "'x'::public.d")) ∷ []
+  pub comment : comment_entries cat (record { objoid = 16500; classoid = 1259; objsubid = pos 3; description = codes "a column" }) ≡ (key.Comment (object.Column (path (codes "t")) (codes "a")), value.Comment (codes "a column")) ∷ []
 
 pub record Constraints : Type 0 where
-  pub primary : constraint_entries cat (constraint 18000 (codes "k") 112 16500 0 (codes "PRIMARY KEY (b) DEFERRABLE")) ≡ (key.Con (path (codes "t")) (codes "k"), value.constraint (record { kind = kinds.Primary; columns = codes "b" ∷ []; parent = None; text = codes "DEFERRABLE" })) ∷ []
+  pub primary : constraint_entries cat (constraint 18000 (codes "k") 112 16500 0 (codes "PRIMARY KEY (b) DEFERRABLE")) ≡ (key.Con (path (codes "t")) (codes "k"), value.Constraint (record { kind = kinds.Primary; columns = codes "b" ∷ []; parent = None; text = codes "DEFERRABLE" })) ∷ []
   pub check_of_a_domain : constraint_entries cat (constraint 18001 (codes "c") 99 0 20001 (codes "CHECK ((VALUE <> 'y'))")) ≡ []
-  pub index : index_entries (record { indexrelid = 16504; indrelid = 16500; indisunique = false; indexdef = codes "CREATE INDEX i ON public.t USING btree (a)" }) ≡ (key.Index (path (codes "t")) (codes "i"), value.index (record { method = codes "btree"; unique = false; text = codes "(a)" })) ∷ []
+  pub index : index_entries (record { indexrelid = 16504; indrelid = 16500; indisunique = false; indexdef = codes "CREATE INDEX i ON public.t USING btree (a)" }) ≡ (key.Index (path (codes "t")) (codes "i"), value.Index (record { method = codes "btree"; unique = false; text = codes "(a)" })) ∷ []
 
 -- one table, by its oid
 abbrev pub one : ℕ → ℤ → Catalogue

@@ -14,8 +14,10 @@ use Rattle.cat_model.specs.declared.object.QName.{QName}
 use Rattle.cat_model.specs.declared.object.Object.TheVariants as object
 use Rattle.cat_model.specs.declared.key.Key.TheVariants as key
 use Rattle.cat_model.specs.declared.type_name.TypeName.{TypeName}
-use Rattle.cat_model.specs.Values as value
-use Rattle.cat_model.specs.Values.{Bytes, Column, Row, Resolved}
+use Rattle.cat_model.specs.declared.value.Value.TheVariants as value
+use Rattle.cat_model.specs.declared.value.Column.{Column}
+use Rattle.cat_model.specs.declared.value.Resolved.{Resolved}
+use Rattle.cat_model.specs.Values.{Bytes, Row}
 use Rattle.cat_names.specs.declared.rights.GrantKind.{GrantKind}
 use Rattle.cat_names.specs.declared.rights.GrantKind.TheVariants as on
 use Rattle.cat_names.specs.Grants.{grants_of}
@@ -39,7 +41,7 @@ RowsByOid = ℕ → List Row
 
 -- a column whose type is named so and comes to that
 abbrev pub column_with : AttributeRow → TypeName × Resolved → Column
-column_with row type = record { name = row.attname; type = type.0; resolved = type.1; not_null = row.attnotnull }
+column_with row type = record { name = row.attname; type_name = type.0; resolved = type.1; not_null = row.attnotnull }
 
 abbrev pub column_of : Catalogue → AttributeRow → Option Column
 column_of cat row = option_map (column_with row) (typed cat row.atttypid row.typtext)
@@ -58,7 +60,7 @@ default_entries cat row =
     under_path (class_path_of cat row.adrelid) (λ table.
     under (column_name cat row.adrelid row.adnum) (λ column.
     under (default_said row.adexpr) (λ text.
-    (key.Default table column, value.default_text text) ∷ [])))
+    (key.Default table column, value.DefaultText text) ∷ [])))
 
 -- ---- relations
 
@@ -66,8 +68,8 @@ default_entries cat row =
 abbrev pub owned_entries : Catalogue → GrantKind → ClassRow → QName → List Entry
 owned_entries cat kind row path =
     under (role_name cat.pg_authid row.relowner) (λ owner.
-    (key.Owner (object.Relation path), value.owner owner)
-    ∷ (key.Acl (object.Relation path), value.grants (grants_of kind owner row.relacl))
+    (key.Owner (object.Relation path), value.Owner owner)
+    ∷ (key.Acl (object.Relation path), value.Grants (grants_of kind owner row.relacl))
     ∷ [])
 
 -- the table of the key that has an index
@@ -81,17 +83,17 @@ table_of_index cat oid = option_or (option_map (λ i. i.indrelid) (find (λ i. s
 -- a table with its rows
 abbrev pub table_entries : Catalogue → RowsByOid → ClassRow → QName → List Entry
 table_entries cat rows row path =
-    (key.Rel path, value.table (columns_of cat row.oid))
-    ∷ (key.Rows path, value.rows (rows row.oid))
+    (key.Rel path, value.Table (columns_of cat row.oid))
+    ∷ (key.Rows path, value.Rows (rows row.oid))
     ∷ owned_entries cat on.Table row path
 
 abbrev pub view_entries : Catalogue → ClassRow → QName → List Entry
-view_entries cat row path = (key.Rel path, value.view) ∷ owned_entries cat on.Table row path
+view_entries cat row path = (key.Rel path, value.View) ∷ owned_entries cat on.Table row path
 
 -- an index as a relation, of its table
 abbrev pub index_relation_entries : Catalogue → ClassRow → QName → List Entry
 index_relation_entries cat row path =
-    under_path (option_and_then (class_path_of cat) (table_of_index cat row.oid)) (λ table. (key.Rel path, value.index_of table) ∷ [])
+    under_path (option_and_then (class_path_of cat) (table_of_index cat row.oid)) (λ table. (key.Rel path, value.IndexOf table) ∷ [])
 
 -- a relation by its letter; what a sequence is stands in pg_sequence
 abbrev pub relation_entries : Catalogue → RowsByOid → ClassRow → QName → List Entry
@@ -111,13 +113,13 @@ class_entries cat rows row = under_path (class_path cat.pg_namespace row) (relat
 abbrev pub owner_entries : Catalogue → SequenceRow → QName → List Entry
 owner_entries cat row path =
     if is_no_oid row.ownrel then []
-    else under_path (class_path_of cat row.ownrel) (λ table. under (column_name cat row.ownrel row.owncol) (λ column. (key.OwnedBy path, value.owned_by table column) ∷ []))
+    else under_path (class_path_of cat row.ownrel) (λ table. under (column_name cat row.ownrel row.owncol) (λ column. (key.OwnedBy path, value.OwnedBy table column) ∷ []))
 
 abbrev pub sequence_entries : Catalogue → SequenceRow → List Entry
 sequence_entries cat row =
     under_path (class_path_of cat row.seqrelid) (λ path.
-    with_value (option_map (λ kind. value.sequence (numbers kind row)) (sequence_kind row.seqtype)) (λ v.
-    (key.Rel path, v) ∷ (key.SeqVal path, value.sequence_value row.last_value row.is_called) ∷ owner_entries cat row path))
+    with_value (option_map (λ kind. value.Sequence (numbers kind row)) (sequence_kind row.seqtype)) (λ v.
+    (key.Rel path, v) ∷ (key.SeqVal path, value.SequenceValue row.last_value row.is_called) ∷ owner_entries cat row path))
 
 -- ---- views
 
@@ -125,4 +127,4 @@ abbrev pub body_entries : Catalogue → RewriteRow → List Entry
 body_entries cat row =
     under_path (class_path_of cat row.ev_class) (λ path.
     under (view_body row.viewdef) (λ body.
-    (key.Body path, value.body body) ∷ []))
+    (key.Body path, value.Body body) ∷ []))

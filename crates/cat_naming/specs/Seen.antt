@@ -6,7 +6,7 @@ use Rattle.std.specs.List.{filter}
 use Rattle.cat_rows.specs.declared.catalogue.Catalogue.{Catalogue}
 use Rattle.cat_rows.specs.declared.constraints.ConstraintRow.{ConstraintRow}
 use Rattle.cat_model.specs.declared.type_name.TypeName.{TypeName}
-use Rattle.cat_model.specs.Values.{Resolved}
+use Rattle.cat_model.specs.declared.value.Resolved.{Resolved}
 use Rattle.cat_names.specs.Naming.{Entry}
 use Rattle.cat_book.specs.Leads.{is_key}
 use Rattle.cat_values.specs.Seen.{value_seen}

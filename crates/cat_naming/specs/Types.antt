@@ -12,8 +12,11 @@ use Rattle.cat_model.specs.declared.key.Key.TheVariants as key
 use Rattle.cat_model.specs.declared.stmt.Stmt.{Stmt}
 use Rattle.cat_model.specs.declared.stmt.Stmt.TheVariants as stmt
 use Rattle.cat_model.specs.declared.type_name.TypeName.{TypeName}
-use Rattle.cat_model.specs.Values as value
-use Rattle.cat_model.specs.Values.{Bytes, Value, Resolved, Domain}
+use Rattle.cat_model.specs.declared.value.Value.TheVariants as value
+use Rattle.cat_model.specs.declared.value.Value.{Value}
+use Rattle.cat_model.specs.declared.value.Resolved.{Resolved}
+use Rattle.cat_model.specs.declared.value.Domain.{Domain}
+use Rattle.cat_model.specs.Values.{Bytes}
 use Rattle.cat_names.specs.declared.rights.GrantKind.TheVariants as on
 use Rattle.cat_names.specs.Grants.{grants_of}
 use Rattle.cat_names.specs.Lookups.{same_oid, role_name}
@@ -63,8 +66,8 @@ domain_of cat row base = record {
 abbrev pub type_value : Catalogue → TypeRow → Option Value
 type_value cat row =
     if is_domain_letter row.typtype
-    then option_map (λ base. value.domain (domain_of cat row base)) (typed cat row.typbasetype row.basetext)
-    else Some (value.enum (labels_of cat row.oid))
+    then option_map (λ base. value.Domain (domain_of cat row base)) (typed cat row.typbasetype row.basetext)
+    else Some (value.Enum (labels_of cat row.oid))
 
 abbrev pub with_value : Option Value → (Value → List Entry) → List Entry
 with_value None entries = []
@@ -75,8 +78,8 @@ abbrev pub owned_type : Catalogue → TypeRow → QName → Bytes → List Entry
 owned_type cat row path owner =
     with_value (type_value cat row) (λ v.
     (key.UserType path, v)
-    ∷ (key.Owner (object.Type path), value.owner owner)
-    ∷ (key.Acl (object.Type path), value.grants (grants_of on.Type owner row.typacl))
+    ∷ (key.Owner (object.Type path), value.Owner owner)
+    ∷ (key.Acl (object.Type path), value.Grants (grants_of on.Type owner row.typacl))
     ∷ [])
 
 abbrev pub type_entries : Catalogue → TypeRow → List Entry

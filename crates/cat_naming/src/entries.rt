@@ -1,7 +1,7 @@
 //! Entries of the catalogue by names, one after another.
 ghost use Rattle.std.specs.Prelude.{◌≡◌, [], ◌∷◌, ◌++◌, IfOk, OnOk};
 ghost use Rattle.cat_model.specs.declared.key.Key.TheVariants as keys;
-ghost use Rattle.cat_model.specs.Values as values;
+ghost use Rattle.cat_model.specs.declared.value.Value.TheVariants as values;
 ghost use Rattle.cat_names.specs.Grants.{grants_of};
 ghost use Rattle.cat_values.specs.Seen.{AreEntries};
 ghost use Rattle.cat_values.specs.Seen.{value_seen};
@@ -83,7 +83,7 @@ pub(crate) fn owner_entry<'a>(
     object: Object,
     owner: &'a Name,
 ) -> Result<Entries<'a>, AllocError>
-    ensures { IfOk result (λ one. entries_seen one ≡ (keys.Owner object, values.owner owner.now) ∷ []) }
+    ensures { IfOk result (λ one. entries_seen one ≡ (keys.Owner object, values.Owner owner.now) ∷ []) }
 {
     Entries::one(alloc, Key::Owner(object), NamedValue::Owner(owner))
 }
@@ -96,7 +96,7 @@ pub(crate) fn grants_entry<'a>(
     owner: &Name,
     acl: &Option<Acl>,
 ) -> Result<Entries<'a>, AllocError>
-    ensures { IfOk result (λ one. entries_seen one ≡ (keys.Acl object, values.grants (grants_of kind owner.now acl.now)) ∷ []) }
+    ensures { IfOk result (λ one. entries_seen one ≡ (keys.Acl object, values.Grants (grants_of kind owner.now acl.now)) ∷ []) }
 {
     let grants = object_grants(alloc, kind, owner, acl)?;
     Entries::one(alloc, Key::Acl(object), NamedValue::Grants(grants))

@@ -2,7 +2,7 @@
 ghost use Rattle.std.specs.Prelude.{◌≡◌, [], ◌∷◌, ◌++◌, true, IfOk, OnOk};
 ghost use Rattle.std.specs.List.{flat_map};
 ghost use Rattle.cat_model.specs.declared.key.Key.TheVariants as key;
-ghost use Rattle.cat_model.specs.Values as value;
+ghost use Rattle.cat_model.specs.declared.value.Value.TheVariants as value;
 ghost use Rattle.cat_values.specs.Rows.{are_rows};
 ghost use Rattle.cat_naming.specs.Relations.{columns_of, owned_entries, table_entries, view_entries, index_relation_entries, relation_entries, class_entries};
 ghost use Rattle.table_rows.specs.Values.{text_of};
@@ -57,7 +57,7 @@ fn table_entry<'a>(
     table: u32,
     path: &QName,
 ) -> Result<Entries<'a>, AllocError>
-    ensures { IfOk result (λ one. entries_seen one ≡ (key.Rel path.now, value.table (columns_of naming.now table)) ∷ []) }
+    ensures { IfOk result (λ one. entries_seen one ≡ (key.Rel path.now, value.Table (columns_of naming.now table)) ∷ []) }
 {
     let key = Key::Rel(same_path(path)?);
     let columns = Items::new(columns_of(alloc, naming, table)?);

@@ -3,7 +3,7 @@ ghost use Rattle.std.specs.Prelude.{◌≡◌, [], ◌∷◌, ◌++◌, option_m
 ghost use Rattle.std.specs.List.{flat_map};
 ghost use Rattle.cat_model.specs.declared.key.Key.TheVariants as key;
 ghost use Rattle.cat_model.specs.declared.object.Object.TheVariants as object;
-ghost use Rattle.cat_model.specs.Values as values;
+ghost use Rattle.cat_model.specs.declared.value.Value.TheVariants as values;
 ghost use Rattle.cat_names.specs.declared.rights.GrantKind.TheVariants as on;
 ghost use Rattle.cat_names.specs.Grants.{grants_of};
 ghost use Rattle.cat_values.specs.Seen.{value_seen, domain_seen};
@@ -67,7 +67,7 @@ fn type_value<'a>(
 
 // The owner of the type of this path.
 fn type_owner<'a>(alloc: Global, path: &QName, owner: &'a Name) -> Result<Entries<'a>, AllocError>
-    ensures { IfOk result (λ one. entries_seen one ≡ (key.Owner (object.Type path.now), values.owner owner.now) ∷ []) }
+    ensures { IfOk result (λ one. entries_seen one ≡ (key.Owner (object.Type path.now), values.Owner owner.now) ∷ []) }
 {
     let path = same_path(path)?;
     owner_entry(alloc, Object::Type(path), owner)
@@ -80,7 +80,7 @@ fn type_grants<'a>(
     path: &QName,
     owner: &Name,
 ) -> Result<Entries<'a>, AllocError>
-    ensures { IfOk result (λ one. entries_seen one ≡ (key.Acl (object.Type path.now), values.grants (grants_of on.Type owner.now row.now.typacl)) ∷ []) }
+    ensures { IfOk result (λ one. entries_seen one ≡ (key.Acl (object.Type path.now), values.Grants (grants_of on.Type owner.now row.now.typacl)) ∷ []) }
 {
     let path = same_path(path)?;
     grants_entry(

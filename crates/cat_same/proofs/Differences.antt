@@ -7,7 +7,8 @@ use Rattle.std.specs.FinMap.{get, from_entries, get-from_entries, same_map}
 use Rattle.cat_model.specs.declared.key.Key.{Key}
 use Rattle.cat_model.specs.Keys.{key_cmp}
 use Rattle.cat_model.specs.KeyLaws.{key_cmp_total, key_cmp-IsAntisymmetric}
-use Rattle.cat_model.specs.Values.{Value, Named}
+use Rattle.cat_model.specs.declared.value.Value.{Value}
+use Rattle.cat_model.specs.Values.{Named}
 use Rattle.cat_names.specs.Naming.{Entry}
 use Rattle.cat_values.specs.declared.value.NamedValue.{NamedValue}
 use Rattle.cat_same.specs.declared.compare.Verdict.{Verdict}

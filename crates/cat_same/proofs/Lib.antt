@@ -1,5 +1,4 @@
 mod Differences
 mod Lookups
 mod Ahead
-mod Clones
 mod Texts

@@ -7,7 +7,7 @@ use Rattle.std.specs.Ordering.{is_lt, is_eq, eq_by_cmp}
 use Rattle.cat_model.specs.declared.key.Key.{Key}
 use Rattle.cat_model.specs.Keys.{key_cmp}
 use Rattle.cat_model.specs.KeyLaws.{key_cmp_total}
-use Rattle.cat_model.specs.Values.{Value}
+use Rattle.cat_model.specs.declared.value.Value.{Value}
 use Rattle.cat_names.specs.Naming.{Entry}
 use Rattle.cat_naming.specs.Relations.{RowsByOid}
 use Rattle.cat_naming.specs.Entries.{entries_of, catalogue_named}

@@ -68,13 +68,6 @@ fn lesser<'m>(a: Option<&'m Key>, b: Option<&'m Key>) -> Option<&'m Key>
     }
 }
 
-// The same key once more.
-fn clone_key(key: &Key) -> Result<Key, AllocError>
-    ensures { IfOk result (λ k. k ≡ key.now) }
-{
-    key.clone()
-}
-
 // The verdict on what two maps stand for.
 fn compare_named(alloc: Global, a: &Named<'_>, b: &Named<'_>) -> Result<Verdict, AllocError>
     ensures { IfOk result (λ verdict. (es fs : List Entry) → AreEntries a.now es → AreEntries b.now fs → IsVerdict (from_entries es) (from_entries fs) verdict) }
@@ -82,7 +75,7 @@ fn compare_named(alloc: Global, a: &Named<'_>, b: &Named<'_>) -> Result<Verdict,
     let of_a = first_difference(alloc, a, b)?;
     let of_b = first_difference(alloc, b, a)?;
     match lesser(of_a, of_b) {
-        Some(key) => Ok(Verdict::Differs(clone_key(key)?)),
+        Some(key) => Ok(Verdict::Differs(key.clone()?)),
         None => Ok(Verdict::Same),
     }
 }

@@ -16,9 +16,12 @@ use Rattle.acl_text.specs.declared.list.AclItem.{AclItem}
 use Rattle.acl_text.specs.declared.rights.Right.{Right}
 use Rattle.cat_names.specs.Grants.{holder as holder_under, item_of}
 use Rattle.cat_names.specs.Rights.{giving, is_empty_list}
-use Rattle.cat_model.specs.Values as value
-use Rattle.cat_model.specs.Values.{OWNER, PUBLIC, ROLE, Bytes, bytes_cmp, holder_cmp, holder_code}
-use Rattle.cat_model.proofs.Holders.{holder_cmp_total}
+use Rattle.cat_model.specs.Values.{Grants as TheGrants}
+use Rattle.cat_model.specs.declared.holder.Holder.{Holder as TheHolder}
+use Rattle.cat_model.specs.declared.holder.Item.{Item as TheItem}
+use Rattle.cat_model.specs.declared.holder.Holder.TheVariants.{Owner as OWNER, Public as PUBLIC, Role as ROLE}
+use Rattle.cat_model.specs.Values.{Bytes, bytes_cmp, holder_cmp, holder_code}
+use Rattle.cat_model.specs.HolderLaws.{holder_cmp_total}
 use Rattle.cat_names.proofs.Mapped.{get_mapped}
 use Rattle.cat_values.specs.declared.grants.Holder.{Holder}
 use Rattle.cat_values.specs.declared.grants.Holder.TheVariants as holder
@@ -36,12 +39,12 @@ abbrev pub same_items : Item → Item → Bool
 same_items = (item_eq.ghosts).eq
 
 -- back from what a holder stands for
-abbrev holder_of : value.Holder → Holder
+abbrev holder_of : TheHolder → Holder
 holder_of OWNER = holder.Owner
 holder_of PUBLIC = holder.Public
 holder_of (ROLE name) = holder.Role name
 
-there : (h : value.Holder) → holder_seen (holder_of h) ≡ h
+there : (h : TheHolder) → holder_seen (holder_of h) ≡ h
 there OWNER = refl
 there PUBLIC = refl
 there (ROLE name) = refl
@@ -108,17 +111,17 @@ same_holder (holder.Role x) (holder.Role y) = Decides-like _ (λ e. ap holder.Ro
 holder_cmp-IsAntisymmetric : IsAntisymmetric holder_cmp
 holder_cmp-IsAntisymmetric a b e = same_code a b (slice_cmp-IsAntisymmetric (slice_cmp-IsAntisymmetric nat_cmp-IsAntisymmetric) (holder_code a) (holder_code b) e)
   where
-    decoded : List Bytes → value.Holder
+    decoded : List Bytes → TheHolder
     decoded (kind ∷ name ∷ []) = ROLE name
     decoded ((n ∷ []) ∷ []) = cond (n == 0) OWNER PUBLIC
     decoded _ = PUBLIC
 
-    decoded_code : (h : value.Holder) → decoded (holder_code h) ≡ h
+    decoded_code : (h : TheHolder) → decoded (holder_code h) ≡ h
     decoded_code OWNER = refl
     decoded_code PUBLIC = refl
     decoded_code (ROLE name) = refl
 
-    same_code : (a b : value.Holder) → holder_code a ≡ holder_code b → a ≡ b
+    same_code : (a b : TheHolder) → holder_code a ≡ holder_code b → a ≡ b
     same_code a b e = sym (decoded_code a) ∙ ap decoded e ∙ decoded_code b
 
 -- what stands at a holder
@@ -126,7 +129,7 @@ pub held : (m : BTreeMap Holder Item) (q : Holder) → get (grants_seen m) (hold
 held m q = get_mapped order holder_cmp holder_seen item_seen holder_cmp_total holder_cmp-IsAntisymmetric alike m q
 
 -- a map of first values stands for the finite map of the entries
-pub seen_of_firsts : (m : BTreeMap Holder Item) (es : List (value.Holder × value.Item)) → AreHoldings m es → grants_seen m ≡ from_entries es
+pub seen_of_firsts : (m : BTreeMap Holder Item) (es : List (TheHolder × TheItem)) → AreHoldings m es → grants_seen m ≡ from_entries es
 seen_of_firsts m es h = same_map holder_cmp_total holder_cmp-IsAntisymmetric (grants_seen m) (from_entries es) (λ q. subst (λ q. get (grants_seen m) q ≡ get (from_entries {R = holder_cmp} es) q) (there q) (at (holder_of q)))
   where
     at : (q : Holder) → get (grants_seen m) (holder_seen q) ≡ get (from_entries {R = holder_cmp} es) (holder_seen q)
@@ -141,7 +144,7 @@ seen_items None (Some y) e = absurd cc
 seen_items (Some x) None e = absurd cc
 seen_items (Some x) (Some y) e = ap Some (seen_item x y (some_same (item_seen x) (item_seen y) e))
   where
-    some_same : (x y : value.Item) → Some x ≡ Some y → x ≡ y
+    some_same : (x y : TheItem) → Some x ≡ Some y → x ≡ y
     some_same x y e = cc
 
 tied_same : (a b : Holder) → order a b ≡ Equal → a ≡ b
@@ -151,13 +154,13 @@ tied_same a b e =
 
 -- maps that stand for the same have the same entries
 pub same_entries : (m n : BTreeMap Holder Item) → tree.IsOrdered order m → tree.IsOrdered order n → grants_seen m ≡ grants_seen n → m.entries ≡ n.entries
-same_entries m n s t e = btree_map_from_get total-law m n s t (λ q. seen_items (tree.get order m q) (tree.get order n q) (sym (held m q) ∙ ap (λ (g : value.Grants). get g (holder_seen q)) e ∙ held n q)) tied_same
+same_entries m n s t e = btree_map_from_get total-law m n s t (λ q. seen_items (tree.get order m q) (tree.get order n q) (sym (held m q) ∙ ap (λ (g : TheGrants). get g (holder_seen q)) e ∙ held n q)) tied_same
 
 -- `==` on them
 pub same_grants : (m n : BTreeMap Holder Item) → tree.IsOrdered order m → tree.IsOrdered order n → (r : Bool) → r ≡ pointwise (λ (p q : Holder × Item). same_holders p.0 q.0 && same_items p.1 q.1) m.entries n.entries → Decides r (grants_seen m ≡ grants_seen n)
 same_grants m n s t r e =
     let decides : Decides r (m.entries ≡ n.entries) = btree_map_eq-Decides same_holder same_item m n r e in (
-      λ yes. ap (λ (es : List (Holder × Item)). from_entries {R = holder_cmp} (map {B = value.Holder × value.Item} (λ e. (holder_seen e.0, item_seen e.1)) es)) (decides.0 yes),
+      λ yes. ap (λ (es : List (Holder × Item)). from_entries {R = holder_cmp} (map {B = TheHolder × TheItem} (λ e. (holder_seen e.0, item_seen e.1)) es)) (decides.0 yes),
       λ same. decides.1 (same_entries m n s t same),
     )
 
@@ -173,15 +176,15 @@ some_rights (r ∷ rs) e = refl
 
 -- an item without rights gives nothing, and each other one its holder's rights
 pub gives_nothing : (owner : Bytes) (i : AclItem) → length i.rights ≡ 0 → grant_entries owner (i ∷ []) ≡ []
-gives_nothing owner i e = ap (λ b. map {B = value.Holder × value.Item} (λ (i : AclItem). (holder_under owner i.grantee, item_of i)) (cond (not b) (i ∷ []) [])) (no_rights i.rights e)
+gives_nothing owner i e = ap (λ b. map {B = TheHolder × TheItem} (λ (i : AclItem). (holder_under owner i.grantee, item_of i)) (cond (not b) (i ∷ []) [])) (no_rights i.rights e)
 
 pub gives_one : (owner : Bytes) (i : AclItem) → (length i.rights ≡ 0 → ⊥) → grant_entries owner (i ∷ []) ≡ (holder_under owner i.grantee, item_of i) ∷ []
-gives_one owner i e = ap (λ b. map {B = value.Holder × value.Item} (λ (i : AclItem). (holder_under owner i.grantee, item_of i)) (cond (not b) (i ∷ []) [])) (some_rights i.rights e)
+gives_one owner i e = ap (λ b. map {B = TheHolder × TheItem} (λ (i : AclItem). (holder_under owner i.grantee, item_of i)) (cond (not b) (i ∷ []) [])) (some_rights i.rights e)
 
 pub entries-push : (owner : Bytes) (is : List AclItem) (i : AclItem) → grant_entries owner is ++ grant_entries owner (i ∷ []) ≡ grant_entries owner (is ++ i ∷ [])
 entries-push owner [] i = refl
 entries-push owner (j ∷ is) i =
-    elim (is_empty_list j.rights) as (λ b. map {B = value.Holder × value.Item} (λ (i : AclItem). (holder_under owner i.grantee, item_of i)) (cond (not b) (j ∷ giving is) (giving is)) ++ grant_entries owner (i ∷ []) ≡ map {B = value.Holder × value.Item} (λ (i : AclItem). (holder_under owner i.grantee, item_of i)) (cond (not b) (j ∷ giving (is ++ i ∷ [])) (giving (is ++ i ∷ [])))) [
+    elim (is_empty_list j.rights) as (λ b. map {B = TheHolder × TheItem} (λ (i : AclItem). (holder_under owner i.grantee, item_of i)) (cond (not b) (j ∷ giving is) (giving is)) ++ grant_entries owner (i ∷ []) ≡ map {B = TheHolder × TheItem} (λ (i : AclItem). (holder_under owner i.grantee, item_of i)) (cond (not b) (j ∷ giving (is ++ i ∷ [])) (giving (is ++ i ∷ [])))) [
       | true ↦ entries-push owner is i
       | false ↦ ap (λ es. (holder_under owner j.grantee, item_of j) ∷ es) (entries-push owner is i)
     ]

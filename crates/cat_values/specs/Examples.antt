@@ -8,7 +8,8 @@ use Rattle.acl_text.specs.declared.rights.Privilege.TheVariants.{Insert, Select,
 use Rattle.data_rows.specs.Examples.{line_of, text_of}
 use Rattle.cat_model.specs.declared.type_name.TypeName.{TypeName}
 use Rattle.cat_model.specs.TypeEffects.{as_it_is}
-use Rattle.cat_model.specs.Values.{Bytes, Value}
+use Rattle.cat_model.specs.declared.value.Value.{Value}
+use Rattle.cat_model.specs.Values.{Bytes}
 use Rattle.cat_names.specs.declared.rights.GrantKind.TheVariants as on
 use Rattle.cat_names.specs.Grants.{grants_of}
 use Rattle.cat_values.specs.declared.value.Domain.{Domain}
@@ -41,7 +42,7 @@ pub record OneDomain : Type 0 where
 
 -- a type without a row is what it is
 abbrev pub PlainType : Type 0
-PlainType = (name : Bor Bytes) (type : TypeName) (not_null : Bool) → column_seen (record { name = name; type_name = type; end = None; not_null = not_null }) ≡ record { name = name.now; type = type; resolved = as_it_is type; not_null = not_null }
+PlainType = (name : Bor Bytes) (type : TypeName) (not_null : Bool) → column_seen (record { name = name; type_name = type; end = None; not_null = not_null }) ≡ record { name = name.now; type_name = type; resolved = as_it_is type; not_null = not_null }
 
 -- ---- rights
 

@@ -4,7 +4,8 @@ use Rattle.std.specs.declared.cmp.Ordering.{Ordering}
 use Rattle.std.specs.BTreeMap.{BTreeMap, get}
 use Rattle.std.specs.FinMap.{find}
 use Rattle.acl_text.specs.declared.list.AclItem.{AclItem}
-use Rattle.cat_model.specs.Values as value
+use Rattle.cat_model.specs.declared.holder.Holder.{Holder as TheHolder}
+use Rattle.cat_model.specs.declared.holder.Item.{Item as TheItem}
 use Rattle.cat_model.specs.Values.{Bytes, holder_cmp}
 use Rattle.cat_names.specs.Grants.{holder, item_of}
 use Rattle.cat_names.specs.Rights.{giving}
@@ -18,9 +19,9 @@ abbrev pub order : Holder → Holder → Ordering
 order = (holder_ord.ghosts).cmp
 
 -- what items give, by holders
-abbrev pub grant_entries : Bytes → List AclItem → List (value.Holder × value.Item)
+abbrev pub grant_entries : Bytes → List AclItem → List (TheHolder × TheItem)
 grant_entries owner items = map (λ i. (holder owner i.grantee, item_of i)) (giving items)
 
 -- the map has the first rights of each holder among these entries
-abbrev pub AreHoldings : BTreeMap Holder Item → List (value.Holder × value.Item) → Type 0
+abbrev pub AreHoldings : BTreeMap Holder Item → List (TheHolder × TheItem) → Type 0
 AreHoldings grants entries = (q : Holder) → option_map item_seen (get order grants q) ≡ find holder_cmp (holder_seen q) entries

@@ -10,8 +10,20 @@ use Rattle.cat_model.specs.declared.constraint.SequenceKind.{SequenceKind}
 use Rattle.cat_model.specs.declared.key.Key.{Key}
 use Rattle.cat_model.specs.declared.object.QName.{QName}
 use Rattle.cat_model.specs.Keys.{key_cmp}
-use Rattle.cat_model.specs.Values as value
-use Rattle.cat_model.specs.Values.{Bytes, bytes_cmp, Value, OWNER, PUBLIC, ROLE}
+use Rattle.cat_model.specs.declared.value.Value.TheVariants as value
+use Rattle.cat_model.specs.declared.value.Role.{Role as TheRole}
+use Rattle.cat_model.specs.declared.value.Membership.{Membership as TheMembership}
+use Rattle.cat_model.specs.declared.value.Domain.{Domain as TheDomain}
+use Rattle.cat_model.specs.declared.value.Column.{Column as TheColumn}
+use Rattle.cat_model.specs.declared.value.Sequence.{Sequence as TheSequence}
+use Rattle.cat_model.specs.declared.value.Constraint.{Constraint as TheConstraint}
+use Rattle.cat_model.specs.declared.value.Index.{Index as TheIndex}
+use Rattle.cat_model.specs.declared.holder.Holder.{Holder as TheHolder}
+use Rattle.cat_model.specs.declared.holder.Item.{Item as TheItem}
+use Rattle.cat_model.specs.Values.{Grants as TheGrants}
+use Rattle.cat_model.specs.declared.value.Value.{Value}
+use Rattle.cat_model.specs.declared.holder.Holder.TheVariants.{Owner as OWNER, Public as PUBLIC, Role as ROLE}
+use Rattle.cat_model.specs.Values.{Bytes, bytes_cmp}
 use Rattle.cat_names.specs.Naming.{Entry}
 use Rattle.type_ends.specs.Seen.{resolved_seen}
 use Rattle.cat_values.specs.declared.grants.Holder.{Holder}
@@ -28,17 +40,17 @@ use Rattle.cat_values.specs.declared.value.Parent.{Parent}
 -- ---- rights
 
 -- who has rights
-abbrev pub holder_seen : Holder → value.Holder
+abbrev pub holder_seen : Holder → TheHolder
 holder_seen holder.Owner = OWNER
 holder_seen holder.Public = PUBLIC
 holder_seen (holder.Role name) = ROLE name
 
 -- the rights that one has
-abbrev pub item_seen : Item → value.Item
+abbrev pub item_seen : Item → TheItem
 item_seen item = record { rights = item.rights; options = item.options }
 
 -- the rights on an object
-abbrev pub grants_seen : BTreeMap Holder Item → value.Grants
+abbrev pub grants_seen : BTreeMap Holder Item → TheGrants
 grants_seen grants = from_entries (map (λ e. (holder_seen e.0, item_seen e.1)) grants.entries)
 
 -- ---- roles
@@ -48,7 +60,7 @@ abbrev pub role_flags : AuthidRow → List Bool
 role_flags r = r.rolsuper ∷ r.rolinherit ∷ r.rolcreaterole ∷ r.rolcreatedb ∷ r.rolcanlogin ∷ r.rolreplication ∷ r.rolbypassrls ∷ []
 
 -- a role's attributes
-abbrev pub role_value : AuthidRow → value.Role
+abbrev pub role_value : AuthidRow → TheRole
 role_value r = record {
   superuser = r.rolsuper;
   inherit = r.rolinherit;
@@ -63,7 +75,7 @@ role_value r = record {
 }
 
 -- what a membership allows
-abbrev pub member_value : AuthMembersRow → value.Membership
+abbrev pub member_value : AuthMembersRow → TheMembership
 member_value m = record { admin = m.admin_option; inherit = m.inherit_option; «set» = m.set_option }
 
 -- ---- types, tables and sequences
@@ -73,7 +85,7 @@ abbrev pub checks_seen : BTreeMap Bytes Bytes → FinMap bytes_cmp Bytes
 checks_seen checks = from_entries checks.entries
 
 -- a domain
-abbrev pub domain_seen : Domain → value.Domain
+abbrev pub domain_seen : Domain → TheDomain
 domain_seen d = record {
   base = d.base;
   resolved = resolved_seen d.base d.end;
@@ -83,16 +95,16 @@ domain_seen d = record {
 }
 
 -- a column of a table
-abbrev pub column_seen : Column → value.Column
+abbrev pub column_seen : Column → TheColumn
 column_seen c = record {
   name = c.name.now;
-  type = c.type_name;
+  type_name = c.type_name;
   resolved = resolved_seen c.type_name c.end;
   not_null = c.not_null;
 }
 
 -- the numbers of a sequence
-abbrev pub sequence_seen : SequenceKind → SequenceRow → value.Sequence
+abbrev pub sequence_seen : SequenceKind → SequenceRow → TheSequence
 sequence_seen kind row = record {
   kind = kind;
   start = row.seqstart;
@@ -105,7 +117,7 @@ sequence_seen kind row = record {
 
 -- its value
 abbrev pub sequence_value_seen : SequenceRow → Value
-sequence_value_seen row = value.sequence_value row.last_value row.is_called
+sequence_value_seen row = value.SequenceValue row.last_value row.is_called
 
 -- ---- constraints and indexes
 
@@ -114,7 +126,7 @@ abbrev pub parent_seen : Option Parent → Option (QName × List Bytes)
 parent_seen parent = option_map (λ p. (p.table, p.columns)) parent
 
 -- a constraint of a table
-abbrev pub constraint_seen : Constraint → value.Constraint
+abbrev pub constraint_seen : Constraint → TheConstraint
 constraint_seen c = record {
   kind = c.kind;
   columns = c.columns;
@@ -123,33 +135,33 @@ constraint_seen c = record {
 }
 
 -- an index that isn't a constraint's
-abbrev pub index_seen : Index → value.Index
+abbrev pub index_seen : Index → TheIndex
 index_seen i = record { method = i.method; unique = i.unique; text = i.text }
 
 -- ---- values
 
 -- what stands under a key
 abbrev pub value_seen : NamedValue → Value
-value_seen (named.Role row) = value.role (role_value row.now)
-value_seen (named.Member row) = value.member (member_value row.now)
-value_seen named.Schema = value.schema
-value_seen (named.Enum labels) = value.enum labels
-value_seen (named.Domain d) = value.domain (domain_seen d)
-value_seen (named.Table columns) = value.table (map column_seen columns)
-value_seen (named.Sequence kind row) = value.sequence (sequence_seen kind row.now)
-value_seen named.View = value.view
-value_seen (named.IndexOf table) = value.index_of table
-value_seen (named.Owner name) = value.owner name.now
-value_seen (named.DefaultText text) = value.default_text text
-value_seen (named.Constraint c) = value.constraint (constraint_seen c)
-value_seen (named.Index i) = value.index (index_seen i)
-value_seen (named.Rows rows) = value.rows rows
+value_seen (named.Role row) = value.Role (role_value row.now)
+value_seen (named.Member row) = value.Member (member_value row.now)
+value_seen named.Schema = value.Schema
+value_seen (named.Enum labels) = value.Enum labels
+value_seen (named.Domain d) = value.Domain (domain_seen d)
+value_seen (named.Table columns) = value.Table (map column_seen columns)
+value_seen (named.Sequence kind row) = value.Sequence (sequence_seen kind row.now)
+value_seen named.View = value.View
+value_seen (named.IndexOf table) = value.IndexOf table
+value_seen (named.Owner name) = value.Owner name.now
+value_seen (named.DefaultText text) = value.DefaultText text
+value_seen (named.Constraint c) = value.Constraint (constraint_seen c)
+value_seen (named.Index i) = value.Index (index_seen i)
+value_seen (named.Rows rows) = value.Rows rows
 value_seen (named.SequenceValue row) = sequence_value_seen row.now
-value_seen (named.OwnedBy table column) = value.owned_by table column.now
-value_seen (named.Grants grants) = value.grants (grants_seen grants)
-value_seen (named.Comment text) = value.comment text.now
-value_seen (named.Body text) = value.body text
-value_seen named.Database = value.database encoding.Utf8
+value_seen (named.OwnedBy table column) = value.OwnedBy table column.now
+value_seen (named.Grants grants) = value.Grants (grants_seen grants)
+value_seen (named.Comment text) = value.Comment text.now
+value_seen (named.Body text) = value.Body text
+value_seen named.Database = value.Database encoding.Utf8
 
 -- ---- maps
 

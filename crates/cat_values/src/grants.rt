@@ -3,7 +3,8 @@ ghost use Rattle.std.specs.Prelude.{◌≡◌, ◌↔◌, [], ◌∷◌, ◌++�
 ghost use Rattle.std.specs.FinMap.{from_entries};
 ghost use Rattle.cat_names.specs.Grants.{one_right, right_option, item_of, holder, default_grants, grants_of};
 ghost use Rattle.cat_model.specs.Grants.{owner_only, type_grants, both_rights};
-ghost use Rattle.cat_model.specs.Values.{Holder as Holding, Item as Held};
+ghost use Rattle.cat_model.specs.declared.holder.Holder.{Holder as Holding};
+ghost use Rattle.cat_model.specs.declared.holder.Item.{Item as Held};
 ghost use Rattle.cat_values.specs.Holders.{AreHoldings, grant_entries};
 ghost use Rattle.cat_values.specs.Seen.{holder_seen, item_seen, grants_seen};
 

@@ -2,7 +2,7 @@
 ghost use Rattle.std.specs.Prelude.{◌≡◌, ◌↔◌, map, Option, option_map, IfOk, IsTrue};
 ghost use Rattle.cat_values.specs.Seen.{role_flags, role_value, member_value, checks_seen, domain_seen, column_seen, sequence_seen, sequence_value_seen, parent_seen, constraint_seen, index_seen, value_seen};
 ghost use Rattle.cat_model.specs.declared.type_name.TypeName.{TypeName};
-ghost use Rattle.cat_model.specs.Values.{owned_by};
+ghost use Rattle.cat_model.specs.declared.value.Value.TheVariants.{OwnedBy as owned_by};
 ghost use Rattle.type_ends.specs.Seen.{resolved_seen};
 
 use crate::grants::same_grants;
@@ -107,7 +107,7 @@ fn same_number(a: i64, b: i64) -> bool
 
 // What a type is at the end of its chain; one without a row is what it is.
 fn type_at_end<'t>(type_name: &'t TypeName, end: Option<TypeEnd<'t>>) -> &'t TypeName
-    ensures { result.now ≡ (resolved_seen type_name.now end.entry).type }
+    ensures { result.now ≡ (resolved_seen type_name.now end.entry).type_name }
 {
     match end {
         Some(end) => &end.base.type_name,

@@ -19,9 +19,11 @@ use Rattle.cat_model.specs.declared.cause.Cause.TheVariants as cause
 use Rattle.cat_model.specs.declared.stmt.Stmt.TheVariants as stmt
 use Rattle.cat_model.specs.Keys.{key_cmp}
 use Rattle.cat_model.specs.KeyLaws.{key_cmp_total, key_cmp-IsAntisymmetric, key_eq-same}
-use Rattle.cat_model.specs.Values as value
-use Rattle.cat_model.specs.Values.{Bytes, bytes_cmp, Value, Named}
-use Rattle.cat_model.specs.Values.{ROLE, OWNER, holder_code, holder_cmp}
+use Rattle.cat_model.specs.declared.value.Value.TheVariants as value
+use Rattle.cat_model.specs.declared.value.Value.{Value}
+use Rattle.cat_model.specs.Values.{Bytes, bytes_cmp, Named}
+use Rattle.cat_model.specs.declared.holder.Holder.TheVariants.{Role as ROLE, Owner as OWNER}
+use Rattle.cat_model.specs.Values.{holder_code, holder_cmp}
 use Rattle.cat_model.specs.Grants.{owner_only, schema_rights, joined, join, without_option}
 use Rattle.cat_model.specs.declared.grant.Owned.TheVariants as owned
 use Rattle.cat_model.specs.ObjectEffects.{grants_joined}
@@ -44,9 +46,9 @@ with_value v (Some name) = Some (name, v)
 
 -- the schema that a key belongs to, with the value that it has there
 abbrev pub part_of : Key → Option (Bytes × Value)
-part_of (key.Schema name) = Some (name, value.schema)
-part_of (key.Owner o) = with_value (value.owner boot) (schema_of o)
-part_of (key.Acl o) = with_value (value.grants (owner_only schema_rights)) (schema_of o)
+part_of (key.Schema name) = Some (name, value.Schema)
+part_of (key.Owner o) = with_value (value.Owner boot) (schema_of o)
+part_of (key.Acl o) = with_value (value.Grants (owner_only schema_rights)) (schema_of o)
 part_of _ = None
 
 -- what stands at a part once a test of its name has passed
@@ -68,22 +70,22 @@ by_tie a b v before = ap (λ t. cond t (Some v) before) (tie a b)
 
 -- after the changes of a schema, at any key
 three : (named : Named) (name : Bytes) (q : Key) → get (changed (schema_changes name) named) q
-    ≡ cond (eq_by_cmp key_cmp q (key.Acl (object.Schema name))) (Some (value.grants (owner_only schema_rights))) (cond (eq_by_cmp key_cmp q (key.Owner (object.Schema name))) (Some (value.owner boot)) (cond (eq_by_cmp key_cmp q (key.Schema name)) (Some value.schema) (get named q)))
+    ≡ cond (eq_by_cmp key_cmp q (key.Acl (object.Schema name))) (Some (value.Grants (owner_only schema_rights))) (cond (eq_by_cmp key_cmp q (key.Owner (object.Schema name))) (Some (value.Owner boot)) (cond (eq_by_cmp key_cmp q (key.Schema name)) (Some value.Schema) (get named q)))
 three named name q =
-    get-insert key_cmp_total _ _ _ q ∙ ap (λ x. cond (eq_by_cmp key_cmp q (key.Acl (object.Schema name))) (Some (value.grants (owner_only schema_rights))) x)
-    (get-insert key_cmp_total _ _ _ q ∙ ap (λ x. cond (eq_by_cmp key_cmp q (key.Owner (object.Schema name))) (Some (value.owner boot)) x)
-    (get-insert key_cmp_total named (key.Schema name) value.schema q))
+    get-insert key_cmp_total _ _ _ q ∙ ap (λ x. cond (eq_by_cmp key_cmp q (key.Acl (object.Schema name))) (Some (value.Grants (owner_only schema_rights))) x)
+    (get-insert key_cmp_total _ _ _ q ∙ ap (λ x. cond (eq_by_cmp key_cmp q (key.Owner (object.Schema name))) (Some (value.Owner boot)) x)
+    (get-insert key_cmp_total named (key.Schema name) value.Schema q))
 
-at_owner : (o : Object) (name : Bytes) (before : Option Value) → cond (eq_by_cmp key_cmp (key.Owner o) (key.Owner (object.Schema name))) (Some (value.owner boot)) before ≡ stands (λ m. eq_by_cmp bytes_cmp name m) (with_value (value.owner boot) (schema_of o)) before
-at_owner (object.Schema m) name before = by_tie m name (value.owner boot) before
+at_owner : (o : Object) (name : Bytes) (before : Option Value) → cond (eq_by_cmp key_cmp (key.Owner o) (key.Owner (object.Schema name))) (Some (value.Owner boot)) before ≡ stands (λ m. eq_by_cmp bytes_cmp name m) (with_value (value.Owner boot) (schema_of o)) before
+at_owner (object.Schema m) name before = by_tie m name (value.Owner boot) before
 at_owner (object.Type q) name before = refl
 at_owner (object.Relation q) name before = refl
 at_owner (object.Column q c) name before = refl
 at_owner (object.Constraint q c) name before = refl
 at_owner (object.Database d) name before = refl
 
-at_acl : (o : Object) (name : Bytes) (before : Option Value) → cond (eq_by_cmp key_cmp (key.Acl o) (key.Acl (object.Schema name))) (Some (value.grants (owner_only schema_rights))) before ≡ stands (λ m. eq_by_cmp bytes_cmp name m) (with_value (value.grants (owner_only schema_rights)) (schema_of o)) before
-at_acl (object.Schema m) name before = by_tie m name (value.grants (owner_only schema_rights)) before
+at_acl : (o : Object) (name : Bytes) (before : Option Value) → cond (eq_by_cmp key_cmp (key.Acl o) (key.Acl (object.Schema name))) (Some (value.Grants (owner_only schema_rights))) before ≡ stands (λ m. eq_by_cmp bytes_cmp name m) (with_value (value.Grants (owner_only schema_rights)) (schema_of o)) before
+at_acl (object.Schema m) name before = by_tie m name (value.Grants (owner_only schema_rights)) before
 at_acl (object.Type q) name before = refl
 at_acl (object.Relation q) name before = refl
 at_acl (object.Column q c) name before = refl
@@ -92,7 +94,7 @@ at_acl (object.Database d) name before = refl
 
 -- a schema's changes are seen at its own keys alone
 one_schema : (named : Named) (name : Bytes) (q : Key) → get (changed (schema_changes name) named) q ≡ stands (λ m. eq_by_cmp bytes_cmp name m) (part_of q) (get named q)
-one_schema named name (key.Schema m) = three named name (key.Schema m) ∙ by_tie m name value.schema (get named (key.Schema m))
+one_schema named name (key.Schema m) = three named name (key.Schema m) ∙ by_tie m name value.Schema (get named (key.Schema m))
 one_schema named name (key.Owner o) = three named name (key.Owner o) ∙ at_owner o name (get named (key.Owner o))
 one_schema named name (key.Acl o) = three named name (key.Acl o) ∙ at_acl o name (get named (key.Acl o))
 one_schema named name (key.Role a) = three named name (key.Role a)
@@ -151,17 +153,17 @@ with_schemas-append named (x ∷ xs) ys = with_schemas-append (changed (schema_c
 
 pub no_schema : (name : Bytes) → get cluster (key.Schema name) ≡ None
 no_schema name =
-    get-from_entries key_cmp_total ((key.Role boot, value.role boot_role) ∷ (key.Database boot, value.database encoding.Utf8) ∷ (key.Owner (object.Database boot), value.owner boot) ∷ []) (key.Schema name)
+    get-from_entries key_cmp_total ((key.Role boot, value.Role boot_role) ∷ (key.Database boot, value.Database encoding.Utf8) ∷ (key.Owner (object.Database boot), value.Owner boot) ∷ []) (key.Schema name)
 
-there : (rows : List SchemaRow) (name : Bytes) → get (named rows) (key.Schema name) ≡ cond (has_name name rows) (Some value.schema) None
-there rows name = get-with_schemas cluster rows (key.Schema name) ∙ ap (λ x. cond (has_name name rows) (Some value.schema) x) (no_schema name)
+there : (rows : List SchemaRow) (name : Bytes) → get (named rows) (key.Schema name) ≡ cond (has_name name rows) (Some value.Schema) None
+there rows name = get-with_schemas cluster rows (key.Schema name) ∙ ap (λ x. cond (has_name name rows) (Some value.Schema) x) (no_schema name)
 
 -- what CREATE SCHEMA says, by what it finds at the schema's key and by whether the name is the system's own
 abbrev said : Bytes → Named → Option Value → Bool → Result Named Cause
 said name named found system =
     after (outcome (if_free (key.Schema name) (check (not system) (cause.Exists (key.Schema name)) (sets (schema_changes name))) found) (seen named)) named
 
-said-cases : (name : Bytes) (named : Named) (has system : Bool) (found : Option Value) → found ≡ cond has (Some value.schema) None → said name named found system ≡ cond (has || system) (Err (cause.Exists (key.Schema name))) (Ok (changed (schema_changes name) named))
+said-cases : (name : Bytes) (named : Named) (has system : Bool) (found : Option Value) → found ≡ cond has (Some value.Schema) None → said name named found system ≡ cond (has || system) (Err (cause.Exists (key.Schema name))) (Ok (changed (schema_changes name) named))
 said-cases name named true system found e = ap (λ f. said name named f system) e
 said-cases name named false true found e = ap (λ f. said name named f true) e
 said-cases name named false false found e = ap (λ f. said name named f false) e
@@ -199,29 +201,29 @@ joined_same = ap (λ item. join boot item (owner_only schema_rights)) (get-from_
 
 -- what a change of the owner does behind its conditions
 abbrev owner_changes : Bytes → Bytes → Option Value → List Change
-owner_changes name role grants = (key.Owner (object.Schema name), Some (value.owner role)) ∷ grants_joined (object.Schema name) role grants
+owner_changes name role grants = (key.Owner (object.Schema name), Some (value.Owner role)) ∷ grants_joined (object.Schema name) role grants
 
-role_there : (rows : List SchemaRow) (role : Bytes) → get (named rows) (key.Role role) ≡ cond (eq_by_cmp key_cmp (key.Role role) (key.Role boot)) (Some (value.role boot_role)) None
+role_there : (rows : List SchemaRow) (role : Bytes) → get (named rows) (key.Role role) ≡ cond (eq_by_cmp key_cmp (key.Role role) (key.Role boot)) (Some (value.Role boot_role)) None
 role_there rows role =
     get-with_schemas cluster rows (key.Role role)
-    ∙ get-from_entries key_cmp_total ((key.Role boot, value.role boot_role) ∷ (key.Database boot, value.database encoding.Utf8) ∷ (key.Owner (object.Database boot), value.owner boot) ∷ []) (key.Role role)
+    ∙ get-from_entries key_cmp_total ((key.Role boot, value.Role boot_role) ∷ (key.Database boot, value.Database encoding.Utf8) ∷ (key.Owner (object.Database boot), value.Owner boot) ∷ []) (key.Role role)
 
 role_of_key : (a b : Bytes) → key.Role a ≡ key.Role b → a ≡ b
 role_of_key a b e = cc
 
-owner_at : (rows : List SchemaRow) (name : Bytes) → has_name name rows ≡ true → get (named rows) (key.Owner (object.Schema name)) ≡ Some (value.owner boot)
-owner_at rows name h = get-with_schemas cluster rows (key.Owner (object.Schema name)) ∙ ap (λ b. cond b (Some (value.owner boot)) (get cluster (key.Owner (object.Schema name)))) h
+owner_at : (rows : List SchemaRow) (name : Bytes) → has_name name rows ≡ true → get (named rows) (key.Owner (object.Schema name)) ≡ Some (value.Owner boot)
+owner_at rows name h = get-with_schemas cluster rows (key.Owner (object.Schema name)) ∙ ap (λ b. cond b (Some (value.Owner boot)) (get cluster (key.Owner (object.Schema name)))) h
 
-grants_at : (rows : List SchemaRow) (name : Bytes) → has_name name rows ≡ true → get (named rows) (key.Acl (object.Schema name)) ≡ Some (value.grants (owner_only schema_rights))
-grants_at rows name h = get-with_schemas cluster rows (key.Acl (object.Schema name)) ∙ ap (λ b. cond b (Some (value.grants (owner_only schema_rights))) (get cluster (key.Acl (object.Schema name)))) h
+grants_at : (rows : List SchemaRow) (name : Bytes) → has_name name rows ≡ true → get (named rows) (key.Acl (object.Schema name)) ≡ Some (value.Grants (owner_only schema_rights))
+grants_at rows name h = get-with_schemas cluster rows (key.Acl (object.Schema name)) ∙ ap (λ b. cond b (Some (value.Grants (owner_only schema_rights))) (get cluster (key.Acl (object.Schema name)))) h
 
 -- the boot role owns each schema already
 owner_kept : (rows : List SchemaRow) (name : Bytes) → has_name name rows ≡ true → changed (owner_changes name boot (get (named rows) (key.Acl (object.Schema name)))) (named rows) ≡ named rows
 owner_kept rows name h =
     ap (λ found. changed (owner_changes name boot found) (named rows)) (grants_at rows name h)
-    ∙ ap (λ grants. insert (insert (named rows) (key.Owner (object.Schema name)) (value.owner boot)) (key.Acl (object.Schema name)) (value.grants grants)) joined_same
-    ∙ ap (λ m. insert m (key.Acl (object.Schema name)) (value.grants (owner_only schema_rights))) (insert_same (named rows) (key.Owner (object.Schema name)) (value.owner boot) (owner_at rows name h))
-    ∙ insert_same (named rows) (key.Acl (object.Schema name)) (value.grants (owner_only schema_rights)) (grants_at rows name h)
+    ∙ ap (λ grants. insert (insert (named rows) (key.Owner (object.Schema name)) (value.Owner boot)) (key.Acl (object.Schema name)) (value.Grants grants)) joined_same
+    ∙ ap (λ m. insert m (key.Acl (object.Schema name)) (value.Grants (owner_only schema_rights))) (insert_same (named rows) (key.Owner (object.Schema name)) (value.Owner boot) (owner_at rows name h))
+    ∙ insert_same (named rows) (key.Acl (object.Schema name)) (value.Grants (owner_only schema_rights)) (grants_at rows name h)
 
 -- behind its conditions
 abbrev owner_set : Bytes → Bytes → Tree
@@ -236,9 +238,9 @@ abbrev said_owner : Bytes → Bytes → Named → Option Value → Result Named 
 said_owner name role named found =
     after (outcome (if_there (key.Schema name) (needs (key.Role role) (owner_set name role)) found) (seen named)) named
 
-schema_found : (rows : List SchemaRow) (name role : Bytes) (has : Bool) → has_name name rows ≡ has → run (effect boot (stmt.OwnerTo (owned.Schema name) role)) (named rows) ≡ said_owner name role (named rows) (cond has (Some value.schema) None)
+schema_found : (rows : List SchemaRow) (name role : Bytes) (has : Bool) → has_name name rows ≡ has → run (effect boot (stmt.OwnerTo (owned.Schema name) role)) (named rows) ≡ said_owner name role (named rows) (cond has (Some value.Schema) None)
 schema_found rows name role has h =
-    ap (λ found. said_owner name role (named rows) found) (there rows name ∙ ap (λ b. cond b (Some value.schema) None) h)
+    ap (λ found. said_owner name role (named rows) found) (there rows name ∙ ap (λ b. cond b (Some value.Schema) None) h)
 
 -- where the schema isn't there
 pub run_no_schema : (rows : List SchemaRow) (name role : Bytes) → has_name name rows ≡ false → run (effect boot (stmt.OwnerTo (owned.Schema name) role)) (named rows) ≡ Err (cause.Absent (key.Schema name))
@@ -249,7 +251,7 @@ pub run_no_role : (rows : List SchemaRow) (name role : Bytes) → has_name name 
 run_no_role rows name role h other =
     schema_found rows name role true h
     ∙ ap (λ found. said_role name role (named rows) found)
-    (role_there rows role ∙ ap (λ b. cond b (Some (value.role boot_role)) None) (false_from_ne_true (eq_by_cmp key_cmp (key.Role role) (key.Role boot)) (λ s. other (role_of_key role boot (key_eq-same (key.Role role) (key.Role boot) s)))))
+    (role_there rows role ∙ ap (λ b. cond b (Some (value.Role boot_role)) None) (false_from_ne_true (eq_by_cmp key_cmp (key.Role role) (key.Role boot)) (λ s. other (role_of_key role boot (key_eq-same (key.Role role) (key.Role boot) s)))))
 
 -- where both are there
 pub run_owned : (rows : List SchemaRow) (name role : Bytes) → has_name name rows ≡ true → role ≡ boot → run (effect boot (stmt.OwnerTo (owned.Schema name) role)) (named rows) ≡ Ok (named rows)

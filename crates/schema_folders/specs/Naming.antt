@@ -10,8 +10,9 @@ use Rattle.cat_model.specs.declared.object.Object.TheVariants as object
 use Rattle.cat_model.specs.ObjectEffects.{made}
 use Rattle.cat_model.specs.Grants.{owner_only, schema_rights}
 use Rattle.cat_model.specs.Trees.{Change, changed}
-use Rattle.cat_model.specs.Values as value
-use Rattle.cat_model.specs.Values.{Bytes, bytes_cmp, Role, Named}
+use Rattle.cat_model.specs.declared.value.Value.TheVariants as value
+use Rattle.cat_model.specs.declared.value.Role.{Role}
+use Rattle.cat_model.specs.Values.{Bytes, bytes_cmp, Named}
 use Rattle.schema_folders.specs.declared.schemas.SchemaRow.{SchemaRow}
 
 -- the name of the role of oid 10
@@ -35,11 +36,11 @@ boot_role = record {
 
 -- the role, and the database that it owns
 abbrev pub cluster : Named
-cluster = from_entries ((key.Role boot, value.role boot_role) ∷ (key.Database boot, value.database encoding.Utf8) ∷ (key.Owner (object.Database boot), value.owner boot) ∷ [])
+cluster = from_entries ((key.Role boot, value.Role boot_role) ∷ (key.Database boot, value.Database encoding.Utf8) ∷ (key.Owner (object.Database boot), value.Owner boot) ∷ [])
 
 -- a schema, its owner and its grants
 abbrev pub schema_changes : Bytes → List Change
-schema_changes name = (key.Schema name, Some value.schema) ∷ made (object.Schema name) boot (owner_only schema_rights)
+schema_changes name = (key.Schema name, Some value.Schema) ∷ made (object.Schema name) boot (owner_only schema_rights)
 
 -- a catalogue with these schemas too
 abbrev pub with_schemas : Named → List SchemaRow → Named

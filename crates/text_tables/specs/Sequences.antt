@@ -4,7 +4,7 @@ use Rattle.cat_rows.specs.declared.catalogue.Catalogue.{Catalogue}
 use Rattle.cat_rows.specs.declared.sequences.SequenceRow.{SequenceRow}
 use Rattle.cat_model.specs.declared.constraint.SequenceKind.{SequenceKind}
 use Rattle.cat_model.specs.RelationEffects.{fits_sequence, within}
-use Rattle.cat_model.specs.Values.{Sequence}
+use Rattle.cat_model.specs.declared.value.Sequence.{Sequence}
 use Rattle.cat_names.specs.Kinds.{kind_of, is_table, is_sequence}
 use Rattle.cat_book.specs.Leads.{has_number}
 use Rattle.cat_book.specs.Rules.{Rules}

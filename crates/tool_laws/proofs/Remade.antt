@@ -23,8 +23,9 @@ use Rattle.cat_model.specs.declared.object.Object.TheVariants as object
 use Rattle.cat_model.specs.declared.stmt.Stmt.{Stmt}
 use Rattle.cat_model.specs.KeyLaws.{key_cmp_total, key_cmp-IsAntisymmetric}
 use Rattle.cat_model.specs.References.{is_system}
-use Rattle.cat_model.specs.Values as value
-use Rattle.cat_model.specs.Values.{Bytes, bytes_cmp, Value, Named}
+use Rattle.cat_model.specs.declared.value.Value.TheVariants as value
+use Rattle.cat_model.specs.declared.value.Value.{Value}
+use Rattle.cat_model.specs.Values.{Bytes, bytes_cmp, Named}
 use Rattle.ddl_read.specs.declared.located.Located.{Located}
 use Rattle.dump_schemas.specs.Toc.{is_public}
 use Rattle.dump_laws.specs.Statements.{session_statements, schema_statements}
@@ -157,8 +158,8 @@ rows_have rows public m = by (eq_by_cmp bytes_cmp public_name m) refl
         rw e (sym there)
 
 -- a part of a schema has nothing in a cluster without schemas
-nothing_of : (o : Object) → IfSome (with_value (value.owner boot) (schema_of o)) (λ _. get cluster (key.Owner o) ≡ None)
-nothing_of (object.Schema name) = get-from_entries key_cmp_total ((key.Role boot, value.role boot_role) ∷ (key.Database boot, value.database encoding.Utf8) ∷ (key.Owner (object.Database boot), value.owner boot) ∷ []) (key.Owner (object.Schema name))
+nothing_of : (o : Object) → IfSome (with_value (value.Owner boot) (schema_of o)) (λ _. get cluster (key.Owner o) ≡ None)
+nothing_of (object.Schema name) = get-from_entries key_cmp_total ((key.Role boot, value.Role boot_role) ∷ (key.Database boot, value.Database encoding.Utf8) ∷ (key.Owner (object.Database boot), value.Owner boot) ∷ []) (key.Owner (object.Schema name))
 nothing_of (object.Type q) = tt
 nothing_of (object.Relation q) = tt
 nothing_of (object.Column q c) = tt
@@ -166,7 +167,7 @@ nothing_of (object.Constraint q c) = tt
 nothing_of (object.Database d) = tt
 
 nothing_granted : (o : Object) → get cluster (key.Acl o) ≡ None
-nothing_granted o = get-from_entries key_cmp_total ((key.Role boot, value.role boot_role) ∷ (key.Database boot, value.database encoding.Utf8) ∷ (key.Owner (object.Database boot), value.owner boot) ∷ []) (key.Acl o)
+nothing_granted o = get-from_entries key_cmp_total ((key.Role boot, value.Role boot_role) ∷ (key.Database boot, value.Database encoding.Utf8) ∷ (key.Owner (object.Database boot), value.Owner boot) ∷ []) (key.Acl o)
 
 at_part : (part : Option (Bytes × Value)) (c : Option Value) → c ≡ None → IfSome part (λ _. c ≡ None)
 at_part None c e = tt

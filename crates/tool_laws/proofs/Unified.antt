@@ -17,8 +17,9 @@ use Rattle.cat_model.specs.declared.key.Key.TheVariants as key
 use Rattle.cat_model.specs.Keys.{key_cmp}
 use Rattle.cat_model.specs.KeyLaws.{key_cmp_total, key_cmp-IsAntisymmetric}
 use Rattle.cat_model.specs.Grants.{owner_only, schema_rights}
-use Rattle.cat_model.specs.Values as value
-use Rattle.cat_model.specs.Values.{Bytes, bytes_cmp, Value, Named}
+use Rattle.cat_model.specs.declared.value.Value.TheVariants as value
+use Rattle.cat_model.specs.declared.value.Value.{Value}
+use Rattle.cat_model.specs.Values.{Bytes, bytes_cmp, Named}
 use Rattle.cat_names.specs.Grants.{grants_of}
 use Rattle.cat_names.specs.Lookups.{role_name}
 use Rattle.cat_names.specs.Naming.{Entry, schema_entries}
@@ -33,7 +34,7 @@ use Rattle.schema_folders.proofs.Named.{with_value, schema_of, part_of, stands, 
 
 -- what a schema gives
 abbrev three : Bytes → List Entry
-three name = (key.Schema name, value.schema) ∷ (key.Owner (object.Schema name), value.owner boot) ∷ (key.Acl (object.Schema name), value.grants (owner_only schema_rights)) ∷ []
+three name = (key.Schema name, value.Schema) ∷ (key.Owner (object.Schema name), value.Owner boot) ∷ (key.Acl (object.Schema name), value.Grants (owner_only schema_rights)) ∷ []
 
 abbrev threes : List SchemaRow → List Entry
 threes [] = []
@@ -52,7 +53,7 @@ of_rows (row ∷ rows) =
 
 -- what the one role and the one database give
 abbrev heads : List Entry
-heads = (key.Role boot, value.role boot_role) ∷ (key.Database boot, value.database encoding.Utf8) ∷ (key.Owner (object.Database boot), value.owner boot) ∷ []
+heads = (key.Role boot, value.Role boot_role) ∷ (key.Database boot, value.Database encoding.Utf8) ∷ (key.Owner (object.Database boot), value.Owner boot) ∷ []
 
 all_entries : (rows : List SchemaRow) (texts : RowsByOid) → entries_of (schemas_alone rows) texts ≡ heads ++ threes rows
 unfolding role_name
@@ -69,16 +70,16 @@ tie_of a b Greater e = refl
 tied : (a b : Bytes) (v : Value) (before : Option Value) → cond (is_eq (ordering_then (bytes_cmp a b) Equal)) (Some v) before ≡ cond (eq_by_cmp bytes_cmp b a) (Some v) before
 tied a b v before = ap (λ t. cond t (Some v) before) (tie_of a b (bytes_cmp a b) refl ∙ (eq_by_cmp_equiv nat_list_cmp_total).symm a b)
 
-at_owner : (o : Object) (name : Bytes) (before : Option Value) → cond (eq_by_cmp key_cmp (key.Owner o) (key.Owner (object.Schema name))) (Some (value.owner boot)) before ≡ stands (λ m. eq_by_cmp bytes_cmp name m) (with_value (value.owner boot) (schema_of o)) before
-at_owner (object.Schema m) name before = tied m name (value.owner boot) before
+at_owner : (o : Object) (name : Bytes) (before : Option Value) → cond (eq_by_cmp key_cmp (key.Owner o) (key.Owner (object.Schema name))) (Some (value.Owner boot)) before ≡ stands (λ m. eq_by_cmp bytes_cmp name m) (with_value (value.Owner boot) (schema_of o)) before
+at_owner (object.Schema m) name before = tied m name (value.Owner boot) before
 at_owner (object.Type q) name before = refl
 at_owner (object.Relation q) name before = refl
 at_owner (object.Column q c) name before = refl
 at_owner (object.Constraint q c) name before = refl
 at_owner (object.Database d) name before = refl
 
-at_acl : (o : Object) (name : Bytes) (before : Option Value) → cond (eq_by_cmp key_cmp (key.Acl o) (key.Acl (object.Schema name))) (Some (value.grants (owner_only schema_rights))) before ≡ stands (λ m. eq_by_cmp bytes_cmp name m) (with_value (value.grants (owner_only schema_rights)) (schema_of o)) before
-at_acl (object.Schema m) name before = tied m name (value.grants (owner_only schema_rights)) before
+at_acl : (o : Object) (name : Bytes) (before : Option Value) → cond (eq_by_cmp key_cmp (key.Acl o) (key.Acl (object.Schema name))) (Some (value.Grants (owner_only schema_rights))) before ≡ stands (λ m. eq_by_cmp bytes_cmp name m) (with_value (value.Grants (owner_only schema_rights)) (schema_of o)) before
+at_acl (object.Schema m) name before = tied m name (value.Grants (owner_only schema_rights)) before
 at_acl (object.Type q) name before = refl
 at_acl (object.Relation q) name before = refl
 at_acl (object.Column q c) name before = refl
@@ -88,12 +89,12 @@ at_acl (object.Database d) name before = refl
 -- the entries of a schema before others
 abbrev before_others : Bytes → Key → Option Value → Option Value
 before_others name q others =
-    cond (eq_by_cmp key_cmp q (key.Schema name)) (Some value.schema)
-    (cond (eq_by_cmp key_cmp q (key.Owner (object.Schema name))) (Some (value.owner boot))
-    (cond (eq_by_cmp key_cmp q (key.Acl (object.Schema name))) (Some (value.grants (owner_only schema_rights))) others))
+    cond (eq_by_cmp key_cmp q (key.Schema name)) (Some value.Schema)
+    (cond (eq_by_cmp key_cmp q (key.Owner (object.Schema name))) (Some (value.Owner boot))
+    (cond (eq_by_cmp key_cmp q (key.Acl (object.Schema name))) (Some (value.Grants (owner_only schema_rights))) others))
 
 one : (name : Bytes) (q : Key) (others : Option Value) → before_others name q others ≡ stands (λ m. eq_by_cmp bytes_cmp name m) (part_of q) others
-one name (key.Schema m) others = tied m name value.schema others
+one name (key.Schema m) others = tied m name value.Schema others
 one name (key.Owner o) others = at_owner o name others
 one name (key.Acl o) others = at_acl o name others
 one name (key.Role a) others = refl
@@ -132,9 +133,9 @@ found (row ∷ rows) q =
 -- the entries of the role and of the database before others
 abbrev behind_heads : Key → Option Value → Option Value
 behind_heads q others =
-    cond (eq_by_cmp key_cmp q (key.Role boot)) (Some (value.role boot_role))
-    (cond (eq_by_cmp key_cmp q (key.Database boot)) (Some (value.database encoding.Utf8))
-    (cond (eq_by_cmp key_cmp q (key.Owner (object.Database boot))) (Some (value.owner boot)) others))
+    cond (eq_by_cmp key_cmp q (key.Role boot)) (Some (value.Role boot_role))
+    (cond (eq_by_cmp key_cmp q (key.Database boot)) (Some (value.Database encoding.Utf8))
+    (cond (eq_by_cmp key_cmp q (key.Owner (object.Database boot))) (Some (value.Owner boot)) others))
 
 at_heads : (has : Bytes → Bool) (q : Key) → behind_heads q (stands has (part_of q) None) ≡ stands has (part_of q) (behind_heads q None)
 at_heads has (key.Schema m) = refl

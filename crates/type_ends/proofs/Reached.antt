@@ -16,7 +16,8 @@ use Rattle.cat_rows.specs.declared.types.TypeRow.{TypeRow}
 use Rattle.cat_model.specs.declared.object.QName.{QName}
 use Rattle.cat_model.specs.declared.type_name.TypeName.{TypeName}
 use Rattle.cat_model.specs.TypeEffects.{as_it_is}
-use Rattle.cat_model.specs.Values.{Bytes, Resolved}
+use Rattle.cat_model.specs.declared.value.Resolved.{Resolved}
+use Rattle.cat_model.specs.Values.{Bytes}
 use Rattle.cat_names.specs.Lookups.{same_oid, place_of, is_no_oid}
 use Rattle.cat_book.specs.Chains.{has_base, type_of, base_of, ends_behind, ends_within, chain_ends, is_domain_letter}
 use Rattle.cat_book.specs.Paths.{type_path}

@@ -7,7 +7,8 @@ use Rattle.cat_rows.specs.declared.types.TypeRow.{TypeRow}
 use Rattle.cat_model.specs.declared.object.QName.{QName}
 use Rattle.cat_model.specs.declared.type_name.TypeName.TheVariants.{Path}
 use Rattle.cat_model.specs.TypeEffects.{as_it_is}
-use Rattle.cat_model.specs.Values.{Bytes, Resolved}
+use Rattle.cat_model.specs.declared.value.Resolved.{Resolved}
+use Rattle.cat_model.specs.Values.{Bytes}
 use Rattle.cat_names.specs.Lookups.{same_oid, is_no_oid}
 use Rattle.cat_book.specs.Chains.{type_of, is_domain_letter}
 use Rattle.cat_book.specs.Paths.{type_path}
@@ -23,7 +24,7 @@ labels_of cat oid = map (λ e. e.enumlabel) (by_number (λ e. e.enumpos) (filter
 -- ---- what a type is at the end of its chain
 
 abbrev pub enum_resolved : QName → List Bytes → Resolved
-enum_resolved path labels = record { type = Path path; labels = Some labels; not_null = false }
+enum_resolved path labels = record { type_name = Path path; labels = Some labels; not_null = false }
 
 -- a domain takes no null where it says so, or where its base takes none
 abbrev pub over : TypeRow → Resolved → Resolved

@@ -6,7 +6,8 @@ use Rattle.cat_rows.specs.declared.types.TypeRow.{TypeRow}
 use Rattle.cat_rows.specs.declared.types.EnumRow.{EnumRow}
 use Rattle.cat_model.specs.declared.object.QName.{QName}
 use Rattle.cat_model.specs.declared.type_name.TypeName.TheVariants.{Words, Path}
-use Rattle.cat_model.specs.Values.{Bytes, Resolved}
+use Rattle.cat_model.specs.declared.value.Resolved.{Resolved}
+use Rattle.cat_model.specs.Values.{Bytes}
 use Rattle.type_ends.specs.Ends.{labels_of, resolved}
 
 -- the schema public, with these types
@@ -49,10 +50,10 @@ abbrev pub ended : List TypeRow → ℕ → Option Resolved
 ended types oid = resolved (with_labels types) oid []
 
 abbrev pub of_e : Bool → Option Resolved
-of_e no_null = Some (record { type = Path (path (codes "e")); labels = Some (codes "x" ∷ codes "y" ∷ []); not_null = no_null })
+of_e no_null = Some (record { type_name = Path (path (codes "e")); labels = Some (codes "x" ∷ codes "y" ∷ []); not_null = no_null })
 
 abbrev pub of_words : Bytes → Bool → Option Resolved
-of_words text no_null = Some (record { type = Words text; labels = None; not_null = no_null })
+of_words text no_null = Some (record { type_name = Words text; labels = None; not_null = no_null })
 
 pub record Labelled : Type 0 where
   pub by_position : labels_of (with_labels []) 20000 ≡ codes "x" ∷ codes "y" ∷ []

@@ -5,9 +5,11 @@ use Rattle.std.specs.FinMap.{get, from_entries, get-from_entries}
 use Rattle.cat_model.specs.declared.key.Key.TheVariants as key
 use Rattle.cat_model.specs.declared.object.Object.TheVariants as object
 use Rattle.cat_model.specs.Grants.{owner_only, schema_rights, without_option}
-use Rattle.cat_model.specs.Values as value
-use Rattle.cat_model.specs.Values.{Grants, OWNER, Value}
-use Rattle.cat_model.proofs.Holders.{holder_cmp_total}
+use Rattle.cat_model.specs.declared.value.Value.TheVariants as value
+use Rattle.cat_model.specs.declared.value.Value.{Value}
+use Rattle.cat_model.specs.declared.holder.Holder.TheVariants.{Owner as OWNER}
+use Rattle.cat_model.specs.Values.{Grants}
+use Rattle.cat_model.specs.HolderLaws.{holder_cmp_total}
 use Rattle.cat_names.specs.Examples.{bob, schema, public, with_schemas}
 use Rattle.cat_names.specs.Grants.{grants_of}
 use Rattle.cat_names.specs.Lookups.{role_name}
@@ -31,7 +33,7 @@ returns-clause-same c = record {
   rights_written_out = refl;
   no_rights = λ e.
       let a = key.Acl (object.Schema (codes "a")) in
-      let same : Some (value.grants (owner_only schema_rights)) ≡ Some (value.grants (from_entries [])) = sym (found (with_rights None) nothing a) ∙ e ∙ found (with_rights (Some [])) nothing a in
+      let same : Some (value.Grants (owner_only schema_rights)) ≡ Some (value.Grants (from_entries [])) = sym (found (with_rights None) nothing a) ∙ e ∙ found (with_rights (Some [])) nothing a in
       apart cc;
 }
 
@@ -40,11 +42,11 @@ differs : get (catalogue_named (with_role (public ∷ []) true) nothing) (key.Ro
 unfolding role_name grants_of
 differs e =
     let k = key.Role (codes "bob") in
-    let same : Some (value.role (role_value (record bob { rolinherit = true }))) ≡ Some (value.role (role_value (record bob { rolinherit = false }))) = sym (found (with_role (public ∷ []) true) nothing k) ∙ e ∙ found (with_role [] false) nothing k in
+    let same : Some (value.Role (role_value (record bob { rolinherit = true }))) ≡ Some (value.Role (role_value (record bob { rolinherit = false }))) = sym (found (with_role (public ∷ []) true) nothing k) ∙ e ∙ found (with_role [] false) nothing k in
     true≢false (ap inherits same)
   where
     inherits : Option Value → Bool
-    inherits (Some (value.role r)) = r.inherit
+    inherits (Some (value.Role r)) = r.inherit
     inherits _ = false
 
 pub returns-clause-tables : goal.returns-clause-tables
@@ -60,9 +62,9 @@ returns-clause-least c = record {
       let k = key.Schema (codes "a") in
       let more = with_schemas (public ∷ schema 16384 (codes "a") 10 None ∷ []) in
       let fewer = with_schemas (public ∷ []) in
-      let behind = (k, value.schema) ∷ (key.Owner (object.Schema (codes "a")), value.owner (codes "postgres")) ∷ (key.Acl (object.Schema (codes "a")), value.grants (owner_only schema_rights)) ∷ [] in
+      let behind = (k, value.Schema) ∷ (key.Owner (object.Schema (codes "a")), value.Owner (codes "postgres")) ∷ (key.Acl (object.Schema (codes "a")), value.Grants (owner_only schema_rights)) ∷ [] in
       record {
-        differs = λ e. none-some value.schema (sym (found fewer nothing k) ∙ sym e ∙ found more nothing k);
+        differs = λ e. none-some value.Schema (sym (found fewer nothing k) ∙ sym e ∙ found more nothing k);
         agrees = λ j less. found more nothing j ∙ find-behind j (entries_of fewer nothing) behind (none_below j k behind less refl) ∙ sym (found fewer nothing j);
       };
   role_first =
@@ -83,14 +85,14 @@ returns-clause-rows c = record {
       let ones = row_of (codes "1") in
       let twos = row_of (codes "2") in
       record {
-        differs = λ e. let rows : Some (value.rows (ones 16384)) ≡ Some (value.rows (twos 16384)) = sym (found cat ones k) ∙ e ∙ found cat twos k in true≢false (ap is_one rows);
+        differs = λ e. let rows : Some (value.Rows (ones 16384)) ≡ Some (value.Rows (twos 16384)) = sym (found cat ones k) ∙ e ∙ found cat twos k in true≢false (ap is_one rows);
         agrees = λ j less.
             found cat ones j
-            ∙ find-beside j k (value.rows (ones 16384)) (value.rows (twos 16384)) (take 5 (entries_of cat nothing)) (drop 6 (entries_of cat nothing)) less
+            ∙ find-beside j k (value.Rows (ones 16384)) (value.Rows (twos 16384)) (take 5 (entries_of cat nothing)) (drop 6 (entries_of cat nothing)) less
             ∙ sym (found cat twos j);
       };
 }
   where
     is_one : Option Value → Bool
-    is_one (Some (value.rows ((Some text ∷ fields) ∷ rows))) = get_or text 0 0 == 49
+    is_one (Some (value.Rows ((Some text ∷ fields) ∷ rows))) = get_or text 0 0 == 49
     is_one _ = false

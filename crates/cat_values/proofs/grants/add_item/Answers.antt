@@ -3,7 +3,7 @@ use Rattle.std.proofs.lemmas.Bool.Decides.{Decides-eqb}
 use Rattle.acl_text.specs.declared.rights.Right.{Right}
 use Rattle.std.proofs.lemmas.Result.{on_ok_weaker}
 use Rattle.cat_model.specs.Values.{holder_cmp}
-use Rattle.cat_model.proofs.Holders.{holder_cmp_total}
+use Rattle.cat_model.specs.HolderLaws.{holder_cmp_total}
 use Rattle.cat_values.specs.Holders.{order, AreHoldings}
 use Rattle.cat_values.specs.Seen.{holder_seen, item_seen}
 use Rattle.cat_values.proofs.FirstValues.{pushed}

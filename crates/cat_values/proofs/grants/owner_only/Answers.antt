@@ -2,8 +2,9 @@ use Rattle.std.proofs.Common.{[], ◌∷◌, option_map, ap}
 use Rattle.std.specs.BTreeMap.{is_at}
 use Rattle.std.specs.Map.{lookup}
 use Rattle.cat_model.specs.Grants.{without_option, no_rights}
-use Rattle.cat_model.specs.Values.{OWNER, holder_cmp}
-use Rattle.cat_model.proofs.Holders.{holder_cmp_total}
+use Rattle.cat_model.specs.declared.holder.Holder.TheVariants.{Owner as OWNER}
+use Rattle.cat_model.specs.Values.{holder_cmp}
+use Rattle.cat_model.specs.HolderLaws.{holder_cmp_total}
 use Rattle.cat_values.specs.declared.grants.Holder.TheVariants as holder
 use Rattle.cat_values.specs.Seen.{holder_seen, item_seen}
 use Rattle.cat_values.proofs.FirstValues.{pushed}

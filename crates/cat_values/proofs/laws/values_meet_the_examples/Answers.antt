@@ -9,9 +9,11 @@ use Rattle.copy_text.specs.Escapes.{decode_behind, escape}
 use Rattle.copy_text.specs.Reading.{row_of, fields_of, field_of}
 use Rattle.copy_text.specs.Lines.{lines}
 use Rattle.cat_model.specs.Grants.{type_rights, without_option}
-use Rattle.cat_model.specs.Values as value
-use Rattle.cat_model.specs.Values.{Bytes, bytes_cmp, Value, Grants, OWNER, PUBLIC}
-use Rattle.cat_model.proofs.Holders.{holder_cmp_total}
+use Rattle.cat_model.specs.declared.value.Value.TheVariants as value
+use Rattle.cat_model.specs.declared.value.Value.{Value}
+use Rattle.cat_model.specs.declared.holder.Holder.TheVariants.{Owner as OWNER, Public as PUBLIC}
+use Rattle.cat_model.specs.Values.{Bytes, bytes_cmp, Grants}
+use Rattle.cat_model.specs.HolderLaws.{holder_cmp_total}
 use Rattle.cat_names.specs.Grants.{grants_of}
 use Rattle.cat_values.specs.declared.value.Domain.{Domain}
 use Rattle.cat_values.specs.Examples.{least, most, with_checks}
@@ -27,10 +29,10 @@ returns-clause-domains c = record {
 }
   where
     same_domain : (d : Domain) (m n : BTreeMap Bytes Bytes) → checks_seen m ≡ checks_seen n → with_checks d m ≡ with_checks d n
-    same_domain d m n e = ap (λ (g : FinMap bytes_cmp Bytes). value.domain (record (domain_seen d) { checks = g })) e
+    same_domain d m n e = ap (λ (g : FinMap bytes_cmp Bytes). value.Domain (record (domain_seen d) { checks = g })) e
 
     checks_of : Value → FinMap bytes_cmp Bytes
-    checks_of (value.domain d) = d.checks
+    checks_of (value.Domain d) = d.checks
     checks_of _ = from_entries []
 
 pub returns-clause-types : goal.returns-clause-types

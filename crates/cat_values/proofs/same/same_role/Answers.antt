@@ -2,7 +2,7 @@ use Rattle.std.proofs.Common.{Bool, List, true≢false, sym, ap, ◌∙◌, w64,
 use Rattle.std.specs.Bool.{beq}
 use Rattle.std.specs.Cmp.Lexicographic.{pointwise}
 use Rattle.std.proofs.lemmas.Int.{to_z-of_z}
-use Rattle.cat_model.specs.Values as value
+use Rattle.cat_model.specs.declared.value.Role.{Role as TheRole}
 use Rattle.cat_values.specs.Seen.{role_flags}
 use Rattle.cat_values.proofs.Attributes.{same_attributes}
 use Rattle.cat_values.proofs.same.same_role.Goals as goal
@@ -19,7 +19,7 @@ returns-then-same_text_or_none c =
             let limit = sym (to_z-of_z w64 a.rolconnlimit (search rules)) ∙ v.same_number.ensures.0 (sym v.value-is ∙ w.if-same_number.true) ∙ to_z-of_z w64 b.rolconnlimit (search rules) in
             let password = w.same_text_or_none.ensures.0 (sym w.value-is ∙ c.if-same_text_or_none.true) in (
               λ yes. same_attributes a b flags limit password (c.same_text_or_none-then-same_text_or_none.ensures.0 yes),
-              λ same. c.same_text_or_none-then-same_text_or_none.ensures.1 (ap (λ (r : value.Role). r.valid_until) same),
+              λ same. c.same_text_or_none-then-same_text_or_none.ensures.1 (ap (λ (r : TheRole). r.valid_until) same),
             )
         | else-eq v ↦ absurd (true≢false (sym w.if-same_number.true ∙ v.value-is ∙ v.if-eq.false))
       ]
