@@ -11,7 +11,7 @@ use std::alloc::{AllocError, Global};
 
 /// What a token says. A literal with escapes and a line that begins with a backslash say nothing.
 #[derive(Drop)]
-pub(crate) enum Lexeme {
+pub enum Lexeme {
     /// A bare word, with A to Z made small.
     Word(Vec<u8>),
     /// What a quoted name spells.
@@ -26,9 +26,9 @@ pub(crate) enum Lexeme {
     Other,
 }
 
-/// The lexemes of a text, and none where it has no tokens.
+/// The lexemes of a text, and none where it has no tokens. The error says that there was no memory.
 #[tactic(auto, unfolding(cat_model::specs::Lexemes::lexemes))]
-pub(crate) fn lexemes(alloc: Global, text: &[u8]) -> Result<Vec<Lexeme>, AllocError>
+pub fn lexemes(alloc: Global, text: &[u8]) -> Result<Vec<Lexeme>, AllocError>
     ensures { IfOk result (λ v. map said v.items ≡ lexemes text.now) }
 {
     match tokens(alloc, text) {
@@ -101,7 +101,8 @@ fn literal(text: Option<Vec<u8>>) -> Lexeme
 }
 
 impl Lexeme {
-    pub(crate) fn is_sign(&self, b: u8) -> bool
+    /// Whether it is this sign.
+    pub fn is_sign(&self, b: u8) -> bool
         ensures { result ≡ is_sign b (said self.now) }
     {
         match self {
@@ -110,7 +111,8 @@ impl Lexeme {
         }
     }
 
-    pub(crate) fn is_word(&self, w: &[u8]) -> bool
+    /// Whether it is this bare word, which is given with A to Z made small.
+    pub fn is_word(&self, w: &[u8]) -> bool
         ensures { result ≡ is_word w.now (said self.now) }
     {
         match self {
@@ -120,7 +122,7 @@ impl Lexeme {
     }
 
     /// The name that it spells.
-    pub(crate) fn name(&self) -> Option<&[u8]>
+    pub fn name(&self) -> Option<&[u8]>
         ensures { option_copied result ≡ name_in (said self.now) }
     {
         match self {

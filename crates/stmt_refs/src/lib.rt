@@ -11,4 +11,5 @@ mod view;
 
 pub use columns::plain_columns;
 pub use expression::expr_refs;
+pub use lexeme::{Lexeme, lexemes};
 pub use view::view_refs;

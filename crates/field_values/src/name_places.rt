@@ -1,0 +1,72 @@
+//! Names by their places in a list.
+ghost use Rattle.std.specs.Prelude.{◌≡◌, ◌++◌, ◌∷◌, [], ℕ, List, map, length, IfOk, OnOk};
+ghost use Rattle.std.specs.List.{position_from};
+ghost use Rattle.cat_model.specs.Lexemes.{same_text};
+ghost use Rattle.field_values.specs.Places.{ArePlaces};
+
+use std::alloc::{AllocError, Global};
+use std::collections::HashMap;
+use std::marker::Model;
+
+/// A list of names in which each is found by a look-up. A contract sees the list.
+#[derive(Drop)]
+pub struct NamePlaces<'a> {
+    names: Vec<&'a [u8]>,
+    first: HashMap<&'a [u8], usize>,
+}
+
+impl<'a> Model for NamePlaces<'a> {
+    ghost use Rattle.std.specs.Prelude.{List, ℕ, map};
+    ghost use Rattle.field_values.specs.Places.{ArePlaces};
+
+    ghost Value = { List (List ℕ) };
+
+    ghost view = { λ p. map (λ name. name.now) p.names.items };
+
+    ghost invariant = { λ p. ArePlaces (map (λ name. name.now) p.names.items) p.first };
+}
+
+impl<'a> NamePlaces<'a> {
+    /// The list of these names, of which some may be equal. The error says that there was no memory.
+    pub fn new(alloc: Global, names: Vec<&'a [u8]>) -> Result<NamePlaces<'a>, AllocError>
+        ensures { IfOk result (λ places. places ≡ map (λ name. name.now) names.entry.items) }
+    {
+        let first = first_places(alloc, &names)?;
+        Ok(NamePlaces { names, first })
+    }
+
+    /// The place at which a name stands first.
+    pub fn place(&self, name: &[u8]) -> Option<usize>
+        ensures { result ≡ position_from (same_text name.now) 0 self.now }
+    {
+        self.first.get(name).copied()
+    }
+}
+
+fn first_places<'a>(
+    alloc: Global,
+    names: &[&'a [u8]],
+) -> Result<HashMap<&'a [u8], usize>, AllocError>
+    ensures { IfOk result (ArePlaces (map (λ name. name.now) names.now)) }
+{
+    let mut first = HashMap::new(alloc);
+    for i in 0..names.len() {
+        add_place(&mut first, names[i], i)?;
+    }
+    Ok(first)
+}
+
+// Adds the name at this place, where it doesn't stand before.
+fn add_place<'a>(
+    first: &mut HashMap<&'a [u8], usize>,
+    name: &'a [u8],
+    place: usize,
+) -> Result<(), AllocError>
+    ensures { OnOk result ((names : List (List ℕ)) → ArePlaces names first.old → place ≡ length names → ArePlaces (names ++ name.now ∷ []) first.new) }
+{
+    if first.contains_key(name) {
+        return Ok(());
+    }
+    first.insert(name, place)?;
+    Ok(())
+}
