@@ -138,13 +138,13 @@ fn key_rows(alloc: Global, rows: &[ConstraintRow]) -> Result<KeyRows<'_>, AllocE
 }
 
 impl<'a> Naming<'a> {
-    /// The catalogue of this book, with what else its rows are found by. The only error is want of memory.
-    pub fn of(alloc: Global, book: Book<'a>) -> Result<Naming<'a>, AllocError>
-        ensures { IfOk result (λ naming. naming ≡ book.now) }
+    /// This catalogue, with what its rows are found by. The only error is want of memory.
+    pub fn of(alloc: Global, cat: &'a Catalogue) -> Result<Naming<'a>, AllocError>
+        ensures { IfOk result (λ naming. naming ≡ cat.now) }
     {
-        let cat = book.tables();
         let places = places_of(alloc, cat)?;
         let keys = key_rows(alloc, cat.pg_constraint.as_slice())?;
+        let book = Book::of(alloc, cat)?;
         let ends = TypeEnds::of(alloc, &book)?;
         Ok(Naming {
             cat,

@@ -122,7 +122,7 @@ fn compare_with(
     requires second { values_fault b.now b_rows.now ≡ None }
     ensures { IfOk result (λ verdict. IsVerdict (catalogue_named a.now (rows_by_oid a_rows.now)) (catalogue_named b.now (rows_by_oid b_rows.now)) verdict) }
 {
-    let b = Naming::of(alloc, b.book(alloc)?)?;
+    let b = Naming::of(alloc, b.rows())?;
     compare_namings(alloc, a, a_rows, &b, b_rows)
 }
 
@@ -140,6 +140,6 @@ pub fn same(
     requires second { values_fault b.now b_rows.now ≡ None }
     ensures { IfOk result (λ verdict. IsVerdict (catalogue_named a.now (rows_by_oid a_rows.now)) (catalogue_named b.now (rows_by_oid b_rows.now)) verdict) }
 {
-    let a = Naming::of(alloc, a.book(alloc)?)?;
+    let a = Naming::of(alloc, a.rows())?;
     compare_with(alloc, &a, a_rows, b, b_rows)
 }
