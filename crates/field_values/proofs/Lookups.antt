@@ -90,3 +90,13 @@ new_name names name q h =
     not_there names name q (same_text name q) (none_of (position_from (same_text name) 0 names) h) refl
     ∙ ap (λ (b : Bool). first_of (position_from (same_text q) 0 names) (cond b (Some (0 + length names)) None)) (same_symm name q)
     ∙ sym (behind (same_text q) 0 names name)
+
+any_place : (p : List ℕ → Bool) (n : ℕ) (names : List (List ℕ)) → is_some (position_from p n names) ≡ list_any p names
+any_place p n [] = refl
+any_place p n (x ∷ xs) =
+    elim (p x) as (λ b. is_some (cond b (Some n) (position_from p (n + 1) xs)) ≡ (b || list_any p xs))
+    [ true ↦ refl | false ↦ any_place p (n + 1) xs ]
+
+-- a name has a place exactly where it stands in the list
+pub is_somewhere : (name : List ℕ) (names : List (List ℕ)) → is_some (position_from (same_text name) 0 names) ≡ list_any (same_text name) names
+is_somewhere name names = any_place (same_text name) 0 names

@@ -1,9 +1,10 @@
 //! Names by their places in a list.
 ghost use Rattle.std.specs.Prelude.{◌≡◌, ◌++◌, ◌∷◌, [], ℕ, List, map, length, IfOk, OnOk};
-ghost use Rattle.std.specs.List.{position_from};
+ghost use Rattle.std.specs.List.{position_from, list_any};
 ghost use Rattle.cat_model.specs.Lexemes.{same_text};
 ghost use Rattle.field_values.specs.Places.{ArePlaces};
 
+use copy_text::Name;
 use std::alloc::{AllocError, Global};
 use std::collections::HashMap;
 use std::marker::Model;
@@ -35,12 +36,37 @@ impl<'a> NamePlaces<'a> {
         Ok(NamePlaces { names, first })
     }
 
+    /// The list of these names. The error says that there was no memory.
+    pub fn of_names(alloc: Global, names: &'a [Name]) -> Result<NamePlaces<'a>, AllocError>
+        ensures { IfOk result (λ places. places ≡ names.now) }
+    {
+        let bytes = name_bytes(alloc, names)?;
+        Ok(NamePlaces::new(alloc, bytes)?)
+    }
+
+    /// Whether a name stands in the list.
+    pub fn has(&self, name: &[u8]) -> bool
+        ensures { result ≡ list_any (same_text name.now) self.now }
+    {
+        self.place(name).is_some()
+    }
+
     /// The place at which a name stands first.
     pub fn place(&self, name: &[u8]) -> Option<usize>
         ensures { result ≡ position_from (same_text name.now) 0 self.now }
     {
         self.first.get(name).copied()
     }
+}
+
+fn name_bytes<'a>(alloc: Global, names: &'a [Name]) -> Result<Vec<&'a [u8]>, AllocError>
+    ensures { IfOk result (λ bytes. map (λ name. name.now) bytes.items ≡ names.now) }
+{
+    let mut bytes = Vec::with_capacity(alloc, names.len())?;
+    for name in names {
+        bytes.push(name.as_bytes())?;
+    }
+    Ok(bytes)
 }
 
 fn first_places<'a>(

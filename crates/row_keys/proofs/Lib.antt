@@ -1,0 +1,3 @@
+pub mod ByPlaces
+pub mod KnownKeys
+pub mod Rows

@@ -1,0 +1,13 @@
+-- The key is new, so it stands at its own number.
+use Rattle.std.proofs.Common.{◌≡◌, cond, nat_eq, Some, None, sym, ◌∙◌}
+use Rattle.std.specs.Cmp.Lexicographic.{pointwise}
+use Rattle.cat_model.specs.Tables.{place_of}
+use Rattle.row_keys.proofs.KnownKeys.{one_more}
+use Rattle.row_keys.proofs.seen.add_key.Goals as goal
+
+pub returns-clause-known : goal.returns-clause-known
+returns-clause-known c = λ before known number q.
+    let new : place_of 1 (Some c.args.key) before ≡ None = sym (known c.args.key) ∙ sym c.in_default.ensures.value in
+    c.in_ok-insert.ensures.updates.0 q
+    ∙ (λ i. cond (pointwise (pointwise nat_eq) c.args.key q) (Some (number i)) (known q i))
+    ∙ sym (one_more before c.args.key q new)

@@ -1,0 +1,3 @@
+pub mod ByPlaces
+pub mod Known
+pub mod Nulls
