@@ -1,0 +1,9 @@
+pub mod Arcs
+pub mod Counting
+pub mod Examples
+pub mod Filling
+pub mod Leading
+pub mod Reaching
+pub mod Searching
+pub mod Starts
+pub mod Telling

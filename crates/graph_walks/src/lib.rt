@@ -1,0 +1,11 @@
+//! Walks through graphs whose objects are numbered places.
+#![tactic(auto)]
+
+mod arcs;
+mod components;
+mod filling;
+pub mod laws;
+
+pub use arcs::Arcs;
+pub use components::mark_components;
+pub use filling::fill_order;
