@@ -1,0 +1,34 @@
+//! Why a statement isn't carried out.
+ghost use Rattle.std.specs.Prelude.{◌≡◌};
+ghost use Rattle.cat_engine.specs.declared.refusal.ApplyError.TheVariants as error;
+
+use cat_model::{Cause, Key};
+use std::alloc::{AllocError, AllocFailed};
+
+/// Why a statement isn't carried out.
+#[derive(Debug, Drop)]
+pub enum ApplyError {
+    /// It is refused.
+    Refused(Cause),
+    /// Memory ran out.
+    Memory,
+}
+
+impl From<AllocError> for ApplyError {
+    ghost from_gives = { λ _ e. e ≡ error.Memory };
+
+    fn from(_e: AllocError) -> ApplyError {
+        ApplyError::Memory
+    }
+}
+
+impl<T: Drop> From<AllocFailed<T>> for ApplyError {
+    ghost from_gives = { λ _ e. e ≡ error.Memory };
+
+    fn from(_e: AllocFailed<T>) -> ApplyError {
+        ApplyError::Memory
+    }
+}
+
+/// Lets a key go. Its drop is a call, so that it isn't written out where keys of all kinds end.
+pub(crate) fn let_go_key(_key: Key) {}
