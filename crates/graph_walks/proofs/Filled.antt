@@ -1,7 +1,7 @@
 -- Places that are placed one by one from the end are placed as the order has it.
-use Rattle.std.proofs.Common.{◌≡◌, ◌≢◌, ℕ, zero, suc, ◌+◌, ◌<◌, ◌≤◌, Bool, true, false, cond, List, [], ◌∷◌, ◌++◌, length, get_or, Option, Some, None, inl, inr, refl, sym, ap, subst, ◌∙◌, arith}
+use Rattle.std.proofs.Common.{◌≡◌, ◌≢◌, ℕ, zero, suc, ◌+◌, ◌<◌, ◌≤◌, Bool, true, false, List, [], ◌∷◌, ◌++◌, length, get_or, Option, Some, None, inl, inr, refl, sym, ap, subst, ◌∙◌, arith}
 use Rattle.std.specs.Prelude.{◌&&◌, ◌||◌, nat_eq, not, reverse}
-use Rattle.std.specs.List.{All, AllByRecursion, filter, find, list_any, range_with_len}
+use Rattle.std.specs.List.{All, AllByRecursion, filter, list_any, range_with_len}
 use Rattle.std.specs.List.Sorted.{IsPermutation}
 use Rattle.std.specs.BinaryHeap.{IsHeap, IsUpperBound}
 use Rattle.std.specs.Ordering.{nat_cmp, is_lt}
@@ -15,7 +15,7 @@ use Rattle.graph_walks.specs.Counting.{one_if, ending, waiting, times, AreFree, 
 use Rattle.graph_walks.specs.Filling.{is_free, last_free, without, filled, order_of}
 use Rattle.graph_walks.proofs.Ascending.{Ascends, ascends_kept}
 use Rattle.graph_walks.proofs.Counted.{one_same, one_other, times_pushed}
-use Rattle.graph_walks.proofs.Tests.{either, both, and_true, or_left, or_right, not_true, in_left, in_right, holds_in, each_in, each_arc, holds_of_arc, in_kept, from_kept, is_in-append, in_range, from_range, range_ascends, any_from, some_of, found_in, find_last, find_last_none}
+use Rattle.graph_walks.proofs.Tests.{either, both, or_left, or_right, not_true, in_right, holds_in, each_in, each_arc, holds_of_arc, in_kept, from_kept, is_in-append, in_range, from_range, range_ascends, any_from, some_of, found_in, find_last, find_last_none}
 
 -- the places that aren't placed yet
 abbrev pub rest : ℕ → List ℕ → List ℕ

@@ -1,14 +1,13 @@
 -- A path of groups as a search goes on: a group behind it, groups that are joined, a group that is closed.
-use Rattle.std.proofs.Common.{◌≡◌, ◌≢◌, ℕ, zero, suc, ◌+◌, ◌*◌, ◌-◌, ◌<◌, ◌≤◌, Bool, true, false, cond, List, [], ◌∷◌, ◌++◌, length, map, get_or, set, Option, Some, None, inl, inr, refl, sym, ap, subst, ◌∙◌, arith}
+use Rattle.std.proofs.Common.{◌≡◌, ℕ, Bool, true, false, List, [], ◌∷◌, ◌++◌, map, inl, inr, refl, sym, subst, ◌∙◌}
 use Rattle.std.specs.Prelude.{◌&&◌, ◌||◌, ◌⊎◌, nat_eq}
-use Rattle.std.specs.List.{All, AllByRecursion, filter}
-use Rattle.std.proofs.lemmas.Bool.{false≢true, cases_Bool, cases_lt, cases_eq, eqb-true, eq-eqb, ne_eqb}
-use Rattle.std.proofs.lemmas.List.{append_assoc, length-append}
+use Rattle.std.specs.List.{AllByRecursion}
+use Rattle.std.proofs.lemmas.Bool.{false≢true, cases_Bool, eqb-true, eq-eqb}
 use Rattle.graph_walks.specs.Arcs.{Arc, needs, arcs_from, is_in}
-use Rattle.graph_walks.specs.Leading.{IsClosed, Leads}
-use Rattle.graph_walks.specs.Searching.{Group, path_of, todo_of, begins_of, IsGroup, AreGroups}
+use Rattle.graph_walks.specs.Leading.{Leads}
+use Rattle.graph_walks.specs.Searching.{Group, path_of, IsGroup, AreGroups}
 use Rattle.graph_walks.proofs.Reached.{leads_self, leads_step, leads_on}
-use Rattle.graph_walks.proofs.Tests.{either, both, and_true, or_left, or_right, in_left, in_right, in_either, holds_in, each_in}
+use Rattle.graph_walks.proofs.Tests.{either, both, and_true, or_left, or_right, in_left, in_right, in_either, holds_in}
 
 -- ---- what is seen
 

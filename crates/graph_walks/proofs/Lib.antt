@@ -1,8 +1,14 @@
 mod Ascending
+mod Children
 mod Counted
+mod Downward
 mod Filled
 mod Found
 mod Grouped
+mod Levels
+mod Mates
+mod Offs
 mod Reached
 mod Standings
 mod Tests
+mod Walked

@@ -1,13 +1,13 @@
 -- What is found in rounds is all that a place leads to.
 use Rattle.std.proofs.Common.{◌≡◌, ℕ, zero, suc, ◌+◌, ◌<◌, ◌≤◌, Bool, true, false, cond, List, [], ◌∷◌, ◌++◌, length, map, inl, inr, refl, sym, ap, subst, ◌∙◌, arith}
-use Rattle.std.specs.Prelude.{◌&&◌, ◌||◌, ◌⊎◌, nat_eq, not}
-use Rattle.std.specs.List.{AllByRecursion, filter, list_any}
-use Rattle.std.proofs.lemmas.Bool.{false≢true, cases_Bool, eqb-true, eq-eqb, cond_both}
+use Rattle.std.specs.Prelude.{◌&&◌, nat_eq, not}
+use Rattle.std.specs.List.{AllByRecursion, filter}
+use Rattle.std.proofs.lemmas.Bool.{false≢true, cases_Bool, eq-eqb}
 use Rattle.std.proofs.lemmas.List.{append-nil}
 use Rattle.graph_walks.specs.Arcs.{Arc, needs, is_in}
 use Rattle.graph_walks.specs.Leading.{IsClosed, Leads}
 use Rattle.graph_walks.specs.Reaching.{needed_next, found_from, reaches}
-use Rattle.graph_walks.proofs.Tests.{either, both, and_true, or_left, or_right, not_true, one_test, in_left, in_right, holds_in, each_joined, holds_of_arc, each_arc}
+use Rattle.graph_walks.proofs.Tests.{both, or_left, not_true, one_test, in_left, in_right, holds_in, each_joined, holds_of_arc, each_arc}
 
 pub leads_self : (arcs : List Arc) (a : ℕ) → Leads arcs a a
 leads_self arcs a = record { into = λ set closed h. h }

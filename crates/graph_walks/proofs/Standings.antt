@@ -1,14 +1,14 @@
 -- A search that stands well goes on to stand well.
-use Rattle.std.proofs.Common.{◌≡◌, ◌≢◌, ℕ, zero, suc, ◌+◌, ◌*◌, ◌-◌, ◌<◌, ◌≤◌, Bool, true, false, cond, List, [], ◌∷◌, ◌++◌, length, map, get_or, set, take, drop, replicate, Option, Some, None, inl, inr, refl, sym, ap, subst, ◌∙◌, arith}
+use Rattle.std.proofs.Common.{◌≡◌, ◌≢◌, ℕ, zero, suc, ◌+◌, ◌*◌, ◌-◌, ◌<◌, ◌≤◌, Bool, true, false, List, [], ◌∷◌, ◌++◌, length, map, get_or, set, take, drop, replicate, Option, Some, None, inl, inr, refl, sym, ap, subst, ◌∙◌, arith}
 use Rattle.std.specs.Prelude.{◌&&◌, ◌||◌, ◌⊎◌, nat_eq, slice_get, option_map}
-use Rattle.std.specs.List.{All, AllByRecursion, filter}
+use Rattle.std.specs.List.{All}
 use Rattle.std.specs.Option.{IsSomeAnd}
-use Rattle.std.proofs.lemmas.Bool.{false≢true, cases_Bool, cases_lt, cases_eq, eqb-true, eq-eqb, ne_eqb}
+use Rattle.std.proofs.lemmas.Bool.{false≢true, cases_Bool, cases_lt, cases_eq, eqb-true, eq-eqb}
 use Rattle.std.proofs.lemmas.List.{append-nil, append_assoc, length-append, length_push, length-set, length-map, nil_from_length, same_from_push, take_at, drop_at, take_more, get_or_append_left, get_or-append_right, get_or_push, get_or-set_same, get_or-set_other}
-use Rattle.std.proofs.lemmas.List.Elements.{All-nil, All-push, All-append, All-map, All-cons, All-head, All-tail, All-take, recursion_from_All}
+use Rattle.std.proofs.lemmas.List.Elements.{All-nil, All-push, All-append, All-map, All-take, recursion_from_All}
 use Rattle.graph_walks.specs.Arcs.{Arc, needs, arcs_from, is_in, AreWithin}
 use Rattle.graph_walks.specs.Counting.{one_if}
-use Rattle.graph_walks.specs.Leading.{IsClosed, Leads}
+use Rattle.graph_walks.specs.Leading.{Leads}
 use Rattle.graph_walks.specs.Starts.{Net}
 use Rattle.graph_walks.specs.declared.components.Status.{Status}
 use Rattle.graph_walks.specs.declared.components.Status.TheVariants.{New, Open, Closed}

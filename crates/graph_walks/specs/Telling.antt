@@ -1,5 +1,5 @@
 -- The cycle that is told where some places need each other.
-use Rattle.std.specs.Prelude.{ℕ, zero, suc, Bool, ◌&&◌, not, nat_eq, List, [], ◌∷◌, filter, Option, find, if◌then◌else◌}
+use Rattle.std.specs.Prelude.{◌≡◌, ℕ, zero, suc, ◌⊎◌, Bool, true, false, ◌&&◌, not, nat_eq, List, [], ◌∷◌, ◌++◌, filter, Option, find, if◌then◌else◌, slice_index_or, slice_set}
 use Rattle.std.specs.List.{list_any, range_with_len}
 use Rattle.std.specs.Option.{option_map_or}
 use Rattle.graph_walks.specs.Arcs.{Arc, needs, is_in}
@@ -29,3 +29,9 @@ rest_of_path (suc rounds) count arcs start path last =
 -- from the lowest place on a cycle back to itself; empty where there is no cycle
 unfoldable pub told_cycle : ℕ → List Arc → List ℕ
 told_cycle count arcs = option_map_or (λ start. start ∷ rest_of_path count count arcs start (start ∷ []) start) (first_on_cycle count arcs) []
+
+-- a walk goes on to a place, unless it was visited
+abbrev pub Visits : ℕ → List Bool → List (ℕ × ℕ) → List Bool → List (ℕ × ℕ) → Type 0
+Visits place visited path visited' path' =
+    ((slice_index_or visited place false ≡ true) × (visited' ≡ visited) × (path' ≡ path))
+    ⊎ ((slice_index_or visited place false ≡ false) × (visited' ≡ slice_set visited place true) × (path' ≡ path ++ (place, 0) ∷ []))

@@ -5,7 +5,9 @@ mod arcs;
 mod components;
 mod filling;
 pub mod laws;
+mod telling;
 
 pub use arcs::Arcs;
 pub use components::mark_components;
 pub use filling::fill_order;
+pub use telling::tell_cycle;

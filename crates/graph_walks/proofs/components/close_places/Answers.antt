@@ -1,4 +1,3 @@
-use Rattle.std.proofs.Common.{ℕ, ◌<◌, List, length, get_or, subst, sym}
 use Rattle.graph_walks.proofs.Standings.{closed_more}
 use Rattle.graph_walks.proofs.components.close_places.Goals as goal
 

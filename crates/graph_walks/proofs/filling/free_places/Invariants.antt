@@ -1,8 +1,8 @@
-use Rattle.std.proofs.Common.{◌≡◌, ℕ, ◌+◌, ◌<◌, length, take, get_or}
-use Rattle.std.specs.Prelude.{All, nat_eq}
+use Rattle.std.proofs.Common.{◌<◌, take}
+use Rattle.std.specs.Prelude.{All}
 use Rattle.std.specs.BinaryHeap.{IsHeap, heap_items}
 use Rattle.std.specs.Ordering.{nat_cmp}
-use Rattle.graph_walks.specs.Counting.{times, one_if, AreFree}
+use Rattle.graph_walks.specs.Counting.{AreFree}
 use Rattle.graph_walks.proofs.filling.free_places.Given as goal
 
 abbrev pub invariant-loop-place : goal.invariant-loop-place

@@ -1,4 +1,4 @@
-use Rattle.std.proofs.Common.{◌≡◌, ℕ, ◌<◌, length, take}
+use Rattle.std.proofs.Common.{ℕ, ◌<◌, length, take}
 use Rattle.std.specs.Prelude.{All}
 use Rattle.std.specs.BinaryHeap.{IsHeap, heap_items}
 use Rattle.std.specs.Ordering.{nat_cmp}

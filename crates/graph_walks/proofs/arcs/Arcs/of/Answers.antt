@@ -1,4 +1,4 @@
-use Rattle.std.proofs.Common.{ℕ, ◌+◌, List, subst}
+use Rattle.std.proofs.Common.{◌+◌, List, subst}
 use Rattle.graph_walks.specs.Arcs.{Arc}
 use Rattle.graph_walks.specs.Starts.{AreStarts}
 use Rattle.graph_walks.proofs.Found.{are_found}

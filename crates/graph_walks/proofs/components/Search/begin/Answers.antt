@@ -1,7 +1,7 @@
-use Rattle.std.proofs.Common.{◌≡◌, ℕ, ◌<◌, List, length, sym, ◌∙◌, arith}
+use Rattle.std.proofs.Common.{◌≡◌, ℕ, ◌<◌, length, ◌∙◌, arith}
 use Rattle.std.proofs.lemmas.List.{get_or_default}
 use Rattle.graph_walks.specs.declared.components.Status.TheVariants.{New}
-use Rattle.graph_walks.specs.Searching.{Standing, standing, IsSearch, none_seen, status_of}
+use Rattle.graph_walks.specs.Searching.{Standing, standing, status_of}
 use Rattle.graph_walks.proofs.Standings.{begins_looking, closed_all, not_new}
 use Rattle.graph_walks.proofs.components.Search.begin.Goals as goal
 

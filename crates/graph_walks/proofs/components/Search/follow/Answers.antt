@@ -1,8 +1,7 @@
-use Rattle.std.proofs.Common.{◌≡◌, ℕ, ◌<◌, List, length, get_or, refl, sym, ap, subst, ◌∙◌, arith}
+use Rattle.std.proofs.Common.{◌≡◌, ℕ, ◌<◌, length, get_or, sym, ap, subst, ◌∙◌, arith}
 use Rattle.std.proofs.lemmas.List.{get_or_default}
-use Rattle.graph_walks.specs.declared.components.Status.{Status}
 use Rattle.graph_walks.specs.declared.components.Status.TheVariants.{New, Open, Closed}
-use Rattle.graph_walks.specs.Searching.{Standing, standing, IsSearch, none_seen, IsLooking, status_of, is_closed}
+use Rattle.graph_walks.specs.Searching.{Standing, standing, IsLooking, status_of, is_closed}
 use Rattle.graph_walks.proofs.Standings.{search_taken, taken_within, looked_at_closed}
 use Rattle.graph_walks.proofs.components.Search.follow.Goals as goal
 

@@ -1,8 +1,8 @@
-use Rattle.std.proofs.Common.{◌≡◌, ℕ, ◌+◌, ◌-◌, ◌<◌, ◌≤◌, ◌++◌, List, [], ◌∷◌, length, get_or, take, None, sym, ap, ◌∙◌, arith}
+use Rattle.std.proofs.Common.{◌≡◌, ℕ, ◌+◌, ◌-◌, ◌<◌, ◌≤◌, ◌++◌, List, [], ◌∷◌, length, take, None, sym, ap, ◌∙◌, arith}
 use Rattle.std.specs.Prelude.{slice_get}
 use Rattle.std.proofs.lemmas.List.{length_push}
 use Rattle.graph_walks.specs.declared.components.Search.{Search}
-use Rattle.graph_walks.specs.Searching.{Standing, standing, IsSearch, none_seen, IsLooking}
+use Rattle.graph_walks.specs.Searching.{standing}
 use Rattle.graph_walks.proofs.Standings.{search_joined, search_found, empty_path, last_apart, no_last}
 use Rattle.graph_walks.proofs.components.Search.join.Goals as goal
 

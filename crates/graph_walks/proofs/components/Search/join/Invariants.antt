@@ -1,4 +1,4 @@
-use Rattle.std.proofs.Common.{◌≡◌, ℕ, ◌<◌, ◌≤◌, length, get_or}
+use Rattle.std.proofs.Common.{◌≡◌, ◌<◌, ◌≤◌, length, get_or}
 use Rattle.graph_walks.specs.Starts.{Net}
 use Rattle.graph_walks.specs.Searching.{IsLooking, standing}
 use Rattle.graph_walks.proofs.components.Search.join.Given as goal

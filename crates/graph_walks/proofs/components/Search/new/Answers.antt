@@ -1,8 +1,6 @@
-use Rattle.std.proofs.Common.{ℕ, List, length, replicate, refl, sym, ap, ◌∙◌}
+use Rattle.std.proofs.Common.{ℕ, length, replicate, refl, sym, ap, ◌∙◌}
 use Rattle.std.proofs.lemmas.List.{length-replicate}
-use Rattle.graph_walks.specs.declared.components.Status.{Status}
 use Rattle.graph_walks.specs.declared.components.Status.TheVariants.{New}
-use Rattle.graph_walks.specs.Searching.{standing}
 use Rattle.graph_walks.proofs.Standings.{search_starts}
 use Rattle.graph_walks.proofs.components.Search.new.Goals as goal
 

@@ -1,10 +1,9 @@
-use Rattle.std.proofs.Common.{◌≡◌, ℕ, ◌<◌, ◌++◌, List, [], ◌∷◌, length, map, set, refl, sym, ap, subst, ◌∙◌, arith}
+use Rattle.std.proofs.Common.{◌≡◌, ℕ, ◌<◌, ◌++◌, List, [], ◌∷◌, length, map, set, sym, ap, subst, ◌∙◌, arith}
 use Rattle.std.proofs.lemmas.Result.{on_ok_weaker}
 use Rattle.graph_walks.specs.Arcs.{Arc, arcs_from, AreWithin}
-use Rattle.graph_walks.specs.declared.components.Status.{Status}
 use Rattle.graph_walks.specs.declared.components.Status.TheVariants.{Open}
 use Rattle.graph_walks.specs.Searching.{Standing, standing, IsSearch, none_seen, work}
-use Rattle.graph_walks.proofs.Standings.{ends_of, opened_with, search_opened, opened_less}
+use Rattle.graph_walks.proofs.Standings.{ends_of, search_opened, opened_less}
 use Rattle.graph_walks.proofs.components.Search.open.Goals as goal
 
 pub returns-clause-stands : goal.returns-clause-stands
