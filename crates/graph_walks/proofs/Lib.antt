@@ -8,6 +8,8 @@ mod Grouped
 mod Levels
 mod Mates
 mod Offs
+mod Orders
+mod Permuted
 mod Reached
 mod Standings
 mod Tests

@@ -417,3 +417,14 @@ child_low n arcs place tried within room =
 
 pub no_end : (n : ℕ) (arcs : List Arc) (start : ℕ) (visited : List Bool) (path : List (ℕ × ℕ)) → IsWalk n arcs start visited path → path ≡ [] → ⊥
 no_end n arcs start visited path walk empty = subst (λ (l : List (ℕ × ℕ)). AreWalked arcs start (test_of visited) (reverse l)) empty walk.walked
+
+pub round_is : (front rest path : List ℕ) (start : ℕ) → path ≡ front ++ start ∷ [] → path ≡ start ∷ rest → get_or path 0 0 ≡ get_or path (length path - 1) 0
+round_is front rest path start end begin =
+    let long : length path ≡ length front + 1 = ap length end ∙ length_push front start in
+    let at : length front ≡ length path - 1 = omega arith in
+    let last : get_or (front ++ start ∷ []) (length path - 1) 0 ≡ start = get_or_push front start 0 (length path - 1) at in
+    ap (λ (l : List ℕ). get_or l 0 0) begin ∙ sym last ∙ ap (λ (l : List ℕ). get_or l (length path - 1) 0) (sym end)
+
+pub told_begins : (n : ℕ) (arcs : List Arc) (start : ℕ) → first_on_cycle n arcs ≡ Some start → told_cycle n arcs ≡ start ∷ rest_of_path n n arcs start (start ∷ []) start
+unfolding told_cycle
+told_begins n arcs start is = rw is refl

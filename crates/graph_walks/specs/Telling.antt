@@ -1,5 +1,5 @@
 -- The cycle that is told where some places need each other.
-use Rattle.std.specs.Prelude.{◌≡◌, ℕ, zero, suc, ◌⊎◌, Bool, true, false, ◌&&◌, not, nat_eq, List, [], ◌∷◌, ◌++◌, filter, Option, find, if◌then◌else◌, slice_index_or, slice_set}
+use Rattle.std.specs.Prelude.{◌≡◌, ℕ, ◌-◌, zero, suc, ◌⊎◌, Bool, true, false, ◌&&◌, not, nat_eq, List, [], ◌∷◌, ◌++◌, filter, Option, find, if◌then◌else◌, length, slice_index, slice_index_or, slice_set}
 use Rattle.std.specs.List.{list_any, range_with_len}
 use Rattle.std.specs.Option.{option_map_or}
 use Rattle.graph_walks.specs.Arcs.{Arc, needs, is_in}
@@ -35,3 +35,7 @@ abbrev pub Visits : ℕ → List Bool → List (ℕ × ℕ) → List Bool → Li
 Visits place visited path visited' path' =
     ((slice_index_or visited place false ≡ true) × (visited' ≡ visited) × (path' ≡ path))
     ⊎ ((slice_index_or visited place false ≡ false) × (visited' ≡ slice_set visited place true) × (path' ≡ path ++ (place, 0) ∷ []))
+
+-- a path that ends where it begins
+abbrev pub IsRound : List ℕ → Type 0
+IsRound path = slice_index path 0 ≡ slice_index path (length path - 1)

@@ -1,6 +1,7 @@
 //! Arcs, found by the places at which they begin.
 ghost use Rattle.std.specs.Prelude.{◌≡◌, ℕ, ◌+◌, ◌^◌, ◌<◌, ◌≤◌, length, IfOk};
 ghost use Rattle.std.specs.List.Sorted.{IsPermutation};
+ghost use Rattle.graph_walks.specs.Alike.{AreAlike};
 ghost use Rattle.graph_walks.specs.Arcs.{arcs_from, AreWithin};
 ghost use Rattle.graph_walks.specs.Starts.{IsStart, AreStarts, IsRising};
 
@@ -38,6 +39,7 @@ impl Arcs {
         requires within { AreWithin count arcs.items }
         ensures count { IfOk result (λ net. net.count ≡ count) }
         ensures arcs { IfOk result (λ net. IsPermutation arcs.items net.arcs) }
+        ensures alike { IfOk result (λ net. AreAlike count arcs.items net.arcs) }
     {
         arcs.sort()?;
         let starts = starts_of(alloc, count, &arcs)?;

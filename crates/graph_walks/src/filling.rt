@@ -14,7 +14,8 @@ use std::collections::BinaryHeap;
 /// the highest one that no place needs which isn't placed yet. Where some places need each other, it ends before them, so
 /// that it is shorter. The only error is that memory ran out.
 pub fn fill_order(alloc: Global, arcs: &Arcs) -> Result<Vec<usize>, AllocError>
-    ensures { IfOk result (λ order. order.items ≡ order_of arcs.now.count arcs.now.arcs) }
+    ensures value { IfOk result (λ order. order.items ≡ order_of arcs.now.count arcs.now.arcs) }
+    ensures within { IfOk result (λ order. All (λ place. place < arcs.now.count) order.items) }
 {
     let mut counts = count_ends(alloc, arcs)?;
     let mut free = free_places(alloc, &counts)?;

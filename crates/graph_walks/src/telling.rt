@@ -1,9 +1,9 @@
 //! The cycle that is told where places need each other.
-ghost use Rattle.std.specs.Prelude.{◌≡◌, ℕ, ◌<◌, ◌&&◌, ◌++◌, ◌∷◌, [], List, Some, true, nat_eq, length, map, IfOk, OnOk, OnSome, ◌+◌, ◌^◌, slice_index, slice_get, option_map};
+ghost use Rattle.std.specs.Prelude.{◌≡◌, ℕ, ◌<◌, ◌&&◌, ◌++◌, ◌∷◌, [], List, Some, true, nat_eq, length, All, map, IfOk, OnOk, OnSome, ◌+◌, ◌^◌, slice_index, slice_get, option_map};
 ghost use Rattle.std.specs.List.{list_any};
 ghost use Rattle.graph_walks.specs.Arcs.{AreWithin, arcs_from};
 ghost use Rattle.graph_walks.specs.Reaching.{reaches};
-ghost use Rattle.graph_walks.specs.Telling.{first_on_cycle, told_cycle, Visits};
+ghost use Rattle.graph_walks.specs.Telling.{first_on_cycle, told_cycle, Visits, IsRound};
 
 use crate::arcs::Arcs;
 use crate::components::mark_components;
@@ -13,7 +13,9 @@ use std::alloc::{AllocError, Global};
 /// the lowest place that the one before needs and from which it can come back to the start by places that it hasn't come to.
 /// Empty where there is no cycle. The only error is that memory ran out.
 pub fn tell_cycle(alloc: Global, arcs: &Arcs) -> Result<Vec<usize>, AllocError>
-    ensures { IfOk result (λ path. path.items ≡ told_cycle arcs.now.count arcs.now.arcs) }
+    ensures value { IfOk result (λ path. path.items ≡ told_cycle arcs.now.count arcs.now.arcs) }
+    ensures back { IfOk result (λ path. IsRound path.items) }
+    ensures within { IfOk result (λ path. All (λ place. place < arcs.now.count) path.items) }
 {
     let marks = mark_components(alloc, arcs)?;
     let Some(start) = start_of(arcs, &marks) else {
@@ -53,7 +55,8 @@ fn has_mate(arcs: &[(usize, usize)], marks: &[usize]) -> bool
 // but to places that were tried as well.
 fn walk_back(alloc: Global, arcs: &Arcs, start: usize) -> Result<Vec<usize>, AllocError>
     requires { first_on_cycle arcs.now.count arcs.now.arcs ≡ Some start }
-    ensures { IfOk result (λ path. path.items ≡ told_cycle arcs.now.count arcs.now.arcs) }
+    ensures value { IfOk result (λ path. path.items ≡ told_cycle arcs.now.count arcs.now.arcs) }
+    ensures back { IfOk result (λ path. IsRound path.items) }
 {
     let mut visited = vec![in alloc; false; arcs.count()]?;
     let mut path = Vec::new(alloc);

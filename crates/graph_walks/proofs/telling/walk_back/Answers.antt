@@ -3,9 +3,9 @@ use Rattle.std.specs.Vec.{with_items}
 use Rattle.std.proofs.lemmas.List.{nil_from_length, with_items_is}
 use Rattle.std.proofs.lemmas.Result.{IfOk-weaker}
 use Rattle.graph_walks.specs.Arcs.{Arc, AreWithin}
-use Rattle.graph_walks.specs.Telling.{Visits, told_cycle}
+use Rattle.graph_walks.specs.Telling.{Visits, IsRound, told_cycle}
 use Rattle.graph_walks.proofs.Children.{child}
-use Rattle.graph_walks.proofs.Walked.{IsWalk, IsLastStep, last_step, start_low, walk_starts, walk_back', walk_on, walk_told, work_back, work_on, walk_work, needed_some, needed_none, child_low, no_end}
+use Rattle.graph_walks.proofs.Walked.{round_is, told_begins, IsWalk, IsLastStep, last_step, start_low, walk_starts, walk_back', walk_on, walk_told, work_back, work_on, walk_work, needed_some, needed_none, child_low, no_end}
 use Rattle.graph_walks.proofs.telling.walk_back.Goals as goal
 
 pub index_mut-requires : goal.index_mut-requires
@@ -45,9 +45,12 @@ returns-then-next-start c =
     let next = needed_some arcs c.in-Some.step.0 c.in-Some.step.1 c.in-Some-needed.next (sym c.needed.ensures.value ∙ c.in-Some-needed.is) in
     let told = walk_told n arcs c.args.start c.loop-step.visited.items c.pop.new.self.items c.in-Some.step.0 c.in-Some.step.1 within c.count.ensures.rising c.requires last next.0 (next.1 ∙ c.if-next-start.true) in
     let path : c.deref.result.now ≡ c.pop.new.self.items ++ (c.in-Some.step.0, c.in-Some.step.1 + 1) ∷ [] = c.deref.ensures.value ∙ c.in_ok-push-2.ensures.items in
-    IfOk-weaker c.cycle_of.result (λ (v : Vec ℕ Global). v.items ≡ map (λ (step : ℕ × ℕ). step.0) c.deref.result.now ++ c.args.start ∷ []) (λ (v : Vec ℕ Global). v.items ≡ told_cycle n arcs)
-    (λ v is. is ∙ ap (λ (l : List (ℕ × ℕ)). map (λ (step : ℕ × ℕ). step.0) l ++ c.args.start ∷ []) path ∙ told)
-    c.cycle_of.ensures
+    let cycle : (v : Vec ℕ Global) → v.items ≡ map (λ (step : ℕ × ℕ). step.0) c.deref.result.now ++ c.args.start ∷ [] → v.items ≡ told_cycle n arcs = λ v is. is ∙ ap (λ (l : List (ℕ × ℕ)). map (λ (step : ℕ × ℕ). step.0) l ++ c.args.start ∷ []) path ∙ told in
+    record {
+      value = IfOk-weaker c.cycle_of.result (λ (v : Vec ℕ Global). v.items ≡ map (λ (step : ℕ × ℕ). step.0) c.deref.result.now ++ c.args.start ∷ []) (λ (v : Vec ℕ Global). v.items ≡ told_cycle n arcs) cycle c.cycle_of.ensures;
+      back = IfOk-weaker c.cycle_of.result (λ (v : Vec ℕ Global). v.items ≡ map (λ (step : ℕ × ℕ). step.0) c.deref.result.now ++ c.args.start ∷ []) (λ (v : Vec ℕ Global). IsRound v.items)
+          (λ v is. round_is (map (λ (step : ℕ × ℕ). step.0) c.deref.result.now) _ v.items c.args.start is (cycle v is ∙ told_begins n arcs c.args.start c.requires)) c.cycle_of.ensures;
+    }
 
 pub visit-requires : goal.visit-requires
 visit-requires c =
