@@ -1,0 +1,12 @@
+pub mod Ids
+pub mod Chosen
+pub mod Objects
+pub mod Links
+pub mod TypeLinks
+pub mod RelationLinks
+pub mod ConstraintLinks
+pub mod DependLinks
+pub mod BoundaryLinks
+pub mod Graphs
+pub mod Due
+pub mod Closed

@@ -1,0 +1,10 @@
+//! Which objects of a catalogue a dump chooses, and what depends on what.
+#![tactic(auto)]
+
+mod key_of;
+mod link;
+mod select;
+
+pub use key_of::KeyOf;
+pub use link::Link;
+pub use select::{ObjectsError, Select, SelectFault};
