@@ -1,5 +1,5 @@
 -- Two or three lexemes, or more than five, are no type whose values are looked at.
-use Rattle.std.proofs.Common.{◌≡◌, ℕ, ◌<◌, ◌≤◌, List, [], ◌∷◌, map, length, refl, arith}
+use Rattle.std.proofs.Common.{◌≡◌, ◌<◌, ◌≤◌, List, [], ◌∷◌, map, length, refl, arith}
 use Rattle.cat_model.specs.FieldTypes.{type_of_lexemes}
 use Rattle.stmt_refs.specs.declared.lexeme.Lexeme.{Lexeme}
 use Rattle.stmt_refs.specs.Said.{said}

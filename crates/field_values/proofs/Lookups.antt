@@ -1,10 +1,10 @@
 -- A set and a map of names behind one more: what they know is what the list with the name behind it has.
-use Rattle.std.proofs.Common.{◌≡◌, ℕ, ◌+◌, Bool, true, false, cond, ◌||◌, nat_eq, List, [], ◌∷◌, ◌++◌, length, Option, Some, None, refl, ap, sym, ◌∙◌, arith}
+use Rattle.std.proofs.Common.{◌≡◌, ℕ, ◌+◌, Bool, true, false, cond, ◌||◌, List, [], ◌∷◌, ◌++◌, length, Option, Some, None, refl, ap, sym, ◌∙◌, arith}
 use Rattle.std.proofs.lemmas.Bool.{true≢false}
 use Rattle.std.specs.Option.{is_some}
 use Rattle.std.specs.List.{list_any, position_from}
 use Rattle.std.specs.Cmp.{unsigned_Decides}
-use Rattle.std.specs.Cmp.Lexicographic.{pointwise, pointwise_decides, nat_list_eq_equiv}
+use Rattle.std.specs.Cmp.Lexicographic.{pointwise_decides, nat_list_eq_equiv}
 use Rattle.cat_model.specs.Lexemes.{same_text}
 
 same_symm : (a b : List ℕ) → same_text a b ≡ same_text b a

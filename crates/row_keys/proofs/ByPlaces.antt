@@ -1,13 +1,13 @@
 -- Keys by places are keys by names, and a key goes on field by field.
-use Rattle.std.proofs.Common.{◌≡◌, ℕ, ◌+◌, ◌<◌, Bool, true, false, cond, List, [], ◌∷◌, ◌++◌, length, map, drop, get_or, Option, Some, None, refl, ap, sym, ◌∙◌, arith, append_assoc, append-nil, add-one, drop-cons}
+use Rattle.std.proofs.Common.{◌≡◌, ℕ, ◌+◌, ◌<◌, Bool, true, false, cond, List, [], ◌∷◌, ◌++◌, length, map, drop, get_or, Option, Some, None, refl, ap, sym, ◌∙◌, append_assoc, add-one, drop-cons}
 use Rattle.std.specs.Option.{option_map}
-use Rattle.std.specs.List.{position_from, slice_get}
+use Rattle.std.specs.List.{position_from}
 use Rattle.cat_model.specs.declared.value.Column.{Column}
 use Rattle.cat_model.specs.Values.{Bytes, Row}
 use Rattle.cat_model.specs.Lexemes.{same_text}
 use Rattle.cat_model.specs.FieldTypes.{comparable}
 use Rattle.cat_model.specs.Tables.{onto, compared_field, key_on}
-use Rattle.row_keys.specs.ByPlaces.{place_in, compared_by, field_at, key_at}
+use Rattle.row_keys.specs.ByPlaces.{place_in, field_at, key_at}
 
 -- ---- field by field
 

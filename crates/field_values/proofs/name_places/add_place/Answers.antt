@@ -1,5 +1,5 @@
 -- A name that is known stays at its place, and a new one stands behind the others.
-use Rattle.std.proofs.Common.{◌≡◌, ℕ, cond, List, Option, Some, None, ap, sym, ◌∙◌, true, false}
+use Rattle.std.proofs.Common.{◌≡◌, ℕ, cond, List, Some, ap, sym, ◌∙◌, true, false}
 use Rattle.std.specs.Borrow.{Bor}
 use Rattle.std.specs.Option.{is_some}
 use Rattle.std.specs.List.{position_from}

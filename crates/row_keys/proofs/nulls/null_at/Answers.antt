@@ -1,5 +1,5 @@
 -- The field is null in a marked column, or the next is to be tried.
-use Rattle.std.proofs.Common.{◌≡◌, ◌+◌, ◌<◌, ◌≤◌, min, Bool, false, cond, Some, length, drop, get_or, ap, sym, ◌∙◌, arith}
+use Rattle.std.proofs.Common.{◌+◌, ◌<◌, ◌≤◌, min, Bool, false, cond, Some, length, drop, get_or, ap, sym, ◌∙◌, arith}
 use Rattle.std.proofs.lemmas.List.{get_or_default}
 use Rattle.row_keys.specs.Nulls.{null_at}
 use Rattle.row_keys.proofs.Rows.{one_field, no_more}

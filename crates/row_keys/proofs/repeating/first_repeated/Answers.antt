@@ -1,5 +1,5 @@
 -- The row has the key of an earlier one, or its key is new.
-use Rattle.std.proofs.Common.{◌≡◌, ℕ, ◌+◌, ◌<◌, List, [], ◌∷◌, ◌++◌, Option, Some, None, length, map, take, drop, ap, sym, ◌∙◌, arith}
+use Rattle.std.proofs.Common.{◌≡◌, ◌+◌, ◌<◌, List, [], ◌∷◌, ◌++◌, Option, Some, None, length, map, take, drop, ap, sym, ◌∙◌, arith}
 use Rattle.cat_model.specs.Values.{Bytes}
 use Rattle.cat_model.specs.Tables.{pair_or, repeated_after, place_of}
 use Rattle.row_keys.specs.ByPlaces.{key_at}

@@ -1,5 +1,5 @@
 -- A key with a null in it is nowhere, and changes nothing.
-use Rattle.std.proofs.Common.{ℕ, List, Option, Some, None, [], ◌∷◌, ◌++◌, ap, sym, ◌∙◌}
+use Rattle.std.proofs.Common.{ℕ, List, Option, Some, [], ◌∷◌, ◌++◌, ap, sym, ◌∙◌}
 use Rattle.cat_model.specs.Tables.{place_of}
 use Rattle.row_keys.proofs.KnownKeys.{null_nowhere, null_more}
 use Rattle.row_keys.proofs.seen.add.Goals as goal

@@ -1,7 +1,7 @@
 -- The fields are hashed through references, which feeds the same.
-use Rattle.std.proofs.Common.{◌≡◌, ℕ, List, ◌++◌, length, map, ap, sym, ◌∙◌, Bor}
+use Rattle.std.proofs.Common.{◌≡◌, ℕ, List, ◌++◌, map, ap, sym, ◌∙◌, Bor}
 use Rattle.std.specs.Hash as fed
-use Rattle.std.specs.List.{fold, flat_map}
+use Rattle.std.specs.List.{fold}
 use Rattle.std.proofs.lemmas.List.{length-map}
 use Rattle.std.proofs.lemmas.List.Folds.{flat_map-map}
 use Rattle.row_keys.proofs.row_key.RowKeyHash.hash.Goals as goal
