@@ -1,0 +1,4 @@
+pub mod Cut
+pub mod Examples
+pub mod FirstOrder
+pub mod Ordering

@@ -1,0 +1,9 @@
+//! The order of a dump's objects.
+#![tactic(auto)]
+
+mod cut_graph;
+pub mod laws;
+mod places;
+
+pub use cut_graph::{final_places, loop_places};
+pub use places::{first_places, id_places};
