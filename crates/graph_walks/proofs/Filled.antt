@@ -83,7 +83,7 @@ kept_short p (x ∷ xs) =
     let more : length (filter p xs) ≤ length xs = kept_short p xs in
     elim (cases_Bool (p x)) [ inl is ↦ rw is (omega arith) | inr isnt ↦ rw isnt (omega arith) ]
 
-without_shorter : (x : ℕ) (xs : List ℕ) → is_in x xs ≡ true → length (without x xs) < length xs
+pub without_shorter : (x : ℕ) (xs : List ℕ) → is_in x xs ≡ true → length (without x xs) < length xs
 unfolding without
 without_shorter x [] h = absurd (false≢true h)
 without_shorter x (y ∷ xs) h =

@@ -14,3 +14,4 @@ mod Reached
 mod Standings
 mod Tests
 mod Walked
+mod Whole

@@ -1,6 +1,6 @@
 -- In an order that is filled from its end each place stands behind those that it needs, none stands twice, and none of a
 -- cycle stands in it.
-use Rattle.std.proofs.Common.{◌≡◌, ◌≢◌, ℕ, zero, suc, ◌+◌, ◌<◌, ◌≤◌, Bool, true, false, List, [], ◌∷◌, ◌++◌, length, get_or, Option, Some, None, inl, inr, refl, sym, ap, subst, ◌∙◌, arith}
+use Rattle.std.proofs.Common.{◌≡◌, ◌≢◌, ℕ, zero, suc, ◌+◌, ◌<◌, Bool, true, false, List, [], ◌∷◌, ◌++◌, length, get_or, Option, Some, None, inl, inr, refl, sym, ap, subst, ◌∙◌, arith}
 use Rattle.std.specs.Prelude.{◌&&◌, ◌||◌, nat_eq, not, reverse}
 use Rattle.std.specs.List.{All, AllByRecursion, IsDistinct, list_any, range_with_len}
 use Rattle.std.proofs.lemmas.Bool.{false≢true, cases_Bool, cases_lt, eqb-true, eq-eqb}
@@ -14,11 +14,11 @@ use Rattle.graph_walks.specs.Reaching.{reaches, on_cycle}
 use Rattle.graph_walks.specs.Telling.{first_on_cycle, next_on_path, rest_of_path, told_cycle}
 use Rattle.graph_walks.proofs.Reached.{leads_self, leads_step, leads_on, reaches_leads, leads_reaches}
 use Rattle.graph_walks.proofs.Standings.{in_at}
-use Rattle.graph_walks.proofs.Tests.{either, both, and_true, or_left, or_right, not_true, in_left, in_right, in_either, in_kept, from_kept, in_range, from_range, any_from, some_of, found_in, each_in, holds_of_arc}
+use Rattle.graph_walks.proofs.Tests.{either, both, and_true, or_left, or_right, not_true, in_either, in_kept, from_kept, in_range, from_range, any_from, some_of, found_in, each_in, holds_of_arc}
 
 -- ---- the last place
 
-last_parts : (arcs : List Arc) (left : List ℕ) (x : ℕ) → last_free arcs left ≡ Some x → (is_in x left ≡ true) × (is_free arcs left x ≡ true)
+pub last_parts : (arcs : List Arc) (left : List ℕ) (x : ℕ) → last_free arcs left ≡ Some x → (is_in x left ≡ true) × (is_free arcs left x ≡ true)
 unfolding last_free
 last_parts arcs left x is =
     let parts = found_in (is_free arcs left) (reverse left) x is in
@@ -43,7 +43,7 @@ from_without x y left h =
     let parts = from_kept (λ other. not (nat_eq other x)) y left h in
     (parts.0, λ same. false≢true (sym (ap not (eq-eqb y x same)) ∙ parts.1))
 
-in_without : (x y : ℕ) (left : List ℕ) → is_in y left ≡ true → y ≢ x → is_in y (without x left) ≡ true
+pub in_without : (x y : ℕ) (left : List ℕ) → is_in y left ≡ true → y ≢ x → is_in y (without x left) ≡ true
 unfolding without
 in_without x y left h other =
     in_kept (λ o. not (nat_eq o x)) y left h (elim (cases_Bool (nat_eq y x)) [ inl is ↦ absurd (other (eqb-true y x is)) | inr isnt ↦ rw isnt refl ])

@@ -1,5 +1,5 @@
 -- Nothing that is said of places depends on the order in which their arcs stand.
-use Rattle.std.proofs.Common.{◌≡◌, ℕ, zero, suc, Bool, true, false, List, [], ◌∷◌, ◌++◌, Option, Some, None, inl, inr, refl, sym, ap, ◌∙◌}
+use Rattle.std.proofs.Common.{◌≡◌, ℕ, zero, suc, List, [], ◌∷◌, ◌++◌, Option, Some, None, inl, inr, refl, sym, ap, ◌∙◌}
 use Rattle.std.specs.Prelude.{◌&&◌, nat_eq, not, reverse}
 use Rattle.std.specs.List.{find, list_any, range_with_len}
 use Rattle.std.specs.List.Sorted.{IsPermutation}

@@ -21,12 +21,14 @@ pub fn reached_is_led_to()
     ensures all { (arcs : List Arc) (a b : ℕ) → Leads arcs a b → reaches arcs a b ≡ true }
 {}
 
-/// In an order each place stands behind those that it needs, none stands twice, and none of a cycle stands in it.
+/// In an order each place stands behind those that it needs, and none stands twice. None of a cycle stands in it, and where
+/// there is no cycle all places do.
 pub fn orders_keep_needs()
     ensures behind { (count : ℕ) (arcs : List Arc) (i j : ℕ) → i < length (order_of count arcs) → j < length (order_of count arcs) → needs arcs (slice_index (order_of count arcs) i) (slice_index (order_of count arcs) j) ≡ true → j < i }
     ensures distinct { (count : ℕ) (arcs : List Arc) → IsDistinct nat_eq (order_of count arcs) }
     ensures among { (count : ℕ) (arcs : List Arc) (place : ℕ) → is_in place (order_of count arcs) ≡ true → place < count }
     ensures no_cycle { (count : ℕ) (arcs : List Arc) (a b : ℕ) → AreWithin count arcs → needs arcs a b ≡ true → on_cycle arcs (a, b) ≡ true → is_in b (order_of count arcs) ≡ false }
+    ensures whole { (count : ℕ) (arcs : List Arc) → AreWithin count arcs → ((a b : ℕ) → needs arcs a b ≡ true → on_cycle arcs (a, b) ≡ false) → (place : ℕ) → place < count → is_in place (order_of count arcs) ≡ true }
 {}
 
 /// Each step of a cycle that is told is an arc.
