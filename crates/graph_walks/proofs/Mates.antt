@@ -18,7 +18,7 @@ AreAlike n arcs marks = (a b : ℕ) → a < n → b < n → nat_eq (get_or marks
 abbrev is_mate : List ℕ → Arc → Bool
 is_mate marks arc = nat_eq (get_or marks arc.0 0) (get_or marks arc.1 0)
 
-mate : (n : ℕ) (arcs : List Arc) (marks : List ℕ) → AreWithin n arcs → AreAlike n arcs marks → (a b : ℕ) → needs arcs a b ≡ true → on_cycle arcs (a, b) ≡ nat_eq (get_or marks a 0) (get_or marks b 0)
+pub mate : (n : ℕ) (arcs : List Arc) (marks : List ℕ) → AreWithin n arcs → AreAlike n arcs marks → (a b : ℕ) → needs arcs a b ≡ true → on_cycle arcs (a, b) ≡ nat_eq (get_or marks a 0) (get_or marks b 0)
 unfolding on_cycle
 mate n arcs marks within alike a b need =
     let low = holds_of_arc (λ x y. (x < n) × (y < n)) arcs (recursion_from_All (λ arc. (arc.0 < n) × (arc.1 < n)) arcs within) a b need in

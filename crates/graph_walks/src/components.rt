@@ -5,7 +5,7 @@
 ghost use Rattle.std.specs.Prelude.{◌≡◌, ℕ, ◌+◌, ◌-◌, ◌<◌, ◌≤◌, ◌&&◌, ◌++◌, true, false, nat_eq, List, length, All, IfOk, OnOk, slice_index, slice_get, map, option_map, drop};
 ghost use Rattle.std.specs.Option.{IsSomeAnd};
 ghost use Rattle.graph_walks.specs.Arcs.{needs, arcs_from, is_in};
-ghost use Rattle.graph_walks.specs.Reaching.{reaches};
+ghost use Rattle.graph_walks.specs.Reaching.{reaches, on_cycle};
 ghost use Rattle.graph_walks.specs.Starts.{Net};
 ghost use Rattle.graph_walks.specs.Searching.{IsSearch, IsLooking, standing, none_seen, status_of, shut, is_new, last_todo, work, AreClosed};
 
@@ -40,6 +40,7 @@ struct Search {
 pub fn mark_components(alloc: Global, arcs: &Arcs) -> Result<Vec<usize>, AllocError>
     ensures count { IfOk result (λ marks. length marks.items ≡ arcs.now.count) }
     ensures alike { IfOk result (λ marks. (a b : ℕ) → a < arcs.now.count → b < arcs.now.count → nat_eq (slice_index marks.items a) (slice_index marks.items b) ≡ (reaches arcs.now.arcs a b && reaches arcs.now.arcs b a)) }
+    ensures mates { IfOk result (λ marks. (a b : ℕ) → needs arcs.now.arcs a b ≡ true → nat_eq (slice_index marks.items a) (slice_index marks.items b) ≡ on_cycle arcs.now.arcs (a, b)) }
     ensures falling { IfOk result (λ marks. (a b : ℕ) → needs arcs.now.arcs a b ≡ true → slice_index marks.items b ≤ slice_index marks.items a) }
 {
     let mut search = Search::new(alloc, arcs.count())?;
