@@ -3,8 +3,10 @@
 
 mod key_of;
 mod link;
+mod patterns_hit;
 mod select;
 
 pub use key_of::KeyOf;
 pub use link::Link;
+pub use patterns_hit::select_fault;
 pub use select::{ObjectsError, Select, SelectFault};
