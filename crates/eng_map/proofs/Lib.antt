@@ -1,3 +1,4 @@
+pub mod Backwards
 pub mod Listing
 pub mod Picking
 pub mod Scans

@@ -3,6 +3,7 @@
 #![tactic(auto)]
 
 mod classes;
+mod entries;
 mod groups;
 mod let_go;
 mod named_map;

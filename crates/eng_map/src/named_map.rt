@@ -1,18 +1,23 @@
 //! The catalogue by names as a map.
 ghost use Rattle.std.specs.Prelude.{◌≡◌, ◌+◌, ◌<◌, ◌≤◌, map, IfOk, OnOk, OnErr, vec_len};
 ghost use Rattle.std.specs.FinMap.{empty, entries, get, from_entries};
+ghost use Rattle.std.specs.List.{IsDistinct};
+ghost use Rattle.std.specs.Map.{keys_of};
 ghost use Rattle.std.specs.Map.Iter.{deref_pair};
 ghost use Rattle.std.specs.Option.{option_copied};
 ghost use Rattle.indexmap.specs.IndexMap.{spare};
 ghost use Rattle.cat_model.specs.declared.key.Key.{Key as TheKey};
 ghost use Rattle.cat_model.specs.declared.value.Value.{Value as TheValue};
+ghost use Rattle.cat_model.specs.Keys.{key_eq};
 ghost use Rattle.cat_model.specs.Trees.{changed, changed_at, class_of};
 
+use crate::entries::backwards;
 use crate::groups::{Groups, add_keys, class_group};
 use crate::let_go::{let_go, let_go_key};
 use crate::picks::picked;
 use cat_model::{Class, Key, Value};
 use indexmap::IndexMap;
+use indexmap::map::Iter;
 use std::alloc::{AllocError, Global};
 use std::collections::BTreeMap;
 use std::marker::Model;
@@ -85,6 +90,16 @@ impl NamedMap {
         }
     }
 
+    /// The map of these entries, of which the first of a key counts. The error is that memory ran out.
+    pub fn of(alloc: Global, entries: Vec<(Key, Value)>) -> Result<NamedMap, AllocError>
+        ensures { IfOk result (λ named. named ≡ from_entries entries.items) }
+    {
+        let changes = backwards(alloc, entries)?;
+        let mut named = NamedMap::new(alloc);
+        named.commit(changes)?;
+        Ok(named)
+    }
+
     /// The value of a key.
     pub fn get(&self, key: &Key) -> Option<&Value>
         ensures { option_copied result ≡ get self.now key.now }
@@ -101,6 +116,14 @@ impl NamedMap {
         add_keys(self.alloc, &mut self.groups, &changes)?;
         put_all(&mut self.values, changes);
         Ok(())
+    }
+
+    /// All keys that have a value, with these, in no order that a contract speaks of. No key stands twice.
+    pub fn iter(&self) -> Iter<'_, Key, Value>
+        ensures seen { from_entries result ≡ self.now }
+        ensures distinct { IsDistinct key_eq (keys_of result) }
+    {
+        self.values.iter()
     }
 
     /// The keys of a class with their values, in the order of keys. It goes over the keys that stand together alone,
