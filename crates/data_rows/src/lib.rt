@@ -10,8 +10,10 @@ mod check;
 mod fault;
 pub mod laws;
 mod lines;
+mod reading;
 mod same;
 
 pub use check::check_rows;
 pub use fault::{CheckRowsError, DataFault, RowsFault};
+pub use reading::read_rows;
 pub use same::same_rows;
