@@ -1,9 +1,10 @@
 //! The ends of chains of domains, and the labels of enums.
-ghost use Rattle.std.specs.Prelude.{◌≡◌, ◌↔◌, IsTrue};
+ghost use Rattle.std.specs.Prelude.{◌≡◌, ◌↔◌, IsTrue, IfOk};
 ghost use Rattle.type_ends.specs.Enums.{labels_seen};
 
-use cat_model::TypeName;
+use cat_model::{Items, TypeName};
 use copy_text::Text;
+use std::alloc::{AllocError, Global};
 use std::marker::Model;
 
 /// The labels of an enum, in the order of their positions. A contract sees the list of their bytes.
@@ -30,12 +31,30 @@ impl<'a> Labels<'a> {
         Labels { labels }
     }
 
+    /// The labels once more, as a list of texts. The error is that memory ran out.
+    pub fn to_items(&self, alloc: Global) -> Result<Items<Text>, AllocError>
+        ensures { IfOk result (λ labels. labels ≡ self.now) }
+    {
+        Ok(Items::new(copied(alloc, &self.labels)?))
+    }
+
     /// Whether the same labels stand in the same order.
     pub fn is_same(&self, other: &Labels<'_>) -> bool
         ensures { IsTrue result ↔ (self.now ≡ other.now) }
     {
         are_same(&self.labels, &other.labels)
     }
+}
+
+// The same texts once more.
+fn copied(alloc: Global, labels: &[&Text]) -> Result<Vec<Text>, AllocError>
+    ensures { IfOk result (λ texts. texts.items ≡ labels_seen labels.now) }
+{
+    let mut texts = Vec::new(alloc);
+    for label in labels {
+        texts.push((*label).clone()?)?;
+    }
+    Ok(texts)
 }
 
 // Whether these texts are the same in the same order.
