@@ -15,5 +15,6 @@ mod same;
 
 pub use check::check_rows;
 pub use fault::{CheckRowsError, DataFault, RowsFault};
+pub use lines::{read_line, split_line};
 pub use reading::read_rows;
 pub use same::same_rows;

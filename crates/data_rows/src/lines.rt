@@ -7,8 +7,8 @@ ghost use Rattle.copy_text.specs.Lines.{data_lines};
 use copy_text::{CopyFault, Line, ReadRowError, Row, next_line, read_row};
 use std::alloc::{AllocError, Global};
 
-/// The first line of a text that holds a row, and the text behind it.
-pub(crate) fn split_line(text: &[u8]) -> Option<(&[u8], &[u8])>
+/// The first line of a text that holds a row, without its newline, and the text behind it; `None` where no line is left.
+pub fn split_line(text: &[u8]) -> Option<(&[u8], &[u8])>
     ensures none { IfNone result (data_lines text.now ≡ []) }
     ensures some { IfSome result (λ x. data_lines text.now ≡ x.0.now ∷ data_lines x.1.now) }
     ensures one_line { IfSome result (λ x. All (λ b. b ≢ newline) x.0.now) }
@@ -20,8 +20,8 @@ pub(crate) fn split_line(text: &[u8]) -> Option<(&[u8], &[u8])>
     }
 }
 
-/// What a line reads as: its row, or the first fault of its COPY text.
-pub(crate) fn read_line(alloc: Global, line: &[u8]) -> Result<Result<Row, CopyFault>, AllocError>
+/// What a line reads as: its row, or the first fault of its COPY text. The error says that there was no memory.
+pub fn read_line(alloc: Global, line: &[u8]) -> Result<Result<Row, CopyFault>, AllocError>
     requires one_line { All (λ b. b ≢ newline) line.now }
     ensures { IfOk result (λ read. read ≡ row_of line.now) }
 {

@@ -1,0 +1,5 @@
+pub mod InOrder
+pub mod Reading
+pub mod KeyLaws
+pub mod Distinct
+pub mod Placing

@@ -1,0 +1,4 @@
+pub mod Causes
+pub mod KeyCauses
+pub mod Orders
+pub mod Plans
