@@ -2,8 +2,8 @@
 -- they refuse with a cause. Want of memory says nothing.
 use Rattle.std.specs.Prelude.{◌≡◌, Result, Ok, Err}
 use Rattle.cat_model.specs.declared.cause.Cause.{Cause}
-use Rattle.cat_engine.specs.declared.refusal.ApplyError.{ApplyError}
-use Rattle.cat_engine.specs.declared.refusal.ApplyError.TheVariants.{Refused, Memory}
+use Rattle.eng_steps.specs.declared.refusal.ApplyError.{ApplyError}
+use Rattle.eng_steps.specs.declared.refusal.ApplyError.TheVariants.{Refused, Memory}
 
 abbrev pub IsRefusal : {A : Type 0} → ApplyError → Result A Cause → Type 0
 IsRefusal (Refused cause) due = due ≡ Err cause

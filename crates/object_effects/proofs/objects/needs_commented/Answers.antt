@@ -1,8 +1,8 @@
 use Rattle.std.proofs.Common.{subst, sym}
 use Rattle.cat_model.specs.ObjectEffects.{needs_commented}
 use Rattle.cat_model.specs.Trees.{outcome, seen}
-use Rattle.cat_engine.specs.Outcomes.{Steps}
-use Rattle.cat_engine.proofs.objects.needs_commented.Goals as goal
+use Rattle.eng_steps.specs.Outcomes.{Steps}
+use Rattle.object_effects.proofs.objects.needs_commented.Goals as goal
 
 pub returns-in-Column : goal.returns-in-Column
 returns-in-Column c next =

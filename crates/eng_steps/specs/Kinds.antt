@@ -2,8 +2,8 @@
 use Rattle.std.specs.Prelude.{Bool, ◌||◌}
 use Rattle.cat_model.specs.declared.value.Value.{Value}
 use Rattle.cat_model.specs.Conditions.{is_enum, is_domain, is_type, is_table, is_view, is_table_or_view, is_sequence, is_index}
-use Rattle.cat_engine.specs.declared.condition.ObjectKind.{ObjectKind}
-use Rattle.cat_engine.specs.declared.condition.ObjectKind.TheVariants.{Enum, Domain, EnumOrDomain, Table, View, TableOrView, Owned, Sequence, Index}
+use Rattle.eng_steps.specs.declared.condition.ObjectKind.{ObjectKind}
+use Rattle.eng_steps.specs.declared.condition.ObjectKind.TheVariants.{Enum, Domain, EnumOrDomain, Table, View, TableOrView, Owned, Sequence, Index}
 
 abbrev pub is_of : ObjectKind → Value → Bool
 is_of Enum = is_enum

@@ -10,14 +10,12 @@ ghost use Rattle.cat_model.specs.RoleEffects.{new_role, create_role, or_as_befor
 ghost use Rattle.cat_model.specs.Trees.{Tree, Seen, sets, outcome, seen};
 ghost use Rattle.cat_model.specs.declared.value.Value.TheVariants as value;
 ghost use Rattle.cat_model.specs.Values.{Bytes};
-ghost use Rattle.cat_engine.specs.Outcomes.{Steps};
+ghost use Rattle.eng_steps.specs.Outcomes.{Steps};
 
-use crate::changes::{one, set_owner};
-use crate::condition::{free, needs, needs_role};
-use crate::refusal::ApplyError;
 use cat_model::{Cause, Encoding, Key, Membership, Object, Role, RoleChanges, Value};
 use copy_text::{Name, Text};
 use eng_map::{Change, NamedMap};
+use eng_steps::{ApplyError, free, needs, needs_role, one, set_owner};
 use std::alloc::{AllocError, Global};
 
 // It inherits, and has nothing else.

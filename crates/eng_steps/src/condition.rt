@@ -1,21 +1,25 @@
 //! The conditions of statements. Each looks at one key, and goes on or refuses.
-ghost use Rattle.std.specs.Prelude.{◌≡◌, Ok, List};
-ghost use Rattle.cat_model.specs.Conditions.{needs, free, needs_kind, needs_table, needs_role, column_in};
-ghost use Rattle.cat_model.specs.Tables.{column_there};
+ghost use Rattle.std.specs.Prelude.{◌≡◌, Ok, ◌++◌, List, IfErr};
+ghost use Rattle.cat_model.specs.declared.key.Key.TheVariants as key;
+ghost use Rattle.cat_model.specs.Conditions.{needs, needs_each, free, needs_kind, needs_table, needs_domain, needs_sequence, needs_role, column_in, columns_in};
+ghost use Rattle.cat_model.specs.Tables.{column_there, columns_there, distinct};
 ghost use Rattle.cat_model.specs.declared.value.Value.TheVariants as value;
 ghost use Rattle.cat_model.specs.declared.value.Role.{Role as RoleValue};
+ghost use Rattle.cat_model.specs.References.{is_system};
+ghost use Rattle.cat_model.specs.declared.value.Domain.{Domain as DomainValue};
+ghost use Rattle.cat_model.specs.declared.value.Sequence.{Sequence as SequenceValue};
 ghost use Rattle.cat_model.specs.declared.value.Column.{Column as ColumnValue};
 ghost use Rattle.cat_model.specs.Trees.{Tree, Seen, outcome, seen};
-ghost use Rattle.cat_engine.specs.Kinds.{is_of};
-ghost use Rattle.cat_engine.specs.Outcomes.{Steps};
+ghost use Rattle.eng_steps.specs.Kinds.{is_of};
+ghost use Rattle.eng_steps.specs.Outcomes.{Steps};
 
 use crate::refusal::{ApplyError, let_go_key};
-use cat_model::{Cause, Column, Key, QName, Role, Value};
+use cat_model::{Cause, Column, Domain, Key, QName, Role, Sequence, Value};
 use copy_text::Name;
 use eng_map::NamedMap;
 
 /// The key is there, else `Absent`.
-pub(crate) fn needs(named: &NamedMap, key: Key) -> Result<(), ApplyError>
+pub fn needs(named: &NamedMap, key: Key) -> Result<(), ApplyError>
     ensures { (next : Tree) → Steps result (outcome (needs key next) (seen named.now)) (λ _. outcome next (seen named.now)) }
 {
     match named.get(&key) {
@@ -24,8 +28,19 @@ pub(crate) fn needs(named: &NamedMap, key: Key) -> Result<(), ApplyError>
     }
 }
 
+/// Each of the keys is there, else the first that isn't is `Absent`.
+pub fn needs_each(named: &NamedMap, keys: Vec<Key>) -> Result<(), ApplyError>
+    ensures { (next : Tree) → Steps result (outcome (needs_each keys.items next) (seen named.now)) (λ _. outcome next (seen named.now)) }
+{
+    let mut left = keys.into_iter();
+    'keys: while let Some(key) = left.next() {
+        needs(named, key)?;
+    }
+    Ok(())
+}
+
 /// The key isn't there, else `Exists`.
-pub(crate) fn free(named: &NamedMap, key: Key) -> Result<(), ApplyError>
+pub fn free(named: &NamedMap, key: Key) -> Result<(), ApplyError>
     ensures { (next : Tree) → Steps result (outcome (free key next) (seen named.now)) (λ _. outcome next (seen named.now)) }
 {
     match named.get(&key) {
@@ -36,7 +51,7 @@ pub(crate) fn free(named: &NamedMap, key: Key) -> Result<(), ApplyError>
 
 /// The kinds of objects that a statement may ask for.
 #[derive(Clone, Copy)]
-pub(crate) enum ObjectKind {
+pub enum ObjectKind {
     /// An enum.
     Enum,
     /// A domain.
@@ -74,7 +89,7 @@ fn is_of(kind: ObjectKind, value: &Value) -> bool
 }
 
 /// The key is there and its object is of this kind, else `Absent`.
-pub(crate) fn needs_kind(named: &NamedMap, kind: ObjectKind, key: Key) -> Result<(), ApplyError>
+pub fn needs_kind(named: &NamedMap, kind: ObjectKind, key: Key) -> Result<(), ApplyError>
     ensures { (next : Tree) → Steps result (outcome (needs_kind (is_of kind) key next) (seen named.now)) (λ _. outcome next (seen named.now)) }
 {
     match named.get(&key) {
@@ -84,7 +99,7 @@ pub(crate) fn needs_kind(named: &NamedMap, kind: ObjectKind, key: Key) -> Result
 }
 
 /// A table of this path is there, else `Absent`. Its columns are given.
-pub(crate) fn needs_table<'a>(named: &'a NamedMap, q: &QName) -> Result<&'a [Column], ApplyError>
+pub fn needs_table<'a>(named: &'a NamedMap, q: &QName) -> Result<&'a [Column], ApplyError>
     ensures { (next : List ColumnValue → Tree) → Steps result (outcome (needs_table q.now next) (seen named.now)) (λ columns. outcome (next columns.now) (seen named.now)) }
 {
     let key = Key::Rel(q.clone()?);
@@ -97,8 +112,36 @@ pub(crate) fn needs_table<'a>(named: &'a NamedMap, q: &QName) -> Result<&'a [Col
     }
 }
 
+/// A domain of this path is there, else `Absent`.
+pub fn needs_domain<'a>(named: &'a NamedMap, q: &QName) -> Result<&'a Domain, ApplyError>
+    ensures { (next : DomainValue → Tree) → Steps result (outcome (needs_domain q.now next) (seen named.now)) (λ d. outcome (next d.now) (seen named.now)) }
+{
+    let key = Key::UserType(q.clone()?);
+    match named.get(&key) {
+        Some(Value::Domain(domain)) => {
+            let_go_key(key);
+            Ok(domain)
+        }
+        _ => Err(ApplyError::Refused(Cause::Absent(key))),
+    }
+}
+
+/// A sequence of this path is there, else `Absent`.
+pub fn needs_sequence<'a>(named: &'a NamedMap, q: &QName) -> Result<&'a Sequence, ApplyError>
+    ensures { (next : SequenceValue → Tree) → Steps result (outcome (needs_sequence q.now next) (seen named.now)) (λ s. outcome (next s.now) (seen named.now)) }
+{
+    let key = Key::Rel(q.clone()?);
+    match named.get(&key) {
+        Some(Value::Sequence(sequence)) => {
+            let_go_key(key);
+            Ok(sequence)
+        }
+        _ => Err(ApplyError::Refused(Cause::Absent(key))),
+    }
+}
+
 /// A role of this name is there, else `Absent`.
-pub(crate) fn needs_role<'a>(named: &'a NamedMap, name: &Name) -> Result<&'a Role, ApplyError>
+pub fn needs_role<'a>(named: &'a NamedMap, name: &Name) -> Result<&'a Role, ApplyError>
     ensures { (next : RoleValue → Tree) → Steps result (outcome (needs_role name.now next) (seen named.now)) (λ r. outcome (next r.now) (seen named.now)) }
 {
     let key = Key::Role(name.clone()?);
@@ -112,18 +155,42 @@ pub(crate) fn needs_role<'a>(named: &'a NamedMap, name: &Name) -> Result<&'a Rol
 }
 
 /// Whether a table has a column of this name.
-pub(crate) fn column_there(columns: &[Column], name: &Name) -> bool
+pub fn column_there(columns: &[Column], name: &Name) -> bool
     ensures { result ≡ column_there columns.now name.now }
 {
     columns.iter().any(|column| name == &column.name)
 }
 
 /// The column is there, else `WrongColumns`.
-pub(crate) fn column_in(columns: &[Column], name: &Name) -> Result<(), ApplyError>
+pub fn column_in(columns: &[Column], name: &Name) -> Result<(), ApplyError>
     ensures { (next : Tree) (s : Seen) → Steps result (outcome (column_in columns.now name.now next) s) (λ _. outcome next s) }
 {
     if !column_there(columns, name) {
         return Err(ApplyError::Refused(Cause::WrongColumns));
     }
     Ok(())
+}
+
+/// The schema is there, else `Absent`, and no enum or domain has the path, else `Exists`.
+pub fn free_type(named: &NamedMap, q: &QName) -> Result<(), ApplyError>
+    ensures { (next : Tree) → Steps result (outcome (needs (key.Schema q.now.schema) (free (key.UserType q.now) next)) (seen named.now)) (λ _. outcome next (seen named.now)) }
+{
+    needs(named, Key::Schema(q.schema.clone()?))?;
+    free(named, Key::UserType(q.clone()?))
+}
+
+/// Whether a schema is one of the system's own.
+pub fn is_system(name: &Name) -> bool
+    ensures { result ≡ is_system name.now }
+{
+    let name = name.as_bytes();
+    name == b"pg_catalog".as_slice() || name == b"information_schema".as_slice()
+}
+
+/// The schema is there, else `Absent`, and no relation has the path, else `Exists`.
+pub fn free_relation(named: &NamedMap, q: &QName) -> Result<(), ApplyError>
+    ensures { (next : Tree) → Steps result (outcome (needs (key.Schema q.now.schema) (free (key.Rel q.now) next)) (seen named.now)) (λ _. outcome next (seen named.now)) }
+{
+    needs(named, Key::Schema(q.schema.clone()?))?;
+    free(named, Key::Rel(q.clone()?))
 }

@@ -1,6 +1,6 @@
 //! Why a statement isn't carried out.
 ghost use Rattle.std.specs.Prelude.{◌≡◌};
-ghost use Rattle.cat_engine.specs.declared.refusal.ApplyError.TheVariants as error;
+ghost use Rattle.eng_steps.specs.declared.refusal.ApplyError.TheVariants as error;
 
 use cat_model::{Cause, Key};
 use std::alloc::{AllocError, AllocFailed};
@@ -31,4 +31,4 @@ impl<T: Drop> From<AllocFailed<T>> for ApplyError {
 }
 
 /// Lets a key go. Its drop is a call, so that it isn't written out where keys of all kinds end.
-pub(crate) fn let_go_key(_key: Key) {}
+pub fn let_go_key(_key: Key) {}

@@ -11,27 +11,17 @@ ghost use Rattle.cat_model.specs.declared.cause.Cause.TheVariants as cause;
 ghost use Rattle.cat_model.specs.Conditions.{check, needs_table, column_in};
 ghost use Rattle.cat_model.specs.Trees.{Tree, Seen, outcome, seen};
 ghost use Rattle.cat_model.specs.declared.value.Value.TheVariants as value;
-ghost use Rattle.cat_engine.specs.Outcomes.{Steps};
-ghost use Rattle.cat_engine.specs.Rightful.{changing};
+ghost use Rattle.eng_steps.specs.Outcomes.{Steps};
+ghost use Rattle.object_effects.specs.Rightful.{changing};
 
-use crate::changes::{one, set_grants, set_owner, with_made};
-use crate::condition::{ObjectKind, column_in, free, needs, needs_kind, needs_table};
-use crate::refusal::{ApplyError, let_go_key};
 use cat_model::{
     Cause, Commented, Granted, Grantee, Grants, Holder, Key, Object, Owned, QName, Rights, Value,
 };
 use copy_text::{Name, Text};
 use eng_map::{Change, NamedMap};
+use eng_steps::{ApplyError, ObjectKind, column_in, free, is_system, let_go_key, needs, needs_kind, needs_table, one, set_grants, set_owner, with_made};
 use grant_changes::{SCHEMA_RIGHTS, granted, holder_of, joined, owner_only, revoked};
 use std::alloc::{AllocError, Global};
-
-/// Whether a schema is one of the system's own.
-pub(crate) fn is_system(name: &Name) -> bool
-    ensures { result ≡ is_system name.now }
-{
-    let name = name.as_bytes();
-    name == b"pg_catalog".as_slice() || name == b"information_schema".as_slice()
-}
 
 fn schema_changes(alloc: Global, boot: &Name, name: &Name) -> Result<Vec<Change>, AllocError>
     ensures { IfOk result (λ changes. changes.items ≡ (key.Schema name.now, Some value.Schema) ∷ made (object.Schema name.now) boot.now (owner_only schema_rights)) }

@@ -10,7 +10,7 @@ use eng_map::Change;
 use std::alloc::{AllocError, Global};
 
 /// A key gets a value.
-pub(crate) fn set(changes: &mut Vec<Change>, key: Key, value: Value) -> Result<(), AllocError>
+pub fn set(changes: &mut Vec<Change>, key: Key, value: Value) -> Result<(), AllocError>
     ensures { OnOk result (changes.new.items ≡ changes.old.items ++ (key, Some value) ∷ []) }
 {
     changes.push((key, Some(value)))?;
@@ -18,7 +18,7 @@ pub(crate) fn set(changes: &mut Vec<Change>, key: Key, value: Value) -> Result<(
 }
 
 /// One key gets a value, and nothing else is changed.
-pub(crate) fn one(alloc: Global, key: Key, value: Value) -> Result<Vec<Change>, AllocError>
+pub fn one(alloc: Global, key: Key, value: Value) -> Result<Vec<Change>, AllocError>
     ensures { IfOk result (λ changes. changes.items ≡ (key, Some value) ∷ []) }
 {
     let mut changes = Vec::new(alloc);
@@ -27,7 +27,7 @@ pub(crate) fn one(alloc: Global, key: Key, value: Value) -> Result<Vec<Change>, 
 }
 
 /// An object gets an owner.
-pub(crate) fn set_owner(
+pub fn set_owner(
     changes: &mut Vec<Change>,
     object: &Object,
     owner: &Name,
@@ -39,7 +39,7 @@ pub(crate) fn set_owner(
 }
 
 /// An object gets grants.
-pub(crate) fn set_grants(
+pub fn set_grants(
     changes: &mut Vec<Change>,
     object: &Object,
     grants: Grants,
@@ -50,7 +50,7 @@ pub(crate) fn set_grants(
 }
 
 /// These changes, and behind them what each new object gets: the boot role as its owner, and grants.
-pub(crate) fn with_made(
+pub fn with_made(
     mut changes: Vec<Change>,
     object: &Object,
     boot: &Name,

@@ -1,0 +1,13 @@
+-- The set has the names so far, behind which the others are as fresh as all are distinct.
+use Rattle.std.proofs.Common.{◌≡◌, take, drop, Bor}
+use Rattle.std.specs.BTreeSet.{contains}
+use Rattle.cat_model.specs.Tables.{distinct}
+use Rattle.cat_model.specs.Values.{Bytes, bytes_cmp}
+use Rattle.distinct_names.proofs.Distincts.{has_name, fresh_behind}
+use Rattle.distinct_names.proofs.distinct.are_distinct_texts.Given as goal
+
+abbrev pub invariant-loop-text : goal.invariant-loop-text
+invariant-loop-text l = record {
+  seen_are : (name : Bor Bytes) → contains (λ (a b : Bor Bytes). bytes_cmp a.now b.now) l.seen name ≡ has_name (take l.text-index l.texts) name.now;
+  left_is : distinct l.texts ≡ fresh_behind (take l.text-index l.texts) (drop l.text-index l.texts);
+}
