@@ -1,5 +1,5 @@
-//! Tests of what no case of `trials` can say: calls that fail in turn, real files, texts of faults, and calls that take
-//! values which no line spells. They stand on top of all crates, so that those are proved once.
+//! Tests of what no case of `trials` can say: calls that fail in turn, texts of faults, and calls that take values which no
+//! line spells. They stand on top of all crates but the tools, so that those are proved once; `tool_tests` has the tools.
 #![tactic(auto)]
 
 #[cfg(test)]
@@ -13,12 +13,8 @@ mod dump_ports_tests;
 #[cfg(test)]
 mod dump_schemas_tests;
 #[cfg(test)]
-mod dump_tools_tests;
-#[cfg(test)]
 mod fmt_text_tests;
 #[cfg(test)]
 mod folder_io_tests;
-#[cfg(test)]
-mod os_ports_tests;
 #[cfg(test)]
 mod restore_tests;
