@@ -2,7 +2,7 @@
 use crate::base::Base;
 use crate::fault::TrialFault;
 use crate::kind::{Kind, kind_of};
-use crate::{changes, checks, comparing, tools};
+use crate::{changes, checks, comparing, named, tools};
 use dump_ports::{Files, Sink, Source, read_all, write_all};
 use std::alloc::{AllocError, Global};
 use text_cases::{decoded, show};
@@ -41,6 +41,7 @@ fn of_texts(alloc: Global, block: &Block, line: &str, out: &mut Vec<u8>) -> Resu
     }
     match block.kind {
         Kind::Check(what) => checks::with_texts(alloc, what, &block.base, &changed, out),
+        Kind::Named => named::with_texts(alloc, &block.base, &changed, out),
         _ => comparing::with_texts(alloc, &block.base, &changed, out),
     }
 }
@@ -50,7 +51,7 @@ fn answer(alloc: Global, block: &Block, line: &str, out: &mut Vec<u8>) -> Result
     match block.kind {
         Kind::Text(kind) => text_cases::answer(alloc, kind, line, out),
         Kind::Archive(kind) => archive_cases::answer(alloc, kind, line, out),
-        Kind::Check(_) | Kind::Same => of_texts(alloc, block, line, out),
+        Kind::Check(_) | Kind::Same | Kind::Named => of_texts(alloc, block, line, out),
         Kind::Change => changes::with_line(alloc, &block.base, line, out),
         Kind::PgCatcmp => tools::pg_catcmp(alloc, &block.base, line, out),
         Kind::Run => tools::words(alloc, &block.base, line, out),

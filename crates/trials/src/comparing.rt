@@ -8,8 +8,12 @@ use table_rows::{CheckValuesError, check_values};
 use text_cases::put_key;
 use well_formed::WellFormed;
 
-// A well-formed catalogue of these texts, where they are one.
-fn formed(alloc: Global, base: &Base, changed: &Base) -> Result<Option<WellFormed>, AllocError> {
+/// A well-formed catalogue of these texts, where they are one.
+pub(crate) fn formed(
+    alloc: Global,
+    base: &Base,
+    changed: &Base,
+) -> Result<Option<WellFormed>, AllocError> {
     let mut cat = Catalogue::new(alloc);
     if !base.read_into(alloc, &mut cat)? || !changed.read_into(alloc, &mut cat)? {
         return Ok(None);

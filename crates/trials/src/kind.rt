@@ -21,6 +21,8 @@ pub(crate) enum Kind {
     Change,
     /// Texts of system tables: the least key at which the catalogue with them differs.
     Same,
+    /// Texts of system tables: what the catalogue with them stands for by names.
+    Named,
     /// A script: what psql answers and writes.
     Psql,
     /// A script: what pg_dump prints once it was applied.
@@ -77,6 +79,7 @@ fn other_of(name: &str) -> Kind {
         "pattern" => Kind::Pattern,
         "change" => Kind::Change,
         "same" => Kind::Same,
+        "named" => Kind::Named,
         "psql" => Kind::Psql,
         "pg_dump" => Kind::PgDump,
         "pg_catcmp" => Kind::PgCatcmp,

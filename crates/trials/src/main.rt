@@ -11,6 +11,7 @@ mod checks;
 mod comparing;
 mod fault;
 mod kind;
+mod named;
 mod tools;
 
 use crate::answering::answer_all;

@@ -1,0 +1,8 @@
+use Rattle.std.proofs.Common.{◌∙◌}
+use Rattle.std.proofs.lemmas.Result.{IfOk-weaker}
+use Rattle.cat_naming.specs.Entries.{entries_of}
+use Rattle.cat_naming.specs.Texts.{rows_by_oid}
+use Rattle.eng_load.proofs.maps.map_of.Goals as goal
+
+pub returns : goal.returns
+returns c = IfOk-weaker c.named_map.result _ _ (λ map all. all (entries_of c.args.naming.now (rows_by_oid c.args.rows.now)) c.in_ok-named.ensures) c.named_map.ensures
