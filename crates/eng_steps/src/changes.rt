@@ -27,11 +27,7 @@ pub fn one(alloc: Global, key: Key, value: Value) -> Result<Vec<Change>, AllocEr
 }
 
 /// An object gets an owner.
-pub fn set_owner(
-    changes: &mut Vec<Change>,
-    object: &Object,
-    owner: &Name,
-) -> Result<(), AllocError>
+pub fn set_owner(changes: &mut Vec<Change>, object: &Object, owner: &Name) -> Result<(), AllocError>
     ensures { OnOk result (changes.new.items ≡ changes.old.items ++ (key.Owner object.now, Some (value.Owner owner.now)) ∷ []) }
 {
     let owner = owner.clone()?;

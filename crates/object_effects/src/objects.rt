@@ -19,7 +19,10 @@ use cat_model::{
 };
 use copy_text::{Name, Text};
 use eng_map::{Change, NamedMap};
-use eng_steps::{ApplyError, ObjectKind, column_in, free, is_system, let_go_key, needs, needs_kind, needs_table, one, set_grants, set_owner, with_made};
+use eng_steps::{
+    ApplyError, ObjectKind, column_in, free, is_system, let_go_key, needs, needs_kind, needs_table,
+    one, set_grants, set_owner, with_made,
+};
 use grant_changes::{SCHEMA_RIGHTS, granted, holder_of, joined, owner_only, revoked};
 use std::alloc::{AllocError, Global};
 
