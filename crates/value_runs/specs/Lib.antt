@@ -1,0 +1,5 @@
+pub mod RunsFour
+pub mod RunsOne
+pub mod RunsThree
+pub mod RunsTwo
+pub mod Written
