@@ -1,0 +1,6 @@
+mod Bytes
+mod Entries
+mod Flags
+mod Holdings
+mod Keys
+mod Lists

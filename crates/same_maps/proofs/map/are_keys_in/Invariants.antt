@@ -1,0 +1,8 @@
+-- Each key has a value in the map exactly where each that is left is.
+use Rattle.std.proofs.Common.{IsSome}
+use Rattle.std.specs.FinMap.{get}
+use Rattle.same_maps.proofs.Keys.{AreLeft}
+use Rattle.same_maps.proofs.map.are_keys_in.Given as goal
+
+abbrev pub invariant-loop-key : goal.invariant-loop-key
+invariant-loop-key l = AreLeft (λ k v. IsSome (get l.named k)) l.fn.entries l.key-iterator
