@@ -1,0 +1,6 @@
+-- The names of the columns so far.
+use Rattle.std.proofs.Common.{◌≡◌, map, take}
+use Rattle.relation_effects.proofs.tables.column_names.Given as goal
+
+abbrev pub invariant-loop-column : goal.invariant-loop-column
+invariant-loop-column l = l.names.items ≡ map (λ c. c.name) (take l.column-index l.columns)

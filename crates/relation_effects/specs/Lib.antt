@@ -1,0 +1,2 @@
+pub mod NewRelations
+pub mod NewTables
