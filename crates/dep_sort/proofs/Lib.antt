@@ -1,3 +1,4 @@
 mod InOrder
+mod Mates
 mod Ranks
 mod Sorting

@@ -2,8 +2,10 @@
 #![tactic(auto)]
 
 mod cut_graph;
+mod cutting;
 pub mod laws;
 mod places;
 
 pub use cut_graph::{final_places, loop_places};
+pub use cutting::breaking;
 pub use places::{first_places, id_places};
