@@ -81,7 +81,7 @@ id_places_are objects entries sorted numbered rising stable =
 
 -- ---- objects with their places
 
-enumerate_push : {X : Type 0} (n : ℕ) (xs : List X) (x : X) → enumerate_from n (xs ++ x ∷ []) ≡ enumerate_from n xs ++ (n + length xs, x) ∷ []
+pub enumerate_push : {X : Type 0} (n : ℕ) (xs : List X) (x : X) → enumerate_from n (xs ++ x ∷ []) ≡ enumerate_from n xs ++ (n + length xs, x) ∷ []
 enumerate_push {X} n [] x = let at : n ≡ n + 0 = omega arith in ap (λ (k : ℕ). (k, x) ∷ []) at
 enumerate_push {X} n (y ∷ xs) x =
     let at : n + 1 + length xs ≡ n + suc (length xs) = omega arith in

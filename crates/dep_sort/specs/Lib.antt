@@ -1,4 +1,5 @@
 pub mod Cut
 pub mod Examples
 pub mod FirstOrder
+pub mod Indexed
 pub mod Ordering

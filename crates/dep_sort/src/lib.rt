@@ -1,9 +1,11 @@
 //! The order of a dump's objects.
 #![tactic(auto)]
 
+mod cut;
 mod cut_graph;
 mod cutting;
 pub mod laws;
+mod made;
 mod places;
 
 pub use cut_graph::{final_places, loop_places};
