@@ -1,7 +1,11 @@
+mod Depending
+mod Distinct
+mod Dues
 mod InOrder
 mod Left
 mod Making
 mod Mates
 mod Numbered
+mod Picking
 mod Ranks
 mod Sorting

@@ -1,3 +1,4 @@
+pub mod Answering
 pub mod Cut
 pub mod Examples
 pub mod FirstOrder

@@ -1,5 +1,6 @@
 //! The order of a graph in which no edge breaks any more, and the loop that is left in it.
-ghost use Rattle.std.specs.Prelude.{◌≡◌, ℕ, ◌^◌, ◌<◌, length, All, IfOk, map, slice_index};
+ghost use Rattle.std.specs.Prelude.{◌≡◌, ℕ, ◌^◌, ◌<◌, length, All, IfOk, map, nat_eq, slice_index};
+ghost use Rattle.std.specs.List.{IsDistinct};
 ghost use Rattle.graph_walks.specs.Alike.{AreAlike};
 ghost use Rattle.graph_walks.specs.Arcs.{AreWithin};
 ghost use Rattle.dep_sort.specs.FirstOrder.{stands_at, renumbered};
@@ -20,7 +21,9 @@ pub fn final_places(
 ) -> Result<Vec<usize>, AllocError>
     requires few { length objects.now < 2 ^ 32 }
     requires within { AreWithin (length objects.now) arcs.now }
-    ensures { IfOk result (λ places. places.items ≡ final_places (record { objects = objects.now; arcs = arcs.now })) }
+    ensures value { IfOk result (λ places. places.items ≡ final_places (record { objects = objects.now; arcs = arcs.now })) }
+    ensures within { IfOk result (λ places. All (λ place. place < length objects.now) places.items) }
+    ensures distinct { IfOk result (λ places. IsDistinct nat_eq places.items) }
 {
     let first = first_places(alloc, objects)?;
     let net = renumber(alloc, &first, arcs)?;
@@ -37,7 +40,8 @@ pub fn loop_places(
 ) -> Result<Vec<usize>, AllocError>
     requires few { length objects.now < 2 ^ 32 }
     requires within { AreWithin (length objects.now) arcs.now }
-    ensures { IfOk result (λ places. places.items ≡ told_places (record { objects = objects.now; arcs = arcs.now })) }
+    ensures value { IfOk result (λ places. places.items ≡ told_places (record { objects = objects.now; arcs = arcs.now })) }
+    ensures within { IfOk result (λ places. All (λ place. place < length objects.now) places.items) }
 {
     let by_id = id_places(alloc, objects)?;
     let net = renumber(alloc, &by_id, arcs)?;
@@ -46,7 +50,11 @@ pub fn loop_places(
 }
 
 // The arcs by where their ends stand among the places.
-fn renumber(alloc: Global, places: &[usize], arcs: &[(usize, usize)]) -> Result<Arcs, AllocError>
+pub(crate) fn renumber(
+    alloc: Global,
+    places: &[usize],
+    arcs: &[(usize, usize)],
+) -> Result<Arcs, AllocError>
     requires few { length places.now < 2 ^ 32 }
     requires places { All (λ place. place < length places.now) places.now }
     requires within { AreWithin (length places.now) arcs.now }

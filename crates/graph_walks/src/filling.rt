@@ -1,5 +1,6 @@
 //! The order that is filled from its end.
-ghost use Rattle.std.specs.Prelude.{◌≡◌, ℕ, ◌<◌, ◌≤◌, length, All, IfOk, OnOk, slice_index};
+ghost use Rattle.std.specs.Prelude.{◌≡◌, ℕ, ◌<◌, ◌≤◌, nat_eq, length, All, IfOk, OnOk, slice_index};
+ghost use Rattle.std.specs.List.{IsDistinct};
 ghost use Rattle.std.specs.BinaryHeap.{IsHeap, heap_items};
 ghost use Rattle.std.specs.Ordering.{nat_cmp};
 ghost use Rattle.graph_walks.specs.Arcs.{AreWithin};
@@ -16,6 +17,7 @@ use std::collections::BinaryHeap;
 pub fn fill_order(alloc: Global, arcs: &Arcs) -> Result<Vec<usize>, AllocError>
     ensures value { IfOk result (λ order. order.items ≡ order_of arcs.now.count arcs.now.arcs) }
     ensures within { IfOk result (λ order. All (λ place. place < arcs.now.count) order.items) }
+    ensures distinct { IfOk result (λ order. IsDistinct nat_eq order.items) }
 {
     let mut counts = count_ends(alloc, arcs)?;
     let mut free = free_places(alloc, &counts)?;

@@ -1,12 +1,13 @@
 use Rattle.std.proofs.Common.{◌≡◌, ℕ, ◌<◌, ◌≤◌, ◌++◌, List, [], ◌∷◌, length, take, drop, get_or, subst, sym, ◌∙◌}
-use Rattle.std.specs.Prelude.{All}
+use Rattle.std.specs.Prelude.{All, nat_eq}
+use Rattle.std.specs.List.{IsDistinct}
 use Rattle.std.specs.BinaryHeap.{heap_items}
 use Rattle.std.proofs.lemmas.List.{take_at, nil_from_length}
 use Rattle.graph_walks.specs.Arcs.{Arc, AreWithin, arcs_from}
 use Rattle.graph_walks.specs.Counting.{ending, AreFree, AreReleased}
 use Rattle.graph_walks.proofs.Filled.{IsFilling, IsTaken, rest, filling_starts, taken_is, filling_goes_on, filling_ends, rest_falls}
 use Rattle.graph_walks.specs.Filling.{order_of}
-use Rattle.graph_walks.proofs.Orders.{order_within}
+use Rattle.graph_walks.proofs.Orders.{order_distinct, order_within}
 use Rattle.graph_walks.proofs.filling.fill_order.Goals as goal
 
 pub loop-place-init : goal.loop-place-init
@@ -70,4 +71,4 @@ returns c =
     let okay = c.loop-place.free.data.ok in
     let empty : heap_items c.loop-place.free ≡ [] = nil_from_length (heap_items c.loop-place.free) (sym okay.0 ∙ none) in
     let is : c.reverse.new.self.items ≡ order_of n arcs = c.reverse.ensures.items ∙ filling_ends n arcs c.loop-place.placed.items c.loop-place.counts.items (heap_items c.loop-place.free) within c.loop-place.invariant empty in
-    record { value = is; within = subst (All (λ place. place < n)) (sym is) (order_within n arcs) }
+    record { value = is; within = subst (All (λ place. place < n)) (sym is) (order_within n arcs); distinct = subst (IsDistinct nat_eq) (sym is) (order_distinct n arcs) }
