@@ -11,6 +11,7 @@ mod Offs
 mod Orders
 mod Permuted
 mod Reached
+mod Rounds
 mod Standings
 mod Tests
 mod Walked

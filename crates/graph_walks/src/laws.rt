@@ -1,12 +1,12 @@
 //! Laws of the definitions, each the contract of a function that does nothing.
-ghost use Rattle.std.specs.Prelude.{◌≡◌, ℕ, ◌+◌, ◌<◌, true, false, nat_eq, List, length, slice_index};
+ghost use Rattle.std.specs.Prelude.{◌≡◌, ℕ, ◌+◌, ◌<◌, true, false, nat_eq, All, List, length, slice_index};
 ghost use Rattle.std.specs.List.{IsDistinct};
 ghost use Rattle.graph_walks.specs.Arcs.{Arc, needs, is_in, AreWithin};
 ghost use Rattle.graph_walks.specs.Examples.{Reached, Orders, Cycles};
 ghost use Rattle.graph_walks.specs.Filling.{order_of};
 ghost use Rattle.graph_walks.specs.Leading.{Leads};
 ghost use Rattle.graph_walks.specs.Reaching.{reaches, on_cycle};
-ghost use Rattle.graph_walks.specs.Telling.{told_cycle};
+ghost use Rattle.graph_walks.specs.Telling.{told_cycle, IsRound};
 
 /// Worked examples, computed from the definitions.
 pub fn worked_examples()
@@ -29,6 +29,13 @@ pub fn orders_keep_needs()
     ensures among { (count : ℕ) (arcs : List Arc) (place : ℕ) → is_in place (order_of count arcs) ≡ true → place < count }
     ensures no_cycle { (count : ℕ) (arcs : List Arc) (a b : ℕ) → AreWithin count arcs → needs arcs a b ≡ true → on_cycle arcs (a, b) ≡ true → is_in b (order_of count arcs) ≡ false }
     ensures whole { (count : ℕ) (arcs : List Arc) → AreWithin count arcs → ((a b : ℕ) → needs arcs a b ≡ true → on_cycle arcs (a, b) ≡ false) → (place : ℕ) → place < count → is_in place (order_of count arcs) ≡ true }
+{}
+
+/// A cycle that is told ends where it begins, and is told where there is one.
+pub fn told_cycles_return()
+    ensures round { (count : ℕ) (arcs : List Arc) → AreWithin count arcs → IsRound (told_cycle count arcs) }
+    ensures told { (count : ℕ) (arcs : List Arc) (a b : ℕ) → AreWithin count arcs → needs arcs a b ≡ true → on_cycle arcs (a, b) ≡ true → 1 < length (told_cycle count arcs) }
+    ensures within { (count : ℕ) (arcs : List Arc) → All (λ place. place < count) (told_cycle count arcs) }
 {}
 
 /// Each step of a cycle that is told is an arc.
