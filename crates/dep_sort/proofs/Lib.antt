@@ -2,7 +2,9 @@ mod Depending
 mod Distinct
 mod Dues
 mod InOrder
+mod Keeping
 mod Left
+mod Looping
 mod Making
 mod Mates
 mod Numbered

@@ -4,3 +4,4 @@ pub mod Examples
 pub mod FirstOrder
 pub mod Indexed
 pub mod Ordering
+pub mod Sound

@@ -1,5 +1,19 @@
 //! Laws of the definitions, each the contract of a function that does nothing.
+ghost use Rattle.std.specs.Prelude.{◌≡◌, ◌↔◌, ◌<◌, ℕ, [], List, Ok, Err, All, true, false, length, map, slice_index_or};
+ghost use Rattle.graph_parts.specs.declared.graph.Edge.{Edge};
+ghost use Rattle.graph_parts.specs.declared.object.ObjId.{ObjId};
+ghost use Rattle.graph_parts.specs.Parts.{Parts, IsGraph};
+ghost use Rattle.graph_walks.specs.Arcs.{needs};
+ghost use Rattle.graph_walks.specs.Leading.{Leads};
+ghost use Rattle.graph_walks.specs.Reaching.{on_cycle};
+ghost use Rattle.dep_sort.specs.Cut.{arc_of, is_breakable, breaks, cut};
 ghost use Rattle.dep_sort.specs.Examples.{Orders, Cuts, Loops};
+ghost use Rattle.dep_sort.specs.Ordering.{Sorted, due};
+ghost use Rattle.dep_sort.specs.Sound.{IsOrder, IsLoop};
+
+use graph_walks::laws::{
+    orders_keep_needs, reached_is_led_to, told_cycles_return, told_steps_are_arcs,
+};
 
 /// Worked examples, computed from the definitions.
 pub fn worked_examples()
@@ -7,3 +21,42 @@ pub fn worked_examples()
     ensures cuts { Cuts }
     ensures loops { Loops }
 {}
+
+/// An order has each object of the cut graph once, leaves none out, and has each behind all that it needs.
+pub fn orders_are_whole()
+    ensures { (graph : Parts) (order : Sorted) → due graph ≡ Ok order → IsOrder (cut graph) order }
+{
+    orders_keep_needs();
+}
+
+/// The places that an object of an order needs are below its own.
+pub fn needs_stand_before()
+    ensures { (graph : Parts) (order : Sorted) → due graph ≡ Ok order → (i : ℕ) → i < length order.objects → All (λ at. at < i) (slice_index_or order.depends i []) }
+{
+    orders_are_whole();
+}
+
+/// Where there is an order, nothing of the cut graph lies on a cycle.
+pub fn orders_have_no_cycle()
+    ensures { (graph : Parts) (order : Sorted) → IsGraph graph.objects graph.edges → due graph ≡ Ok order → (a b : ℕ) → needs (cut graph).arcs a b ≡ true → on_cycle (cut graph).arcs (a, b) ≡ false }
+{
+    orders_are_whole();
+    reached_is_led_to();
+}
+
+/// An edge breaks exactly where it is breakable and what it needs leads back to its beginning.
+pub fn edges_break_on_cycles()
+    ensures { (edges : List Edge) (edge : Edge) → (breaks edges edge ≡ true) ↔ ((is_breakable edge ≡ true) × Leads (map arc_of edges) edge.to edge.from) }
+{
+    reached_is_led_to();
+}
+
+/// A loop that is told begins and ends with the same object, and on it each object needs the next.
+pub fn loops_return()
+    ensures { (graph : Parts) (path : List ObjId) → IsGraph graph.objects graph.edges → due graph ≡ Err path → IsLoop (cut graph) path }
+{
+    orders_keep_needs();
+    reached_is_led_to();
+    told_steps_are_arcs();
+    told_cycles_return();
+}
