@@ -1,5 +1,5 @@
 -- What is left of a graph of which edges break.
-use Rattle.std.proofs.Common.{◌≡◌, ℕ, ◌+◌, ◌<◌, ◌≤◌, ◌^◌, Bool, true, false, List, [], ◌∷◌, ◌++◌, length, map, get_or, Option, Some, None, inl, inr, refl, sym, ap, subst, ◌∙◌, arith}
+use Rattle.std.proofs.Common.{◌≡◌, ℕ, ◌+◌, ◌<◌, ◌≤◌, ◌^◌, Bool, true, false, List, [], ◌∷◌, ◌++◌, length, map, get_or, take, Option, Some, None, inl, inr, refl, sym, ap, subst, ◌∙◌, arith}
 use Rattle.std.specs.Prelude.{◌&&◌, nat_eq, if◌then◌else◌}
 use Rattle.std.specs.List.{AllByRecursion, filter, flat_map, list_any, enumerate_from}
 use Rattle.std.specs.Option.{option_map_or, IfSome}
@@ -15,6 +15,7 @@ use Rattle.graph_parts.specs.Parts.{Parts, LeadsAcross, IsGraph}
 use Rattle.graph_walks.specs.Arcs.{Arc, AreWithin}
 use Rattle.dep_sort.specs.Cut.{CutGraph, is_view, is_default, is_rule, is_pre_data, is_post_data, arc_of, breaks, taker, moved_arcs, places_of, bound_arcs, without_body, made_by, made_of, cut}
 use Rattle.dep_sort.proofs.Making.{taker_low, by_few}
+use Rattle.dep_sort.proofs.Numbered.{map_numbered_more}
 
 -- ---- the arcs
 
@@ -55,6 +56,14 @@ pub left_are : (edges : List Edge) (bodiless : List Bool) (objects : List Obj)
     → ((place : ℕ) → place < length objects → get_or bodiless place false ≡ list_any (λ (edge : Edge). nat_eq edge.from place && breaks edges edge) edges)
     → map (left_by bodiless) (enumerate_from 0 objects) ≡ map (without_body edges) (enumerate_from 0 objects)
 left_are edges bodiless objects each = each_left edges bodiless (length objects) 0 objects (omega arith) each
+
+-- one more object
+pub left_more : (bodiless : List Bool) (objects left : List Obj) (place : ℕ) (object o : Obj) → place < length objects → object ≡ get_or objects place object → o ≡ left_by bodiless (place, object)
+    → left ≡ map (left_by bodiless) (enumerate_from 0 (take place objects)) → left ++ o ∷ [] ≡ map (left_by bodiless) (enumerate_from 0 (take (place + 1) objects))
+left_more bodiless objects left place object o low is same so_far =
+    ap (λ (x : Obj). left ++ x ∷ []) same
+    ∙ ap (λ (l : List Obj). l ++ left_by bodiless (place, object) ∷ []) so_far
+    ∙ sym (map_numbered_more (left_by bodiless) objects place object low is)
 
 -- ---- few objects, and arcs among them
 

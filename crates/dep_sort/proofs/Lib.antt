@@ -11,3 +11,4 @@ mod Numbered
 mod Picking
 mod Ranks
 mod Sorting
+mod Taking

@@ -53,7 +53,7 @@ pub no_place : (p : Option ℕ) → is_some p ≡ false → p ≡ None
 no_place None e = refl
 no_place (Some n) e = absurd (true≢false e)
 
-at_push : (made : List Obj) (object : Obj) (id : ObjId) → made_at (made ++ object ∷ []) id ≡ cond (is_some (made_at made id)) (made_at made id) (cond (same_id id object.id) (Some (length made)) None)
+pub at_push : (made : List Obj) (object : Obj) (id : ObjId) → made_at (made ++ object ∷ []) id ≡ cond (is_some (made_at made id)) (made_at made id) (cond (same_id id object.id) (Some (length made)) None)
 at_push made object id =
     let zero' : 0 + length made ≡ length made = omega arith in
     at_is (made ++ object ∷ []) id

@@ -1,15 +1,15 @@
 //! Laws of the definitions, each the contract of a function that does nothing.
-ghost use Rattle.std.specs.Prelude.{◌≡◌, ◌↔◌, ◌<◌, ℕ, [], List, Ok, Err, All, true, false, length, map, slice_index_or};
+ghost use Rattle.std.specs.Prelude.{◌≡◌, ◌↔◌, ◌<◌, ℕ, [], List, Ok, Err, All, true, false, is_some, length, map, slice_index_or};
 ghost use Rattle.graph_parts.specs.declared.graph.Edge.{Edge};
 ghost use Rattle.graph_parts.specs.declared.object.ObjId.{ObjId};
 ghost use Rattle.graph_parts.specs.Parts.{Parts, IsGraph};
 ghost use Rattle.graph_walks.specs.Arcs.{needs};
 ghost use Rattle.graph_walks.specs.Leading.{Leads};
 ghost use Rattle.graph_walks.specs.Reaching.{on_cycle};
-ghost use Rattle.dep_sort.specs.Cut.{arc_of, is_breakable, breaks, cut};
+ghost use Rattle.dep_sort.specs.Cut.{arc_of, is_breakable, breaks, made_at, made_of, cut};
 ghost use Rattle.dep_sort.specs.Examples.{Orders, Cuts, Loops};
 ghost use Rattle.dep_sort.specs.Ordering.{Sorted, due};
-ghost use Rattle.dep_sort.specs.Sound.{IsOrder, IsLoop};
+ghost use Rattle.dep_sort.specs.Sound.{IsOrder, IsLoop, IsKept, breaks_for};
 
 use graph_walks::laws::{
     orders_keep_needs, reached_is_led_to, told_cycles_return, told_steps_are_arcs,
@@ -50,6 +50,16 @@ pub fn edges_break_on_cycles()
 {
     reached_is_led_to();
 }
+
+/// An object is made exactly where an edge breaks that it can take over.
+pub fn made_where_edges_break()
+    ensures { (graph : Parts) (id : ObjId) → is_some (made_at (made_of graph) id) ≡ breaks_for graph.edges id }
+{}
+
+/// No edge is lost: it is there in the cut graph, or the object that takes it over needs both its ends.
+pub fn edges_are_kept()
+    ensures { (graph : Parts) → All (IsKept graph) graph.edges }
+{}
 
 /// A loop that is told begins and ends with the same object, and on it each object needs the next.
 pub fn loops_return()
