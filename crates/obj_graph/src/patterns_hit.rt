@@ -2,7 +2,7 @@
 ghost use Rattle.std.specs.Prelude.{◌≡◌, not};
 ghost use Rattle.std.specs.List.{list_any, position};
 ghost use Rattle.cat_book.specs.Paths.{class_path};
-ghost use Rattle.obj_graph.specs.Chosen.{are_none, hits_path, hits_schema, hits_row, hits_relation, missing, select_fault};
+ghost use Rattle.obj_graph.specs.Chosen.{are_none, is_hit, hits_path, is_path_hit, hits_schema, hits_row, hits_relation, missing, or_missing, select_fault};
 
 use crate::select::{Select, SelectFault};
 use cat_book::Book;
@@ -10,14 +10,23 @@ use cat_names::{RelationKind, relation_kind};
 use cat_rows::ClassRow;
 use patterns::{Pattern, pattern_hits};
 
-// Whether there are no patterns.
-fn are_none(patterns: &[Pattern]) -> bool
+/// Whether there are no patterns.
+pub fn are_none(patterns: &[Pattern]) -> bool
     ensures { result ≡ are_none patterns.now }
 {
     match patterns {
         [] => true,
         [_, ..] => false,
     }
+}
+
+/// Whether one of these patterns hits a name in a schema.
+pub fn is_hit(patterns: &[Pattern], schema: &str, name: &str) -> bool
+    ensures { result ≡ is_hit patterns.now schema.now name.now }
+{
+    patterns
+        .iter()
+        .any(|pattern| pattern_hits(pattern, schema, name))
 }
 
 // Whether a pattern hits the path of a relation.
@@ -28,6 +37,13 @@ fn hits_path(book: &Book<'_>, pattern: &Pattern, row: &ClassRow) -> bool
         Some(schema) => pattern_hits(pattern, schema.nspname.as_str(), row.relname.as_str()),
         None => false,
     }
+}
+
+/// Whether one of these patterns hits the path of a relation.
+pub fn is_path_hit(book: &Book<'_>, patterns: &[Pattern], row: &ClassRow) -> bool
+    ensures { result ≡ is_path_hit patterns.now (class_path book.now.pg_namespace row.now) }
+{
+    patterns.iter().any(|pattern| hits_path(book, pattern, row))
 }
 
 // Whether a pattern hits a schema.

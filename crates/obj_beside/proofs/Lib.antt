@@ -1,0 +1,3 @@
+pub mod FirstsKept
+pub mod Rows
+mod Grouped

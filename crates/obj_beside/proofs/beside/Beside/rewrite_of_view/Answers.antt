@@ -1,0 +1,17 @@
+use Rattle.std.proofs.Common.{ap, sym, ◌∙◌}
+use Rattle.std.specs.List.{slice_get}
+use Rattle.std.specs.Option.{option_and_then}
+use Rattle.cat_rows.specs.declared.relations.RewriteRow.{RewriteRow}
+use Rattle.cat_names.specs.Lookups.{place_of}
+use Rattle.obj_graph.specs.DependLinks.{rewrite_of_view}
+use Rattle.obj_beside.proofs.Rows.{row_at_place}
+use Rattle.obj_beside.proofs.beside.Beside.rewrite_of_view.Goals as goal
+
+pub returns : goal.returns
+returns c =
+    let rows = c.self.inside.book.now.pg_rewrite in
+    c.row_at.ensures
+    ∙ ap (λ rs. option_and_then (slice_get rs) c.find.result) (c.as_slice-rows.ensures ∙ ap (λ k. k.pg_rewrite) c.tables.ensures)
+    ∙ ap (option_and_then (slice_get rows)) (c.find.ensures ∙ ap (place_of c.args.oid) c.self.invariant.rows.views)
+    ∙ sym (row_at_place (λ (r : RewriteRow). r.ev_class) rows c.args.oid)
+    ∙ ap (λ k. rewrite_of_view k c.args.oid) c.self.view_is
