@@ -4,7 +4,7 @@ ghost use Rattle.std.specs.List.{enumerate_from, flat_map, list_any};
 ghost use Rattle.graph_parts.specs.declared.object.ObjKind.TheVariants.{Dummy};
 ghost use Rattle.graph_parts.specs.Parts.{LeadsAcross};
 ghost use Rattle.graph_walks.specs.Arcs.{AreWithin};
-ghost use Rattle.dep_sort.specs.Cut.{is_view, is_default, is_rule, is_pre_data, is_post_data, breaks, moved_arcs, places_of, bound_arcs, without_body, made_of, cut};
+ghost use Rattle.dep_sort.specs.Cut.{is_view, is_default, is_rule, is_pre_data, is_post_data, breaks, moved_arcs, places_of, bound_arcs, without_body, cut};
 
 use crate::cutting::breaking;
 use crate::made::Made;

@@ -1,6 +1,6 @@
 //! Which edges of a dump's graph break.
-ghost use Rattle.std.specs.Prelude.{◌≡◌, ◌<◌, ◌&&◌, nat_eq, length, All, IfOk, map, slice_index};
-ghost use Rattle.graph_parts.specs.Parts.{IsGraph, LeadsAcross};
+ghost use Rattle.std.specs.Prelude.{◌≡◌, ◌&&◌, nat_eq, length, All, IfOk, map, slice_index};
+ghost use Rattle.graph_parts.specs.Parts.{LeadsAcross};
 ghost use Rattle.dep_sort.specs.Cut.{arc_of, is_breakable, breaks};
 
 use graph_parts::{Edge, Graph};

@@ -1,9 +1,7 @@
 //! The defaults and rules that are made because edges break.
-ghost use Rattle.std.specs.Prelude.{◌≡◌, ◌<◌, ◌≤◌, [], ◌∷◌, ◌++◌, None, IfOk, IfSome, OnOk, OnErr, is_some, length, map, if◌then◌else◌};
-ghost use Rattle.std.specs.BTreeMap.{get};
+ghost use Rattle.std.specs.Prelude.{◌≡◌, ◌<◌, ◌≤◌, [], ◌∷◌, ◌++◌, None, IfOk, IfSome, OnOk, length, map, if◌then◌else◌};
 ghost use Rattle.std.specs.Option.{option_map_or};
 ghost use Rattle.dep_sort.specs.Cut.{breaks, made_at, made_once, made_by, taker};
-ghost use Rattle.dep_sort.specs.Indexed.{id_order};
 
 use graph_parts::{Edge, Obj, ObjId};
 use std::alloc::{AllocError, Global};

@@ -4,7 +4,6 @@ ghost use Rattle.std.specs.List.{IsDistinct, dedup, range_with_len};
 ghost use Rattle.graph_walks.specs.Arcs.{AreWithin, arcs_from};
 ghost use Rattle.graph_walks.specs.Starts.{IsRising};
 ghost use Rattle.dep_sort.specs.Answering.{IsTold, Gives};
-ghost use Rattle.dep_sort.specs.Cut.{CutGraph};
 ghost use Rattle.dep_sort.specs.Ordering.{final_places, depends_of, sorted, loop_of, due};
 ghost use Rattle.dep_sort.specs.declared.ordering.OrderError.TheVariants.{Memory};
 
