@@ -4,7 +4,7 @@ use crate::options::select_of;
 use cat_model::Sections;
 use cat_rows::Catalogue;
 use dep_sort::{OrderError, Ordered, order};
-use graph_parts::{Graph, Obj, ObjKind};
+use graph_parts::{Graph, Obj, ObjId, ObjKind};
 use obj_graph::{ObjectsError, Select, SelectFault};
 use obj_links::objects;
 use std::alloc::{AllocError, Global};
@@ -90,6 +90,16 @@ fn put_ordered(
     Ok(())
 }
 
+// The ids of the objects along a loop.
+fn put_loop(alloc: Global, path: &[ObjId], out: &mut Vec<u8>) -> Result<(), AllocError> {
+    out.extend_from_slice(b"loop")?;
+    for id in path {
+        let shown = format!(in alloc; " ({}, {})", id.class, id.oid)?;
+        out.extend_from_slice(shown.as_bytes())?;
+    }
+    Ok(())
+}
+
 fn put_graph(
     alloc: Global,
     cat: &Catalogue,
@@ -100,7 +110,7 @@ fn put_graph(
     match order(alloc, graph) {
         Ok(ordered) => put_ordered(alloc, cat, sections, &ordered, out),
         Err(OrderError::Memory) => Err(AllocError),
-        Err(_) => out.extend_from_slice(b"loop"),
+        Err(OrderError::Loop(path)) => put_loop(alloc, &path, out),
     }
 }
 
