@@ -1,0 +1,9 @@
+//! What COPY into a table comes to: the rows of its text behind those of the table, or the cause of a refusal.
+#![tactic(auto)]
+
+mod copying;
+mod foreigns;
+mod joined;
+mod uniques;
+
+pub use copying::copy_rows;
