@@ -1,5 +1,5 @@
 -- What is found in the group of a table's keys is what is found among all keys.
-use Rattle.std.proofs.Common.{◌≡◌, ℕ, suc, ◌+◌, ℤ, pos, Bool, true, false, cond, List, [], ◌∷◌, map, Option, Some, None, option_and_then, filter_map, refl, sym, ap, ◌∙◌, arith}
+use Rattle.std.proofs.Common.{◌≡◌, ℕ, suc, ◌+◌, ℤ, Bool, true, false, cond, List, [], ◌∷◌, map, Option, Some, None, option_and_then, filter_map, refl, sym, ap, ◌∙◌, arith}
 use Rattle.std.specs.List.{slice_get, filter, enumerate_from, cons_option}
 use Rattle.graph_parts.specs.declared.object.ObjId.{ObjId}
 use Rattle.oid_groups.specs.Groups.{Key, group_of, same_oid}

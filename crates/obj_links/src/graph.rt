@@ -1,7 +1,6 @@
 //! The graph of a selection.
-ghost use Rattle.std.specs.Prelude.{◌≡◌, [], ◌∷◌, ◌++◌, ◌+◌, ◌^◌, ◌<◌, length, filter_map, All, IfOk, OnOk, OnErr, IsTrue, List};
+ghost use Rattle.std.specs.Prelude.{◌≡◌, [], ◌∷◌, ◌++◌, ◌+◌, ◌^◌, ◌<◌, length, filter_map, IfOk, OnOk, IsTrue, List};
 ghost use Rattle.std.specs.List.{flat_map};
-ghost use Rattle.graph_parts.specs.Parts.{LeadsAcross};
 ghost use Rattle.graph_parts.specs.declared.object.Obj.{Obj as Object};
 ghost use Rattle.obj_beside.specs.Firsts.{AreFirsts};
 ghost use Rattle.obj_graph.specs.BoundaryLinks.{boundary_links};

@@ -1,8 +1,6 @@
-use Rattle.std.proofs.Common.{◌≡◌, true, false, cond, Some, is_some, rules, arith}
+use Rattle.std.proofs.Common.{◌≡◌, true, false, is_some, rules}
 use Rattle.std.specs.BTreeMap.{get}
 use Rattle.std.specs.Cmp.{eq_by_cmp_equiv}
-use Rattle.std.specs.Ordering.{eq_by_cmp}
-use Rattle.std.proofs.lemmas.Grind.{common_steps}
 use Rattle.obj_beside.proofs.FirstsKept.{firsts_new, firsts_old}
 use Rattle.obj_beside.proofs.firsts.add_first.Goals as goal
 

@@ -1,4 +1,4 @@
-use Rattle.std.proofs.Common.{◌≡◌, ◌++◌, ◌∙◌, length, All, subst, sym, ap, rules}
+use Rattle.std.proofs.Common.{◌++◌, ◌∙◌, length, All, subst, sym, ap, rules}
 use Rattle.std.specs.List.{flat_map}
 use Rattle.graph_parts.specs.Parts.{LeadsAcross}
 use Rattle.obj_graph.specs.BoundaryLinks.{boundary_links}
