@@ -1,6 +1,6 @@
 -- Which objects are made, and what they take over.
-use Rattle.std.proofs.Common.{◌≡◌, ℕ, ◌+◌, Bool, true, false, cond, List, [], ◌∷◌, ◌++◌, length, Option, Some, None, is_some, inl, inr, refl, sym, ap, ◌∙◌}
-use Rattle.std.specs.Prelude.{◌&&◌, ◌||◌, nat_eq, MatchOption, if◌then◌else◌}
+use Rattle.std.proofs.Common.{◌≡◌, ℕ, zero, suc, ◌+◌, arith, Bool, true, false, cond, List, [], ◌∷◌, ◌++◌, length, map, Option, Some, None, is_some, inl, inr, refl, sym, ap, subst, ◌∙◌}
+use Rattle.std.specs.Prelude.{◌&&◌, ◌||◌, nat_eq, MatchOption, if◌then◌else◌, slice_get}
 use Rattle.std.specs.List.{All, AllByRecursion, flat_map, enumerate_from, list_any}
 use Rattle.std.specs.Option.{option_map_or}
 use Rattle.std.proofs.lemmas.Bool.{cases_Bool, eq-eqb, and_from, or_left, or_right}
@@ -11,8 +11,8 @@ use Rattle.graph_parts.specs.declared.object.ObjId.{ObjId}
 use Rattle.graph_parts.specs.declared.graph.Edge.{Edge}
 use Rattle.graph_parts.specs.Parts.{Parts}
 use Rattle.graph_walks.specs.Arcs.{Arc, needs}
-use Rattle.dep_sort.specs.Cut.{same_id, arc_of, breaks, made_at, made_once, made_by, taker, moved_arcs, bound_arcs, made_of, cut}
-use Rattle.dep_sort.specs.Sound.{moves_to_id, breaks_for, IsKept}
+use Rattle.dep_sort.specs.Cut.{same_id, is_default, is_rule, is_pre_data, is_post_data, places_of, arc_of, breaks, made_at, made_once, made_by, taker, moved_arcs, bound_arcs, made_of, cut}
+use Rattle.dep_sort.specs.Sound.{moves_to_id, breaks_for, IsKept, IsOnItsSide}
 use Rattle.dep_sort.proofs.Making.{at_push, same_ids_are}
 
 -- ---- which are made
@@ -123,3 +123,58 @@ all_moved graph a b h = in_front (flat_map (moved_arcs (length graph.objects) (m
 pub edges_kept : (graph : Parts) → All (IsKept graph) graph.edges
 edges_kept graph =
     All-from_recursion (IsKept graph) graph.edges (each_kept graph graph.edges (each_has (length graph.objects) (made_of graph) graph.edges (cut graph).arcs (all_moved graph)))
+
+-- ---- what is made stands on its side of the data
+
+before_all : (place : ℕ) (bounds : List ℕ) (arcs : List Arc) → ((a b : ℕ) → needs (map (λ bound. (bound, place)) bounds) a b ≡ true → needs arcs a b ≡ true) → AllByRecursion (λ bound. needs arcs bound place ≡ true) bounds
+before_all place [] arcs has = tt
+before_all place (bound ∷ bounds) arcs has =
+    (has bound place (own bound place (map (λ q. (q, place)) bounds)), before_all place bounds arcs (λ a b h. has a b (later (bound, place) a b (map (λ q. (q, place)) bounds) h)))
+
+behind_all : (place : ℕ) (bounds : List ℕ) (arcs : List Arc) → ((a b : ℕ) → needs (map (λ bound. (place, bound)) bounds) a b ≡ true → needs arcs a b ≡ true) → AllByRecursion (λ bound. needs arcs place bound ≡ true) bounds
+behind_all place [] arcs has = tt
+behind_all place (bound ∷ bounds) arcs has =
+    (has place bound (own place bound (map (λ q. (place, q)) bounds)), behind_all place bounds arcs (λ a b h. has a b (later (place, bound) a b (map (λ q. (place, q)) bounds) h)))
+
+bounds_in : (objects : List Obj) (n k : ℕ) (made : List Obj) (object : Obj) → slice_get made k ≡ Some object → (a b : ℕ) → needs (bound_arcs objects (n + k, object)) a b ≡ true → needs (flat_map (bound_arcs objects) (enumerate_from n made)) a b ≡ true
+bounds_in objects n k [] object is a b h = absurd cc
+bounds_in objects n zero (o ∷ made) object is a b h =
+    let same : o ≡ object = cc in
+    let at : n + 0 ≡ n = omega arith in
+    in_front (bound_arcs objects (n, o)) (flat_map (bound_arcs objects) (enumerate_from (n + 1) made)) a b
+    (subst (λ (x : Obj). needs (bound_arcs objects (n, x)) a b ≡ true) (sym same) (subst (λ (m : ℕ). needs (bound_arcs objects (m, object)) a b ≡ true) at h))
+bounds_in objects n (suc k) (o ∷ made) object is a b h =
+    let at : n + suc k ≡ n + 1 + k = omega arith in
+    behind (bound_arcs objects (n, o)) (flat_map (bound_arcs objects) (enumerate_from (n + 1) made)) a b
+    (bounds_in objects (n + 1) k made object is a b (subst (λ (m : ℕ). needs (bound_arcs objects (m, object)) a b ≡ true) at h))
+
+all_bounds : (graph : Parts) (at : ℕ) (object : Obj) → slice_get (made_of graph) at ≡ Some object → (a b : ℕ) → needs (bound_arcs graph.objects (at, object)) a b ≡ true → needs (cut graph).arcs a b ≡ true
+unfolding cut
+all_bounds graph at object is a b h =
+    let zero' : at ≡ 0 + at = omega arith in
+    behind (flat_map (moved_arcs (length graph.objects) (made_of graph)) graph.edges) (flat_map (bound_arcs graph.objects) (enumerate_from 0 (made_of graph))) a b
+    (bounds_in graph.objects 0 at (made_of graph) object is a b (subst (λ (m : ℕ). needs (bound_arcs graph.objects (m, object)) a b ≡ true) zero' h))
+
+default_bound : (objects : List Obj) (at : ℕ) (object : Obj) → is_default object.kind ≡ true → (a b : ℕ) → needs (map (λ bound. (bound, length objects + at)) (places_of is_pre_data objects)) a b ≡ true → needs (bound_arcs objects (at, object)) a b ≡ true
+unfolding bound_arcs
+default_bound objects at object is a b h =
+    let rest : List Arc = if is_rule object.kind then map (λ bound. (length objects + at, bound)) (places_of is_post_data objects) else [] in
+    let front : List Arc = map (λ bound. (bound, length objects + at)) (places_of is_pre_data objects) in
+    subst (λ (c : Bool). needs ((if c then front else []) ++ rest) a b ≡ true) (sym is) (in_front front rest a b h)
+
+rule_bound : (objects : List Obj) (at : ℕ) (object : Obj) → is_rule object.kind ≡ true → (a b : ℕ) → needs (map (λ bound. (length objects + at, bound)) (places_of is_post_data objects)) a b ≡ true → needs (bound_arcs objects (at, object)) a b ≡ true
+unfolding bound_arcs
+rule_bound objects at object is a b h =
+    let front : List Arc = if is_default object.kind then map (λ bound. (bound, length objects + at)) (places_of is_pre_data objects) else [] in
+    let rest : List Arc = map (λ bound. (length objects + at, bound)) (places_of is_post_data objects) in
+    subst (λ (c : Bool). needs (front ++ (if c then rest else [])) a b ≡ true) (sym is) (behind front rest a b h)
+
+pub on_its_side : (graph : Parts) (at : ℕ) (object : Obj) → slice_get (made_of graph) at ≡ Some object → IsOnItsSide graph at object
+on_its_side graph at object is = record {
+  before = λ kind.
+      All-from_recursion (λ bound. needs (cut graph).arcs bound (length graph.objects + at) ≡ true) (places_of is_pre_data graph.objects)
+      (before_all (length graph.objects + at) (places_of is_pre_data graph.objects) (cut graph).arcs (λ a b h. all_bounds graph at object is a b (default_bound graph.objects at object kind a b h)));
+  behind = λ kind.
+      All-from_recursion (λ bound. needs (cut graph).arcs (length graph.objects + at) bound ≡ true) (places_of is_post_data graph.objects)
+      (behind_all (length graph.objects + at) (places_of is_post_data graph.objects) (cut graph).arcs (λ a b h. all_bounds graph at object is a b (rule_bound graph.objects at object kind a b h)));
+}

@@ -2,11 +2,12 @@
 use Rattle.std.specs.Prelude.{◌≡◌, ◌&&◌, Bool, false, ℕ, ◌+◌, ◌-◌, ◌<◌, true, nat_eq, List, [], All, length, filter, filter_map, option_map, slice_index, slice_index_or, slice_get, MatchOption}
 use Rattle.std.specs.List.{IsDistinct, list_any, range_with_len}
 use Rattle.std.specs.Option.{option_map_or}
+use Rattle.graph_parts.specs.declared.object.Obj.{Obj}
 use Rattle.graph_parts.specs.declared.object.ObjId.{ObjId}
 use Rattle.graph_parts.specs.declared.graph.Edge.{Edge}
 use Rattle.graph_parts.specs.Parts.{Parts}
 use Rattle.graph_walks.specs.Arcs.{needs, is_in}
-use Rattle.dep_sort.specs.Cut.{CutGraph, same_id, breaks, taker, made_of, cut}
+use Rattle.dep_sort.specs.Cut.{CutGraph, same_id, is_default, is_rule, is_pre_data, is_post_data, breaks, taker, places_of, made_of, cut}
 use Rattle.dep_sort.specs.Ordering.{Sorted}
 
 -- the objects of a graph, each once, each behind all that it needs, with the places of these
@@ -44,3 +45,8 @@ IsKept graph edge =
     MatchOption (taker (made_of graph) edge)
     (needs (cut graph).arcs edge.from edge.to ≡ true)
     (λ at. (needs (cut graph).arcs (length graph.objects + at) edge.to ≡ true) × (needs (cut graph).arcs (length graph.objects + at) edge.from ≡ true))
+
+-- what is made stands on its side of the data: a default before them, as their boundary needs it, and a rule behind them
+pub record IsOnItsSide (graph : Parts) (at : ℕ) (object : Obj) : Type 0 where
+  pub before : is_default object.kind ≡ true → All (λ bound. needs (cut graph).arcs bound (length graph.objects + at) ≡ true) (places_of is_pre_data graph.objects)
+  pub behind : is_rule object.kind ≡ true → All (λ bound. needs (cut graph).arcs (length graph.objects + at) bound ≡ true) (places_of is_post_data graph.objects)

@@ -1,6 +1,7 @@
 //! Laws of the definitions, each the contract of a function that does nothing.
-ghost use Rattle.std.specs.Prelude.{◌≡◌, ◌↔◌, ◌<◌, ℕ, [], List, Ok, Err, All, true, false, is_some, length, map, slice_index_or};
+ghost use Rattle.std.specs.Prelude.{◌≡◌, ◌↔◌, ◌<◌, ℕ, [], List, Some, Ok, Err, All, true, false, is_some, length, map, slice_get, slice_index_or};
 ghost use Rattle.graph_parts.specs.declared.graph.Edge.{Edge};
+ghost use Rattle.graph_parts.specs.declared.object.Obj.{Obj};
 ghost use Rattle.graph_parts.specs.declared.object.ObjId.{ObjId};
 ghost use Rattle.graph_parts.specs.Parts.{Parts, IsGraph};
 ghost use Rattle.graph_walks.specs.Arcs.{needs};
@@ -9,7 +10,7 @@ ghost use Rattle.graph_walks.specs.Reaching.{on_cycle};
 ghost use Rattle.dep_sort.specs.Cut.{arc_of, is_breakable, breaks, made_at, made_of, cut};
 ghost use Rattle.dep_sort.specs.Examples.{Orders, Cuts, Loops};
 ghost use Rattle.dep_sort.specs.Ordering.{Sorted, due};
-ghost use Rattle.dep_sort.specs.Sound.{IsOrder, IsLoop, IsKept, breaks_for};
+ghost use Rattle.dep_sort.specs.Sound.{IsOrder, IsLoop, IsKept, IsOnItsSide, breaks_for};
 
 use graph_walks::laws::{
     orders_keep_needs, reached_is_led_to, told_cycles_return, told_steps_are_arcs,
@@ -59,6 +60,11 @@ pub fn made_where_edges_break()
 /// No edge is lost: it is there in the cut graph, or the object that takes it over needs both its ends.
 pub fn edges_are_kept()
     ensures { (graph : Parts) → All (IsKept graph) graph.edges }
+{}
+
+/// A default that is made stands before the data, and a rule behind them.
+pub fn made_stand_on_their_side()
+    ensures { (graph : Parts) (at : ℕ) (object : Obj) → slice_get (made_of graph) at ≡ Some object → IsOnItsSide graph at object }
 {}
 
 /// A loop that is told begins and ends with the same object, and on it each object needs the next.
