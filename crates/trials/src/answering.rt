@@ -2,7 +2,7 @@
 use crate::base::Base;
 use crate::fault::TrialFault;
 use crate::kind::{Kind, kind_of};
-use crate::{changes, checks, comparing, named, tools};
+use crate::{changes, checks, comparing, named, running, selecting, tools};
 use dump_ports::{Files, Sink, Source, read_all, write_all};
 use std::alloc::{AllocError, Global};
 use text_cases::{decoded, show};
@@ -29,6 +29,8 @@ fn of_bytes(
         Kind::Pattern => word_cases::pattern(alloc, text, out),
         Kind::Psql => tools::psql(alloc, &block.base, text, out),
         Kind::PgDump => tools::pg_dump(alloc, &block.base, text, out),
+        Kind::Select => selecting::with_options(alloc, &block.base, text, out),
+        Kind::Script(shown) => running::script(alloc, &block.base, text, shown, out),
         _ => out.extend_from_slice(b"?"),
     }
 }

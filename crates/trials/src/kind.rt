@@ -1,4 +1,5 @@
 //! The kinds of cases.
+use crate::running::Shown;
 use archive_cases::ArchiveKind;
 use text_cases::{TextKind, text_kind};
 
@@ -23,6 +24,10 @@ pub(crate) enum Kind {
     Same,
     /// Texts of system tables: what the catalogue with them stands for by names.
     Named,
+    /// Options of a dump: the objects that it chooses, in order.
+    Select,
+    /// A script: what the engine makes of it.
+    Script(Shown),
     /// A script: what psql answers and writes.
     Psql,
     /// A script: what pg_dump prints once it was applied.
@@ -80,10 +85,13 @@ fn other_of(name: &str) -> Kind {
         "change" => Kind::Change,
         "same" => Kind::Same,
         "named" => Kind::Named,
+        "select" => Kind::Select,
         "psql" => Kind::Psql,
         "pg_dump" => Kind::PgDump,
         "pg_catcmp" => Kind::PgCatcmp,
-        "run" => Kind::Run,
+        "call" => Kind::Run,
+        "run" => Kind::Script(Shown::Keys),
+        "run values" => Kind::Script(Shown::Values),
         "input" => Kind::Input,
         _ => text_kind(name).map_or(Kind::Unknown, Kind::Text),
     }

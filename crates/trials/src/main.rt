@@ -6,12 +6,15 @@
 
 mod answering;
 mod base;
+mod causes;
 mod changes;
 mod checks;
 mod comparing;
 mod fault;
 mod kind;
 mod named;
+mod running;
+mod selecting;
 mod tools;
 
 use crate::answering::answer_all;

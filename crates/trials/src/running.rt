@@ -1,0 +1,153 @@
+//! Cases of scripts that the engine carries out.
+use crate::base::Base;
+use crate::causes::put_cause;
+use crate::comparing::formed;
+use crate::named::put_entries;
+use cat_engine::Engine;
+use cat_names::DataSet;
+use cat_rows::AuthidRow;
+use copy_text::Name;
+use ddl_read::{Located, ReadStmtsError, read_stmts};
+use eng_load::catalogue_map;
+use eng_steps::ApplyError;
+use std::alloc::{AllocError, Global};
+use table_rows::{CheckValuesError, check_values};
+use text_cases::put_key;
+use well_formed::WellFormed;
+
+/// What a case of a script shows.
+#[derive(Clone, Copy, Debug, PartialEq, Eq)]
+pub(crate) enum Shown {
+    /// What each statement answers, and the keys that are there then.
+    Keys,
+    /// The keys with their values that are there then.
+    Values,
+}
+
+fn boot_of(roles: &[AuthidRow]) -> Result<Option<Name>, AllocError> {
+    match roles.iter().find(|role| role.oid == 10) {
+        Some(role) => Ok(Some(role.rolname.clone()?)),
+        None => Ok(None),
+    }
+}
+
+fn loaded(
+    alloc: Global,
+    cat: &WellFormed,
+    rows: &DataSet,
+    boot: Name,
+) -> Result<Engine, CheckValuesError> {
+    check_values(alloc, cat.rows(), rows)?;
+    let named = catalogue_map(alloc, cat.rows(), rows)?;
+    Ok(Engine::new(alloc, named, boot))
+}
+
+fn put_error(alloc: Global, error: &ApplyError, out: &mut Vec<u8>) -> Result<(), AllocError> {
+    match error {
+        ApplyError::Refused(cause) => put_cause(alloc, cause, out),
+        ApplyError::Memory => Err(AllocError),
+    }
+}
+
+// Carries the statements out, and tells what each answers.
+fn put_outcomes(
+    alloc: Global,
+    engine: &mut Engine,
+    statements: &[Located],
+    out: &mut Vec<u8>,
+) -> Result<(), AllocError> {
+    for (i, located) in statements.iter().enumerate() {
+        if i > 0 {
+            out.extend_from_slice(b" / ")?;
+        }
+        match engine.apply(&located.stmt) {
+            Ok(()) => out.extend_from_slice(b"ok")?,
+            Err(error) => put_error(alloc, &error, out)?,
+        }
+    }
+    Ok(())
+}
+
+// The texts of the keys, in the order of their bytes.
+fn put_keys(alloc: Global, engine: &Engine, out: &mut Vec<u8>) -> Result<(), AllocError> {
+    let mut texts = Vec::new(alloc);
+    for (key, _) in engine.named().iter() {
+        let mut text = Vec::new(alloc);
+        put_key(alloc, key, &mut text)?;
+        texts.push(text)?;
+    }
+    texts.sort()?;
+    for (i, text) in texts.iter().enumerate() {
+        if i > 0 {
+            out.extend_from_slice(b", ")?;
+        }
+        out.extend_from_slice(text)?;
+    }
+    Ok(())
+}
+
+fn put_run(
+    alloc: Global,
+    engine: &mut Engine,
+    statements: &[Located],
+    shown: Shown,
+    out: &mut Vec<u8>,
+) -> Result<(), AllocError> {
+    let mut outcomes = Vec::new(alloc);
+    put_outcomes(alloc, engine, statements, &mut outcomes)?;
+    match shown {
+        Shown::Keys => {
+            out.extend_from_slice(&outcomes)?;
+            out.extend_from_slice(b"; keys: ")?;
+            put_keys(alloc, engine, out)
+        }
+        Shown::Values => put_entries(alloc, engine.named(), out),
+    }
+}
+
+fn with_engine(
+    alloc: Global,
+    engine: &mut Engine,
+    script: &[u8],
+    shown: Shown,
+    out: &mut Vec<u8>,
+) -> Result<(), AllocError> {
+    match read_stmts(alloc, script) {
+        Ok(statements) => put_run(alloc, engine, &statements, shown, out),
+        Err(ReadStmtsError::Fault(_)) => out.extend_from_slice(b"?"),
+        Err(ReadStmtsError::Memory) => Err(AllocError),
+    }
+}
+
+fn on_catalogue(
+    alloc: Global,
+    base: &Base,
+    cat: &WellFormed,
+    script: &[u8],
+    shown: Shown,
+    out: &mut Vec<u8>,
+) -> Result<(), AllocError> {
+    let rows = base.data(alloc)?;
+    let Some(boot) = boot_of(cat.rows().pg_authid.as_slice())? else {
+        return out.extend_from_slice(b"?");
+    };
+    match loaded(alloc, cat, &rows, boot) {
+        Ok(mut engine) => with_engine(alloc, &mut engine, script, shown, out),
+        Err(CheckValuesError::Fault(_)) => out.extend_from_slice(b"?"),
+        Err(CheckValuesError::Memory) => Err(AllocError),
+    }
+}
+
+/// Carries the statements of a script out on the base, and shows what that leaves.
+pub(crate) fn script(
+    alloc: Global,
+    base: &Base,
+    script: &[u8],
+    shown: Shown,
+    out: &mut Vec<u8>,
+) -> Result<(), AllocError> {
+    match formed(alloc, base, &Base::new(alloc))? {
+        Some(cat) => on_catalogue(alloc, base, &cat, script, shown, out),
+        None => out.extend_from_slice(b"?"),
+    }
+}
