@@ -5,7 +5,8 @@ use crate::comparing::formed;
 use crate::named::put_entries;
 use cat_engine::Engine;
 use cat_names::DataSet;
-use cat_rows::AuthidRow;
+use cat_rows::{AuthidRow, Catalogue};
+use checked_export::{ExportError, WholeExport, export_whole};
 use copy_text::Name;
 use ddl_read::{Located, ReadStmtsError, read_stmts};
 use eng_load::catalogue_map;
@@ -20,7 +21,7 @@ use well_formed::WellFormed;
 pub(crate) enum Shown {
     /// What each statement answers, and the keys that are there then.
     Keys,
-    /// The keys with their values that are there then.
+    /// The keys with their values that are there then, once all was made into rows and read again.
     Values,
 }
 
@@ -86,9 +87,29 @@ fn put_keys(alloc: Global, engine: &Engine, out: &mut Vec<u8>) -> Result<(), All
     Ok(())
 }
 
+fn put_read_again(alloc: Global, whole: &WholeExport, out: &mut Vec<u8>) -> Result<(), AllocError> {
+    let named = catalogue_map(alloc, whole.catalogue().rows(), whole.rows())?;
+    put_entries(alloc, &named, out)
+}
+
+// The entries of what the engine holds, through the rows that stand for it.
+fn put_written(
+    alloc: Global,
+    engine: &Engine,
+    opening: &Catalogue,
+    out: &mut Vec<u8>,
+) -> Result<(), AllocError> {
+    match export_whole(alloc, engine.named(), opening) {
+        Ok(whole) => put_read_again(alloc, &whole, out),
+        Err(ExportError::NotStanding) => out.extend_from_slice(b"not standing"),
+        Err(ExportError::Memory) => Err(AllocError),
+    }
+}
+
 fn put_run(
     alloc: Global,
     engine: &mut Engine,
+    opening: &Catalogue,
     statements: &[Located],
     shown: Shown,
     out: &mut Vec<u8>,
@@ -101,19 +122,20 @@ fn put_run(
             out.extend_from_slice(b"; keys: ")?;
             put_keys(alloc, engine, out)
         }
-        Shown::Values => put_entries(alloc, engine.named(), out),
+        Shown::Values => put_written(alloc, engine, opening, out),
     }
 }
 
 fn with_engine(
     alloc: Global,
     engine: &mut Engine,
+    opening: &Catalogue,
     script: &[u8],
     shown: Shown,
     out: &mut Vec<u8>,
 ) -> Result<(), AllocError> {
     match read_stmts(alloc, script) {
-        Ok(statements) => put_run(alloc, engine, &statements, shown, out),
+        Ok(statements) => put_run(alloc, engine, opening, &statements, shown, out),
         Err(ReadStmtsError::Fault(_)) => out.extend_from_slice(b"?"),
         Err(ReadStmtsError::Memory) => Err(AllocError),
     }
@@ -132,7 +154,7 @@ fn on_catalogue(
         return out.extend_from_slice(b"?");
     };
     match loaded(alloc, cat, &rows, boot) {
-        Ok(mut engine) => with_engine(alloc, &mut engine, script, shown, out),
+        Ok(mut engine) => with_engine(alloc, &mut engine, cat.rows(), script, shown, out),
         Err(CheckValuesError::Fault(_)) => out.extend_from_slice(b"?"),
         Err(CheckValuesError::Memory) => Err(AllocError),
     }
