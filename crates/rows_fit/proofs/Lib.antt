@@ -1,5 +1,6 @@
 pub mod InOrder
 pub mod Reading
+pub mod Trying
 pub mod KeyLaws
 pub mod Distinct
 pub mod Placing

@@ -15,7 +15,7 @@ pub none_before : (all : Result (List Row) Cause) → all ≡ before [] all
 none_before (Ok more) = refl
 none_before (Err cause) = refl
 
-onto_before : (rows : List Row) (row : Row) (more : Result (List Row) Cause) → before rows (onto_rows (Ok row) more) ≡ before (rows ++ row ∷ []) more
+pub onto_before : (rows : List Row) (row : Row) (more : Result (List Row) Cause) → before rows (onto_rows (Ok row) more) ≡ before (rows ++ row ∷ []) more
 onto_before rows row (Ok more) = ap Ok (sym (append_assoc rows (row ∷ []) more))
 onto_before rows row (Err cause) = refl
 

@@ -7,6 +7,7 @@ ghost use Rattle.copy_text.specs.Reading.{row_of};
 ghost use Rattle.cat_model.specs.CopiedRows.{copied_rows, row_read, rows_read, row_or, fields_cause, no_null};
 ghost use Rattle.rows_fit.specs.Plans.{Stands};
 ghost use Rattle.rows_fit.specs.Causes.{row_or_cause, rows_or_cause};
+ghost use Rattle.rows_fit.specs.Tried.{tried, tried_from};
 
 use crate::fault::{RowFault, cause_of};
 use crate::fields::{fields_fault, required};
@@ -35,6 +36,23 @@ pub fn copied_rows(
     let required = required(alloc, columns.as_slice(), primary)?;
     let order = field_order(alloc, columns.as_slice(), names)?;
     let read = rows_read(alloc, columns.as_slice(), &order, &required, text)?;
+    Ok(as_cause(read))
+}
+
+/// The same for rows whose fields were read before: what `copied_rows` gives for each text whose lines read as these
+/// rows, as a law says. The error says that there was no memory.
+pub fn tried_rows(
+    alloc: Global,
+    columns: &TableColumns,
+    names: &[Name],
+    primary: &[Name],
+    rows: Vec<Row>,
+) -> Result<Result<TableRows, Cause>, AllocError>
+    ensures { IfOk result (λ read. read ≡ tried columns.now names.now primary.now rows.items) }
+{
+    let required = required(alloc, columns.as_slice(), primary)?;
+    let order = field_order(alloc, columns.as_slice(), names)?;
+    let read = rows_tried(alloc, columns.as_slice(), &order, &required, rows)?;
     Ok(as_cause(read))
 }
 
@@ -72,6 +90,29 @@ fn rows_read(
         rest = behind;
     }
     Ok(Ok(rows))
+}
+
+fn rows_tried(
+    alloc: Global,
+    columns: &[ColumnValues],
+    order: &Option<Vec<Option<usize>>>,
+    required: &[bool],
+    rows: Vec<Row>,
+) -> Result<Read, AllocError>
+    requires { length required.now ≡ length columns.now }
+    ensures { IfOk result (λ read. (names primary : List (List ℕ)) → Stands columns.now names primary (option_map (λ o. o.items) order.now) required.now → rows_or_cause read ≡ tried_from columns.now names primary 1 rows.items) }
+{
+    let mut fit = TableRows::new(alloc);
+    let mut number = 0u64;
+    let mut left = rows.into_iter();
+    'rows: while let Some(row) = left.next() {
+        number += 1;
+        match checked_row(alloc, columns, order, required, row)? {
+            Ok(row) => fit.push(row)?,
+            Err(fault) => return Ok(Err((number, fault))),
+        }
+    }
+    Ok(Ok(fit))
 }
 
 fn row_read(

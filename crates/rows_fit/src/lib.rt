@@ -11,7 +11,7 @@ pub mod laws;
 mod names;
 mod order;
 
-pub use copying::copied_rows;
+pub use copying::{copied_rows, tried_rows};
 pub use key_order::by_name;
 pub use keys::{
     ForeignKey, UniqueKey, duplicate_cause, keys_cause, orphan_cause, parent_cause, unique_cause,
