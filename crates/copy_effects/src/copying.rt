@@ -12,13 +12,14 @@ ghost use Rattle.eng_steps.specs.Outcomes.{Steps};
 
 use crate::foreigns::first_foreign_cause;
 use crate::joined::rows_changes;
+use crate::prepared::{Prepared, Source};
 use crate::uniques::{first_unique_cause, primary_of};
 use cat_model::{Cause, Column, QName, TableRows};
 use copy_text::Name;
 use eng_map::{Change, NamedMap};
 use eng_steps::{ApplyError, needs_table};
 use field_values::TableColumns;
-use rows_fit::{all_columns, copied_rows};
+use rows_fit::all_columns;
 use std::alloc::{AllocError, Global};
 
 // Why the table can't have the new rows behind its own, if it can't.
@@ -60,12 +61,12 @@ fn rows_read(
     q: &QName,
     columns: &TableColumns<'_>,
     names: &[Name],
-    text: &[u8],
+    source: Source<'_>,
 ) -> Result<Result<TableRows, Cause>, AllocError>
-    ensures { IfOk result (λ rows. rows ≡ copied_rows columns.now names.now (primary_columns (entries (class_of named.now (class.Constraints q.now)))) text.now) }
+    ensures { IfOk result (λ rows. rows ≡ copied_rows columns.now names.now (primary_columns (entries (class_of named.now (class.Constraints q.now)))) source.entry) }
 {
     let primary = primary_of(named, q)?;
-    copied_rows(alloc, columns, names, primary, text)
+    source.copied(alloc, columns, names, primary)
 }
 
 fn copied_with(
@@ -74,11 +75,11 @@ fn copied_with(
     q: &QName,
     columns: &TableColumns<'_>,
     names: &[Name],
-    text: &[u8],
+    source: Source<'_>,
 ) -> Result<Vec<Change>, ApplyError>
-    ensures { Steps result (outcome (copied_with q.now columns.now names.now text.now) (seen named.now)) (λ changes. Ok changes.items) }
+    ensures { Steps result (outcome (copied_with q.now columns.now names.now source.entry) (seen named.now)) (λ changes. Ok changes.items) }
 {
-    match rows_read(alloc, named, q, columns, names, text)? {
+    match rows_read(alloc, named, q, columns, names, source)? {
         Ok(new) => rows_added(alloc, named, q, columns, new),
         Err(cause) => Err(ApplyError::Refused(cause)),
     }
@@ -90,14 +91,14 @@ fn copied_among(
     q: &QName,
     columns: &TableColumns<'_>,
     names: &[Name],
-    text: &[u8],
+    source: Source<'_>,
 ) -> Result<Vec<Change>, ApplyError>
-    ensures { Steps result (outcome (copied_into q.now names.now text.now columns.now) (seen named.now)) (λ changes. Ok changes.items) }
+    ensures { Steps result (outcome (copied_into q.now names.now source.entry columns.now) (seen named.now)) (λ changes. Ok changes.items) }
 {
     if !all_columns(alloc, columns, names)? {
         return Err(ApplyError::Refused(Cause::WrongColumns));
     }
-    Ok(copied_with(alloc, named, q, columns, names, text)?)
+    Ok(copied_with(alloc, named, q, columns, names, source)?)
 }
 
 fn copied_into(
@@ -106,12 +107,12 @@ fn copied_into(
     q: &QName,
     columns: &[Column],
     names: &[Name],
-    text: &[u8],
+    source: Source<'_>,
 ) -> Result<Vec<Change>, ApplyError>
-    ensures { Steps result (outcome (copied_into q.now names.now text.now columns.now) (seen named.now)) (λ changes. Ok changes.items) }
+    ensures { Steps result (outcome (copied_into q.now names.now source.entry columns.now) (seen named.now)) (λ changes. Ok changes.items) }
 {
     let table = TableColumns::new(alloc, columns)?;
-    copied_among(alloc, named, q, &table, names, text)
+    copied_among(alloc, named, q, &table, names, source)
 }
 
 /// COPY of rows into a table. The rows of the text are read one by one, then all rows of the table are tried against its
@@ -129,5 +130,21 @@ pub fn copy_rows(
     ensures { Steps result (outcome (copy_rows q.now names.now text.now) (seen named.now)) (λ changes. Ok changes.items) }
 {
     let columns = needs_table(named, q)?;
-    Ok(copied_into(alloc, named, q, columns, names, text)?)
+    let source = Source::of_text(text);
+    Ok(copied_into(alloc, named, q, columns, names, source)?)
+}
+
+/// The same for a text that was prepared: its rows are not read again.
+pub fn copy_prepared(
+    alloc: Global,
+    named: &NamedMap,
+    q: &QName,
+    names: &[Name],
+    prepared: Prepared<'_>,
+) -> Result<Vec<Change>, ApplyError>
+    ensures { Steps result (outcome (copy_rows q.now names.now prepared.entry) (seen named.now)) (λ changes. Ok changes.items) }
+{
+    let columns = needs_table(named, q)?;
+    let source = Source::of_prepared(prepared);
+    Ok(copied_into(alloc, named, q, columns, names, source)?)
 }

@@ -4,6 +4,8 @@
 mod copying;
 mod foreigns;
 mod joined;
+mod prepared;
 mod uniques;
 
-pub use copying::copy_rows;
+pub use copying::{copy_prepared, copy_rows};
+pub use prepared::{PrepareError, Prepared, prepare};

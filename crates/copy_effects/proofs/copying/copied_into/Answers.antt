@@ -8,5 +8,5 @@ use Rattle.copy_effects.proofs.copying.copied_into.Goals as goal
 
 pub returns : goal.returns
 returns c =
-    subst (λ (columns : List Column). Steps c.copied_among.result (outcome (copied_into c.args.q.now c.args.names.now c.args.text.now columns) (seen c.args.named.now)) (λ changes. Ok changes.items))
+    subst (λ (columns : List Column). Steps c.copied_among.result (outcome (copied_into c.args.q.now c.args.names.now c.args.source columns) (seen c.args.named.now)) (λ changes. Ok changes.items))
     c.in_ok-table.ensures c.copied_among.ensures

@@ -1,5 +1,5 @@
 -- The rows were read, or the cause.
-use Rattle.std.proofs.Common.{List, Result, Ok, Err, sym, ap, subst, ◌∙◌}
+use Rattle.std.proofs.Common.{List, Result, Ok, sym, ap, subst, ◌∙◌}
 use Rattle.std.specs.FinMap.{get, entries}
 use Rattle.cat_model.specs.declared.cause.Cause.{Cause}
 use Rattle.cat_model.specs.declared.class.Class.TheVariants as class

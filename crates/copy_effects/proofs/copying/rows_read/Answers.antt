@@ -7,6 +7,6 @@ use Rattle.copy_effects.proofs.copying.rows_read.Goals as goal
 
 pub returns : goal.returns
 returns c =
-    IfOk-weaker c.copied_rows.result _ _
-    (λ rows e. e ∙ ap (λ (primary : List Bytes). copied_rows c.args.columns.now c.args.names.now primary c.args.text.now) c.in_ok-primary.ensures)
-    c.copied_rows.ensures
+    IfOk-weaker c.copied.result _ _
+    (λ rows e. e ∙ ap (λ (primary : List Bytes). copied_rows c.args.columns.now c.args.names.now primary c.args.source) c.in_ok-primary.ensures)
+    c.copied.ensures
