@@ -7,5 +7,6 @@
 mod engine;
 mod statements;
 
+pub use copy_effects::{PrepareError, Prepared, prepare};
 pub use engine::Engine;
 pub use statements::changes_of;
