@@ -42,6 +42,26 @@ fn put_error(alloc: Global, error: &ApplyError, out: &mut Vec<u8>) -> Result<(),
     }
 }
 
+// Errors are let go by calls, since their drops would be written out where they stand.
+fn let_go_error(_error: ApplyError) {}
+
+fn let_go_load_error(_error: LoadError) {}
+
+fn put_answer(
+    alloc: Global,
+    answer: Result<(), ApplyError>,
+    out: &mut Vec<u8>,
+) -> Result<(), AllocError> {
+    match answer {
+        Ok(()) => out.extend_from_slice(b"ok"),
+        Err(error) => {
+            let put = put_error(alloc, &error, out);
+            let_go_error(error);
+            put
+        }
+    }
+}
+
 // Carries a COPY out whose rows are read ahead, where they read.
 fn copied(alloc: Global, engine: &mut Engine, stmt: &Stmt, text: &[u8]) -> Result<(), ApplyError> {
     match prepare(alloc, text) {
@@ -68,10 +88,7 @@ fn put_outcomes(
         if i > 0 {
             out.extend_from_slice(b" / ")?;
         }
-        match carried_out(alloc, engine, &located.stmt) {
-            Ok(()) => out.extend_from_slice(b"ok")?,
-            Err(error) => put_error(alloc, &error, out)?,
-        }
+        put_answer(alloc, carried_out(alloc, engine, &located.stmt), out)?;
     }
     Ok(())
 }
@@ -154,6 +171,13 @@ fn put_load_fault(alloc: Global, fault: &LoadFault, out: &mut Vec<u8>) -> Result
     put_cause(alloc, &fault.cause, out)
 }
 
+fn put_load_error(alloc: Global, error: &LoadError, out: &mut Vec<u8>) -> Result<(), AllocError> {
+    match error {
+        LoadError::Fault(fault) => put_load_fault(alloc, fault, out),
+        LoadError::Memory => Err(AllocError),
+    }
+}
+
 // Runs the script where the catalogue was taken in, and else tells why it wasn't.
 fn with_loaded(
     alloc: Global,
@@ -169,8 +193,11 @@ fn with_loaded(
             let mut engine = Engine::new(alloc, named, boot);
             with_engine(alloc, &mut engine, cat.rows(), script, shown, out)
         }
-        Err(LoadError::Fault(fault)) => put_load_fault(alloc, &fault, out),
-        Err(LoadError::Memory) => Err(AllocError),
+        Err(error) => {
+            let put = put_load_error(alloc, &error, out);
+            let_go_load_error(error);
+            put
+        }
     }
 }
 
