@@ -3,16 +3,13 @@ use crate::base::Base;
 use crate::causes::put_cause;
 use crate::comparing::formed;
 use crate::named::put_entries;
-use cat_engine::{Engine, prepare};
-use cat_load::{LoadError, LoadFault, load};
-use cat_model::Stmt;
+use cat_engine::Engine;
 use cat_names::DataSet;
 use cat_rows::{AuthidRow, Catalogue};
 use checked_export::{ExportError, WholeExport, export_whole};
 use copy_text::Name;
 use ddl_read::{Located, ReadStmtsError, read_stmts};
 use eng_load::catalogue_map;
-use eng_map::NamedMap;
 use eng_steps::ApplyError;
 use std::alloc::{AllocError, Global};
 use table_rows::{CheckValuesError, check_values};
@@ -35,45 +32,21 @@ fn boot_of(roles: &[AuthidRow]) -> Result<Option<Name>, AllocError> {
     }
 }
 
+fn loaded(
+    alloc: Global,
+    cat: &WellFormed,
+    rows: &DataSet,
+    boot: Name,
+) -> Result<Engine, CheckValuesError> {
+    check_values(alloc, cat.rows(), rows)?;
+    let named = catalogue_map(alloc, cat.rows(), rows)?;
+    Ok(Engine::new(alloc, named, boot))
+}
+
 fn put_error(alloc: Global, error: &ApplyError, out: &mut Vec<u8>) -> Result<(), AllocError> {
     match error {
         ApplyError::Refused(cause) => put_cause(alloc, cause, out),
         ApplyError::Memory => Err(AllocError),
-    }
-}
-
-// Errors are let go by calls, since their drops would be written out where they stand.
-fn let_go_error(_error: ApplyError) {}
-
-fn let_go_load_error(_error: LoadError) {}
-
-fn put_answer(
-    alloc: Global,
-    answer: Result<(), ApplyError>,
-    out: &mut Vec<u8>,
-) -> Result<(), AllocError> {
-    match answer {
-        Ok(()) => out.extend_from_slice(b"ok"),
-        Err(error) => {
-            let put = put_error(alloc, &error, out);
-            let_go_error(error);
-            put
-        }
-    }
-}
-
-// Carries a COPY out whose rows are read ahead, where they read.
-fn copied(alloc: Global, engine: &mut Engine, stmt: &Stmt, text: &[u8]) -> Result<(), ApplyError> {
-    match prepare(alloc, text) {
-        Ok(prepared) => engine.apply_prepared(stmt, prepared),
-        Err(_) => engine.apply(stmt),
-    }
-}
-
-fn carried_out(alloc: Global, engine: &mut Engine, stmt: &Stmt) -> Result<(), ApplyError> {
-    match stmt {
-        Stmt::CopyRows { rows, .. } => copied(alloc, engine, stmt, rows.as_slice()),
-        _ => engine.apply(stmt),
     }
 }
 
@@ -88,7 +61,10 @@ fn put_outcomes(
         if i > 0 {
             out.extend_from_slice(b" / ")?;
         }
-        put_answer(alloc, carried_out(alloc, engine, &located.stmt), out)?;
+        match engine.apply(&located.stmt) {
+            Ok(()) => out.extend_from_slice(b"ok")?,
+            Err(error) => put_error(alloc, &error, out)?,
+        }
     }
     Ok(())
 }
@@ -165,56 +141,6 @@ fn with_engine(
     }
 }
 
-fn put_load_fault(alloc: Global, fault: &LoadFault, out: &mut Vec<u8>) -> Result<(), AllocError> {
-    let shown = format!(in alloc; "table {}: ", fault.table)?;
-    out.extend_from_slice(shown.as_bytes())?;
-    put_cause(alloc, &fault.cause, out)
-}
-
-fn put_load_error(alloc: Global, error: &LoadError, out: &mut Vec<u8>) -> Result<(), AllocError> {
-    match error {
-        LoadError::Fault(fault) => put_load_fault(alloc, fault, out),
-        LoadError::Memory => Err(AllocError),
-    }
-}
-
-// Runs the script where the catalogue was taken in, and else tells why it wasn't.
-fn with_loaded(
-    alloc: Global,
-    loaded: Result<NamedMap, LoadError>,
-    cat: &WellFormed,
-    boot: Name,
-    script: &[u8],
-    shown: Shown,
-    out: &mut Vec<u8>,
-) -> Result<(), AllocError> {
-    match loaded {
-        Ok(named) => {
-            let mut engine = Engine::new(alloc, named, boot);
-            with_engine(alloc, &mut engine, cat.rows(), script, shown, out)
-        }
-        Err(error) => {
-            let put = put_load_error(alloc, &error, out);
-            let_go_load_error(error);
-            put
-        }
-    }
-}
-
-fn on_rows(
-    alloc: Global,
-    cat: &WellFormed,
-    rows: &DataSet,
-    boot: Name,
-    script: &[u8],
-    shown: Shown,
-    out: &mut Vec<u8>,
-) -> Result<(), CheckValuesError> {
-    check_values(alloc, cat.rows(), rows)?;
-    with_loaded(alloc, load(alloc, cat, rows), cat, boot, script, shown, out)?;
-    Ok(())
-}
-
 fn on_catalogue(
     alloc: Global,
     base: &Base,
@@ -227,8 +153,8 @@ fn on_catalogue(
     let Some(boot) = boot_of(cat.rows().pg_authid.as_slice())? else {
         return out.extend_from_slice(b"?");
     };
-    match on_rows(alloc, cat, &rows, boot, script, shown, out) {
-        Ok(()) => Ok(()),
+    match loaded(alloc, cat, &rows, boot) {
+        Ok(mut engine) => with_engine(alloc, &mut engine, cat.rows(), script, shown, out),
         Err(CheckValuesError::Fault(_)) => out.extend_from_slice(b"?"),
         Err(CheckValuesError::Memory) => Err(AllocError),
     }
