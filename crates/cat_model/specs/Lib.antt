@@ -17,6 +17,7 @@ pub mod ObjectEffects
 pub mod References
 pub mod RelationEffects
 pub mod RoleEffects
+pub mod RowTexts
 pub mod Tables
 pub mod Trees
 pub mod TypeEffects
