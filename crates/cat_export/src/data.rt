@@ -2,14 +2,11 @@
 use crate::ids::Ids;
 use cat_model::{QName, TableRows};
 use cat_names::DataSet;
-use copy_text::write_row;
 use std::alloc::{AllocError, Global};
 
 fn rows_text(alloc: Global, rows: &TableRows) -> Result<Vec<u8>, AllocError> {
     let mut text = Vec::new(alloc);
-    for row in rows.as_slice() {
-        write_row(row.fields(), &mut text)?;
-    }
+    text.extend_from_slice(rows.text())?;
     Ok(text)
 }
 

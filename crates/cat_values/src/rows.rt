@@ -2,8 +2,7 @@
 ghost use Rattle.std.specs.Prelude.{◌≡◌, ◌↔◌, true, IfOk, IsTrue};
 ghost use Rattle.cat_values.specs.Rows.{rows_in, are_rows};
 
-use copy_text::Row;
-use data_rows::{read_rows, same_rows};
+use data_rows::same_rows;
 use std::alloc::{AllocError, Global};
 use std::marker::Model;
 
@@ -25,18 +24,6 @@ impl<'a> Model for TableRows<'a> {
     ghost invariant = { λ r. are_rows r.text.now ≡ true };
 }
 
-// These rows as those of a table.
-fn held(alloc: Global, rows: Vec<Row>) -> Result<cat_model::TableRows, AllocError>
-    ensures { IfOk result (λ held. held ≡ rows.items) }
-{
-    let mut held = cat_model::TableRows::new(alloc);
-    let mut left = rows.into_iter();
-    'rows: while let Some(row) = left.next() {
-        held.push(row)?;
-    }
-    Ok(held)
-}
-
 impl<'a> TableRows<'a> {
     /// The rows of a text whose lines are all rows. They end at the line `\.` or at the text's end.
     pub fn new(text: &'a [u8]) -> TableRows<'a>
@@ -50,7 +37,7 @@ impl<'a> TableRows<'a> {
     pub fn read(&self, alloc: Global) -> Result<cat_model::TableRows, AllocError>
         ensures { IfOk result (λ rows. rows ≡ self.now) }
     {
-        held(alloc, read_rows(alloc, self.text)?)
+        cat_model::TableRows::read(alloc, self.text)
     }
 
     /// Whether both are the same rows in the same order, however their texts spell them. It goes over both texts once.

@@ -1,2 +1,3 @@
+pub mod Filled
 mod Tried
 mod Preparing

@@ -1,5 +1,5 @@
 //! COPY.
-ghost use Rattle.std.specs.Prelude.{◌≡◌, Ok, IfOk};
+ghost use Rattle.std.specs.Prelude.{◌≡◌, ◌<◌, Ok, length, All, IfOk};
 ghost use Rattle.std.specs.FinMap.{entries, get};
 ghost use Rattle.cat_model.specs.declared.class.Class.TheVariants as class;
 ghost use Rattle.cat_model.specs.declared.key.Key.TheVariants as key;
@@ -14,8 +14,8 @@ use crate::foreigns::first_foreign_cause;
 use crate::joined::rows_changes;
 use crate::prepared::{Prepared, Source};
 use crate::uniques::{first_unique_cause, primary_of};
-use cat_model::{Cause, Column, QName, TableRows};
-use copy_text::Name;
+use cat_model::{Cause, Column, Items, QName};
+use copy_text::{Name, Row};
 use eng_map::{Change, NamedMap};
 use eng_steps::{ApplyError, needs_table};
 use field_values::TableColumns;
@@ -28,7 +28,7 @@ fn first_cause(
     named: &NamedMap,
     q: &QName,
     columns: &TableColumns<'_>,
-    new: &TableRows,
+    new: &Items<Row>,
 ) -> Result<Option<Cause>, AllocError>
     ensures { IfOk result (λ because. because ≡ cause_with (seen named.now) q.now columns.now (entries (class_of named.now (class.Constraints q.now))) (entries (class_of named.now (class.Indexes q.now))) (rows_in (get named.now (key.Rows q.now))) new.now) }
 {
@@ -44,13 +44,14 @@ fn rows_added(
     named: &NamedMap,
     q: &QName,
     columns: &TableColumns<'_>,
-    new: TableRows,
+    new: Items<Row>,
 ) -> Result<Vec<Change>, ApplyError>
+    requires { All (λ row. 0 < length row) new }
     ensures { Steps result (outcome (added_with q.now columns.now (entries (class_of named.now (class.Constraints q.now))) (entries (class_of named.now (class.Indexes q.now))) (rows_in (get named.now (key.Rows q.now))) (Ok new)) (seen named.now)) (λ changes. Ok changes.items) }
 {
     match first_cause(alloc, named, q, columns, &new)? {
         Some(cause) => Err(ApplyError::Refused(cause)),
-        None => Ok(rows_changes(alloc, named, q, new)?),
+        None => Ok(rows_changes(alloc, named, q, new.as_slice())?),
     }
 }
 
@@ -62,8 +63,9 @@ fn rows_read(
     columns: &TableColumns<'_>,
     names: &[Name],
     source: Source<'_>,
-) -> Result<Result<TableRows, Cause>, AllocError>
-    ensures { IfOk result (λ rows. rows ≡ copied_rows columns.now names.now (primary_columns (entries (class_of named.now (class.Constraints q.now)))) source.entry) }
+) -> Result<Result<Items<Row>, Cause>, AllocError>
+    ensures rows { IfOk result (λ rows. rows ≡ copied_rows columns.now names.now (primary_columns (entries (class_of named.now (class.Constraints q.now)))) source.entry) }
+    ensures full { IfOk result (λ rows. IfOk rows (λ new. All (λ row. 0 < length row) new)) }
 {
     let primary = primary_of(named, q)?;
     source.copied(alloc, columns, names, primary)

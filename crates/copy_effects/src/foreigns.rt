@@ -15,8 +15,8 @@ ghost use Rattle.cat_model.specs.Tables.{orphan};
 ghost use Rattle.cat_model.specs.Trees.{class_of, same_path, seen};
 ghost use Rattle.rows_fit.specs.KeyCauses.{linked, parent_cause};
 
-use cat_model::{Cause, Class, Column, Constraint, Key, QName, TableRows, Value};
-use copy_text::Name;
+use cat_model::{Cause, Class, Column, Constraint, Items, Key, QName, Value};
+use copy_text::{Name, Row};
 use eng_map::NamedMap;
 use eng_steps::let_go_key;
 use field_values::TableColumns;
@@ -130,19 +130,30 @@ fn columns_under<'m>(named: &'m NamedMap, q: &QName) -> Result<&'m [Column], All
     Ok(columns)
 }
 
-// The rows of a parent: those after the COPY, where the table is its own parent.
-fn parent_rows<'r>(
-    named: &'r NamedMap,
+// The rows that a parent has: the table's own before the COPY, where it is its own parent.
+fn parent_rows(
+    alloc: Global,
+    named: &NamedMap,
     q: &QName,
     parent: &QName,
-    new: &'r TableRows,
-) -> Result<JoinedRows<'r>, AllocError>
-    ensures { IfOk result (λ rows. rows ≡ (if same_path q.now parent.now then rows_in (get named.now (key.Rows q.now)) ++ new.now else rows_in (get named.now (key.Rows parent.now)))) }
+) -> Result<Vec<Row>, AllocError>
+    ensures { IfOk result (λ rows. rows.items ≡ (if same_path q.now parent.now then rows_in (get named.now (key.Rows q.now)) else rows_in (get named.now (key.Rows parent.now)))) }
 {
     if q == parent {
-        Ok(JoinedRows::new(rows_of(named, q)?, new.as_slice()))
+        rows_of(alloc, named, q)
     } else {
-        Ok(JoinedRows::new(rows_of(named, parent)?, &[]))
+        rows_of(alloc, named, parent)
+    }
+}
+
+// The rows of a parent after the COPY: with the new ones behind them, where the table is its own parent.
+fn rows_after<'r>(q: &QName, parent: &QName, rows: &'r [Row], new: &'r [Row]) -> JoinedRows<'r>
+    ensures { result ≡ (if same_path q.now parent.now then rows.now ++ new.now else rows.now) }
+{
+    if q == parent {
+        JoinedRows::new(rows, new)
+    } else {
+        JoinedRows::new(rows, &[])
     }
 }
 
@@ -150,7 +161,7 @@ fn orphan_among<'r>(
     alloc: Global,
     foreign: &Foreign<'_>,
     columns: &TableColumns<'_>,
-    new: &'r TableRows,
+    new: &'r Items<Row>,
     parent_columns: &TableColumns<'_>,
     parent_rows: &JoinedRows<'r>,
 ) -> Result<Option<u64>, AllocError>
@@ -168,21 +179,22 @@ fn orphan_among<'r>(
 }
 
 // The least of the new rows that has no parent for a foreign key.
-fn first_orphan<'r>(
+fn first_orphan(
     alloc: Global,
-    named: &'r NamedMap,
+    named: &NamedMap,
     q: &QName,
     foreign: &Foreign<'_>,
     columns: &TableColumns<'_>,
-    new: &'r TableRows,
+    new: &Items<Row>,
 ) -> Result<Option<u64>, AllocError>
     ensures { IfOk result (λ row. row ≡ orphan columns.now foreign.now.columns new.now (columns_of (get named.now (key.Rel foreign.now.parent))) foreign.now.parent_columns (if same_path q.now foreign.now.parent then rows_in (get named.now (key.Rows q.now)) ++ new.now else rows_in (get named.now (key.Rows foreign.now.parent)))) }
 {
     let parent = foreign.parent();
     let parent_columns = columns_under(named, parent)?;
     let parent_table = TableColumns::new(alloc, parent_columns)?;
-    let parent_rows = parent_rows(named, q, parent, new)?;
-    orphan_among(alloc, foreign, columns, new, &parent_table, &parent_rows)
+    let rows = parent_rows(alloc, named, q, parent)?;
+    let rows_after = rows_after(q, parent, &rows, new.as_slice());
+    orphan_among(alloc, foreign, columns, new, &parent_table, &rows_after)
 }
 
 fn no_parent(name: &Name, row: u64) -> Result<Option<Cause>, AllocError>
@@ -200,7 +212,7 @@ fn cause_among(
     q: &QName,
     foreigns: &[Foreign<'_>],
     columns: &TableColumns<'_>,
-    new: &TableRows,
+    new: &Items<Row>,
 ) -> Result<Option<Cause>, AllocError>
     ensures { IfOk result (λ because. because ≡ parent_cause (map (linked (seen named.now) q.now (rows_in (get named.now (key.Rows q.now)) ++ new.now)) foreigns.now) columns.now new.now) }
 {
@@ -232,7 +244,7 @@ pub(crate) fn first_foreign_cause(
     named: &NamedMap,
     q: &QName,
     columns: &TableColumns<'_>,
-    new: &TableRows,
+    new: &Items<Row>,
 ) -> Result<Option<Cause>, AllocError>
     ensures { IfOk result (λ because. because ≡ parent_cause (map (linked (seen named.now) q.now (rows_in (get named.now (key.Rows q.now)) ++ new.now)) (filter_map foreign_in (entries (class_of named.now (class.Constraints q.now))))) columns.now new.now) }
 {

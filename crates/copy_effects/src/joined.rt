@@ -1,6 +1,7 @@
 //! The rows of a table after a COPY.
-ghost use Rattle.std.specs.Prelude.{◌≡◌, [], ◌∷◌, ◌++◌, Some, IfOk, OnOk};
+ghost use Rattle.std.specs.Prelude.{◌≡◌, ◌<◌, [], ◌∷◌, ◌++◌, length, All, Some, IfOk, OnOk};
 ghost use Rattle.std.specs.FinMap.{get};
+ghost use Rattle.std.specs.Option.{option_copied};
 ghost use Rattle.cat_model.specs.declared.key.Key.TheVariants as key;
 ghost use Rattle.cat_model.specs.declared.value.Value.TheVariants as value;
 ghost use Rattle.cat_model.specs.KeyEffects.{rows_in};
@@ -8,42 +9,51 @@ ghost use Rattle.cat_model.specs.KeyEffects.{rows_in};
 use cat_model::{Key, QName, TableRows, Value};
 use copy_text::Row;
 use eng_map::{Change, NamedMap};
-use eng_steps::one;
-use key_effects::rows_of;
+use eng_steps::{let_go_key, one};
 use std::alloc::{AllocError, Global};
 
+fn copied(alloc: Global, found: Option<&Value>) -> Result<TableRows, AllocError>
+    ensures { IfOk result (λ rows. rows ≡ rows_in (option_copied found.entry)) }
+{
+    match found {
+        Some(Value::Rows(rows)) => Ok(rows.clone()?),
+        _ => Ok(TableRows::new(alloc)),
+    }
+}
+
+// A copy of a table's rows, which is one of their text.
+fn old_rows(alloc: Global, named: &NamedMap, q: &QName) -> Result<TableRows, AllocError>
+    ensures { IfOk result (λ rows. rows ≡ rows_in (get named.now (key.Rows q.now))) }
+{
+    let key = Key::Rows(q.clone()?);
+    let rows = copied(alloc, named.get(&key));
+    let_go_key(key);
+    rows
+}
+
 fn push_rows(all: &mut TableRows, rows: &[Row]) -> Result<(), AllocError>
+    requires { All (λ row. 0 < length row) rows.now }
     ensures { OnOk result (all.new ≡ all.old ++ rows.now) }
 {
     for row in rows {
-        all.push(row.clone()?)?;
+        all.push(row.fields())?;
     }
     Ok(())
 }
 
-// The new rows behind the old ones. Where there are no old ones none is copied.
-fn joined(alloc: Global, old: &[Row], new: TableRows) -> Result<TableRows, AllocError>
-    ensures { IfOk result (λ all. all ≡ old.now ++ new) }
-{
-    if old.is_empty() {
-        return Ok(new);
-    }
-    let mut all = TableRows::new(alloc);
-    push_rows(&mut all, old)?;
-    push_rows(&mut all, new.as_slice())?;
-    Ok(all)
-}
-
+// The new rows behind the table's own.
 fn all_rows(
     alloc: Global,
     named: &NamedMap,
     q: &QName,
-    new: TableRows,
+    new: &[Row],
 ) -> Result<TableRows, AllocError>
-    ensures { IfOk result (λ all. all ≡ rows_in (get named.now (key.Rows q.now)) ++ new) }
+    requires { All (λ row. 0 < length row) new.now }
+    ensures { IfOk result (λ all. all ≡ rows_in (get named.now (key.Rows q.now)) ++ new.now) }
 {
-    let old = rows_of(named, q)?;
-    joined(alloc, old, new)
+    let mut all = old_rows(alloc, named, q)?;
+    push_rows(&mut all, new)?;
+    Ok(all)
 }
 
 /// The table gets the new rows behind its old ones.
@@ -51,9 +61,10 @@ pub(crate) fn rows_changes(
     alloc: Global,
     named: &NamedMap,
     q: &QName,
-    new: TableRows,
+    new: &[Row],
 ) -> Result<Vec<Change>, AllocError>
-    ensures { IfOk result (λ changes. changes.items ≡ (key.Rows q.now, Some (value.Rows (rows_in (get named.now (key.Rows q.now)) ++ new))) ∷ []) }
+    requires { All (λ row. 0 < length row) new.now }
+    ensures { IfOk result (λ changes. changes.items ≡ (key.Rows q.now, Some (value.Rows (rows_in (get named.now (key.Rows q.now)) ++ new.now))) ∷ []) }
 {
     let all = all_rows(alloc, named, q, new)?;
     one(alloc, Key::Rows(q.clone()?), Value::Rows(all))

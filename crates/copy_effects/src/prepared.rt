@@ -6,7 +6,7 @@ ghost use Rattle.cat_model.specs.CopiedRows.{copied_rows};
 ghost use Rattle.copy_effects.specs.declared.prepared.PrepareError.TheVariants.{Memory};
 ghost use Rattle.copy_effects.specs.Prepared.{IsPrepared, ReadsAsSome};
 
-use cat_model::{Cause, TableRows};
+use cat_model::{Cause, Items};
 use copy_text::{CopyFault, Name, Row};
 use data_rows::{read_line, split_line};
 use field_values::TableColumns;
@@ -149,7 +149,7 @@ impl<'t> Source<'t> {
         columns: &TableColumns<'_>,
         names: &[Name],
         primary: &[Name],
-    ) -> Result<Result<TableRows, Cause>, AllocError>
+    ) -> Result<Result<Items<Row>, Cause>, AllocError>
         ensures { IfOk result (λ rows. rows ≡ copied_rows columns.now names.now primary.now self.entry) }
     {
         copied_or_tried(alloc, columns, names, primary, self.text, self.read)
@@ -164,7 +164,7 @@ fn copied_or_tried(
     primary: &[Name],
     text: &[u8],
     read: Option<Vec<Row>>,
-) -> Result<Result<TableRows, Cause>, AllocError>
+) -> Result<Result<Items<Row>, Cause>, AllocError>
     requires { ReadsAsSome text.now (option_map (λ rows. rows.items) read) }
     ensures { IfOk result (λ rows. rows ≡ copied_rows columns.now names.now primary.now text.now) }
 {

@@ -15,7 +15,7 @@ ghost use Rattle.cat_model.specs.Trees.{class_of, is_primary, is_unique, unique_
 ghost use Rattle.rows_fit.specs.KeyCauses.{unique_cause};
 ghost use Rattle.copy_effects.specs.Keys.{primary_in, uniques_of};
 
-use cat_model::{Cause, Class, ConstraintKind, Index, Items, Key, QName, TableRows, Value};
+use cat_model::{Cause, Class, ConstraintKind, Index, Items, Key, QName, Value};
 use copy_text::{Name, Row};
 use eng_map::NamedMap;
 use field_values::TableColumns;
@@ -239,11 +239,11 @@ pub(crate) fn first_unique_cause(
     named: &NamedMap,
     q: &QName,
     columns: &TableColumns<'_>,
-    new: &TableRows,
+    new: &Items<Row>,
 ) -> Result<Option<Cause>, AllocError>
     ensures { IfOk result (λ because. because ≡ unique_cause (uniques_of (entries (class_of named.now (class.Constraints q.now))) (entries (class_of named.now (class.Indexes q.now)))) columns.now (rows_in (get named.now (key.Rows q.now)) ++ new.now)) }
 {
     let uniques = uniques_of(alloc, named, q)?;
-    let old = rows_of(named, q)?;
-    cause_among(alloc, columns, &uniques, old, new.as_slice())
+    let old = rows_of(alloc, named, q)?;
+    cause_among(alloc, columns, &uniques, &old, new.as_slice())
 }

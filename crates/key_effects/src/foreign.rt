@@ -113,16 +113,16 @@ fn first_orphan(
 {
     let table = TableColumns::new(alloc, columns)?;
     let parent_table = TableColumns::new(alloc, parent_columns)?;
-    let rows = rows_of(named, q)?;
-    let parent_rows = rows_of(named, new.parent)?;
+    let rows = rows_of(alloc, named, q)?;
+    let parent_rows = rows_of(alloc, named, new.parent)?;
     orphan_among(
         alloc,
         &table,
         new.columns,
-        rows,
+        &rows,
         &parent_table,
         new.parent_columns,
-        parent_rows,
+        &parent_rows,
     )
 }
 

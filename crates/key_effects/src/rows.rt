@@ -17,23 +17,23 @@ use field_values::TableColumns;
 use row_keys::{JoinedRows, null_in, repeated};
 use std::alloc::{AllocError, Global};
 
-fn rows_in(found: Option<&Value>) -> &[Row]
-    ensures { result.now ≡ rows_in (option_copied found.entry) }
+fn rows_in(alloc: Global, found: Option<&Value>) -> Result<Vec<Row>, AllocError>
+    ensures { IfOk result (λ rows. rows.items ≡ rows_in (option_copied found.entry)) }
 {
     match found {
-        Some(Value::Rows(rows)) => rows.as_slice(),
-        _ => &[],
+        Some(Value::Rows(rows)) => Ok(rows.to_rows(alloc)?),
+        _ => Ok(Vec::new(alloc)),
     }
 }
 
-/// The rows of a table; none where it has none. The only error is want of memory.
-pub fn rows_of<'m>(named: &'m NamedMap, q: &QName) -> Result<&'m [Row], AllocError>
-    ensures { IfOk result (λ rows. rows.now ≡ rows_in (get named.now (key.Rows q.now))) }
+/// The rows of a table, read of their text; none where it has none. The only error is want of memory.
+pub fn rows_of(alloc: Global, named: &NamedMap, q: &QName) -> Result<Vec<Row>, AllocError>
+    ensures { IfOk result (λ rows. rows.items ≡ rows_in (get named.now (key.Rows q.now))) }
 {
     let key = Key::Rows(q.clone()?);
-    let rows = rows_in(named.get(&key));
+    let rows = rows_in(alloc, named.get(&key));
     let_go_key(key);
-    Ok(rows)
+    rows
 }
 
 fn null_among(
@@ -58,8 +58,8 @@ fn first_null(
     ensures { IfOk result (λ pair. pair ≡ null_in 1 columns.now names.now (rows_in (get named.now (key.Rows q.now)))) }
 {
     let table = TableColumns::new(alloc, columns)?;
-    let rows = rows_of(named, q)?;
-    null_among(alloc, &table, names, rows)
+    let rows = rows_of(alloc, named, q)?;
+    null_among(alloc, &table, names, &rows)
 }
 
 /// No row of the table has a null in these of its columns, else `NullValue`.
@@ -106,8 +106,8 @@ pub(crate) fn first_repeated(
     ensures { IfOk result (λ pair. pair ≡ repeated columns.now names.now (rows_in (get named.now (key.Rows q.now)))) }
 {
     let table = TableColumns::new(alloc, columns)?;
-    let rows = rows_of(named, q)?;
-    repeated_among(alloc, &table, names, rows)
+    let rows = rows_of(alloc, named, q)?;
+    repeated_among(alloc, &table, names, &rows)
 }
 
 /// Two rows have one key for the key of this name.

@@ -12,7 +12,7 @@ ghost use Rattle.rows_fit.specs.Tried.{tried, tried_from};
 use crate::fault::{RowFault, cause_of};
 use crate::fields::{fields_fault, required};
 use crate::order::{field_order, ordered};
-use cat_model::{Cause, TableRows};
+use cat_model::{Cause, Items};
 use copy_text::{Name, Row};
 use data_rows::{read_line, split_line};
 use field_values::{ColumnValues, TableColumns};
@@ -30,7 +30,7 @@ pub fn copied_rows(
     names: &[Name],
     primary: &[Name],
     text: &[u8],
-) -> Result<Result<TableRows, Cause>, AllocError>
+) -> Result<Result<Items<Row>, Cause>, AllocError>
     ensures { IfOk result (λ rows. rows ≡ copied_rows columns.now names.now primary.now text.now) }
 {
     let required = required(alloc, columns.as_slice(), primary)?;
@@ -47,7 +47,7 @@ pub fn tried_rows(
     names: &[Name],
     primary: &[Name],
     rows: Vec<Row>,
-) -> Result<Result<TableRows, Cause>, AllocError>
+) -> Result<Result<Items<Row>, Cause>, AllocError>
     ensures { IfOk result (λ read. read ≡ tried columns.now names.now primary.now rows.items) }
 {
     let required = required(alloc, columns.as_slice(), primary)?;
@@ -57,9 +57,9 @@ pub fn tried_rows(
 }
 
 // The rows that were read, or the first row that wasn't, by its number, and why.
-type Read = Result<TableRows, (u64, RowFault)>;
+type Read = Result<Items<Row>, (u64, RowFault)>;
 
-fn as_cause(read: Read) -> Result<TableRows, Cause>
+fn as_cause(read: Read) -> Result<Items<Row>, Cause>
     ensures { result ≡ rows_or_cause read }
 {
     match read {
@@ -78,7 +78,7 @@ fn rows_read(
     requires { length required.now ≡ length columns.now }
     ensures { IfOk result (λ rows. (names primary : List (List ℕ)) → Stands columns.now names primary (option_map (λ o. o.items) order.now) required.now → rows_or_cause rows ≡ rows_read columns.now names primary 1 (data_lines text.now)) }
 {
-    let mut rows = TableRows::new(alloc);
+    let mut rows = Vec::new(alloc);
     let mut rest = text;
     let mut number = 0u64;
     while let Some((line, behind)) = split_line(rest) {
@@ -89,7 +89,7 @@ fn rows_read(
         }
         rest = behind;
     }
-    Ok(Ok(rows))
+    Ok(Ok(Items::new(rows)))
 }
 
 fn rows_tried(
@@ -102,7 +102,7 @@ fn rows_tried(
     requires { length required.now ≡ length columns.now }
     ensures { IfOk result (λ read. (names primary : List (List ℕ)) → Stands columns.now names primary (option_map (λ o. o.items) order.now) required.now → rows_or_cause read ≡ tried_from columns.now names primary 1 rows.items) }
 {
-    let mut fit = TableRows::new(alloc);
+    let mut fit = Vec::new(alloc);
     let mut number = 0u64;
     let mut left = rows.into_iter();
     'rows: while let Some(row) = left.next() {
@@ -112,7 +112,7 @@ fn rows_tried(
             Err(fault) => return Ok(Err((number, fault))),
         }
     }
-    Ok(Ok(fit))
+    Ok(Ok(Items::new(fit)))
 }
 
 fn row_read(

@@ -7,9 +7,9 @@ use crate::checks::same_checks;
 use crate::grants::same_grants;
 use cat_model::{
     Column, Constraint, ConstraintKind, Domain, Encoding, Index, Items, Membership, QName,
-    Resolved, Role, Sequence, SequenceKind, TypeName, Value,
+    Resolved, Role, Sequence, SequenceKind, TableRows, TypeName, Value,
 };
-use copy_text::{Name, Row, Text};
+use copy_text::{Name, Text};
 
 fn same_text_or_none(a: &Option<Text>, b: &Option<Text>) -> bool
     ensures { IsTrue result ↔ (a.now ≡ b.now) }
@@ -216,10 +216,10 @@ fn same_index(a: &Index, b: &Index) -> bool
     same_name(&a.method, &b.method) && a.unique == b.unique && same_text(&a.text, &b.text)
 }
 
-fn same_rows(a: &[Row], b: &[Row]) -> bool
+fn same_rows(a: &TableRows, b: &TableRows) -> bool
     ensures { IsTrue result ↔ (a.now ≡ b.now) }
 {
-    a == b
+    a.is_same(b)
 }
 
 fn same_sequence_value(a: i64, a_is_called: bool, b: i64, b_is_called: bool) -> bool
@@ -252,7 +252,7 @@ pub fn same_value(a: &Value, b: &Value) -> bool
         (Value::DefaultText(a), Value::DefaultText(b)) => same_text(a, b),
         (Value::Constraint(a), Value::Constraint(b)) => same_constraint(a, b),
         (Value::Index(a), Value::Index(b)) => same_index(a, b),
-        (Value::Rows(a), Value::Rows(b)) => same_rows(a.as_slice(), b.as_slice()),
+        (Value::Rows(a), Value::Rows(b)) => same_rows(a, b),
         (Value::SequenceValue(a, a_is_called), Value::SequenceValue(b, b_is_called)) => {
             same_sequence_value(*a, *a_is_called, *b, *b_is_called)
         }

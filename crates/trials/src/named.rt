@@ -37,7 +37,7 @@ pub(crate) fn put_entries(
         }
         put_key(alloc, key, out)?;
         out.extend_from_slice(b" = ")?;
-        put_value(value, out)?;
+        put_value(alloc, value, out)?;
     }
     Ok(())
 }

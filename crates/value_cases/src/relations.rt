@@ -7,7 +7,7 @@ use cat_model::{
     Column, Constraint, ConstraintKind, Domain, Index, Resolved, Sequence, SequenceKind, TableRows,
 };
 use copy_text::{Row, Text};
-use std::alloc::AllocError;
+use std::alloc::{AllocError, Global};
 
 fn put_resolved(resolved: &Resolved, out: &mut Vec<u8>) -> Result<(), AllocError> {
     put_type(&resolved.type_name, out)?;
@@ -120,8 +120,12 @@ fn put_row(row: &Row, out: &mut Vec<u8>) -> Result<(), AllocError> {
 }
 
 /// Appends the rows of a table.
-pub(crate) fn put_rows(rows: &TableRows, out: &mut Vec<u8>) -> Result<(), AllocError> {
-    let rows = rows.as_slice();
+pub(crate) fn put_rows(
+    alloc: Global,
+    rows: &TableRows,
+    out: &mut Vec<u8>,
+) -> Result<(), AllocError> {
+    let rows = rows.to_rows(alloc)?;
     for (i, row) in rows.iter().enumerate() {
         put_between(i, b" | ", out)?;
         put_row(row, out)?;

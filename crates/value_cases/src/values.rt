@@ -7,7 +7,7 @@ use crate::rights::put_grants;
 use crate::roles::{put_member, put_role};
 use cat_model::{QName, Value};
 use copy_text::Name;
-use std::alloc::AllocError;
+use std::alloc::{AllocError, Global};
 
 fn put_index_of(table: &QName, out: &mut Vec<u8>) -> Result<(), AllocError> {
     out.extend_from_slice(b"index of ")?;
@@ -26,7 +26,7 @@ fn put_owner_column(table: &QName, column: &Name, out: &mut Vec<u8>) -> Result<(
 }
 
 /// Appends what stands under a key.
-pub fn put_value(value: &Value, out: &mut Vec<u8>) -> Result<(), AllocError> {
+pub fn put_value(alloc: Global, value: &Value, out: &mut Vec<u8>) -> Result<(), AllocError> {
     match value {
         Value::Role(role) => put_role(role, out),
         Value::Member(member) => put_member(member, out),
@@ -41,7 +41,7 @@ pub fn put_value(value: &Value, out: &mut Vec<u8>) -> Result<(), AllocError> {
         Value::DefaultText(text) | Value::Comment(text) | Value::Body(text) => put_text(text, out),
         Value::Constraint(constraint) => put_constraint(constraint, out),
         Value::Index(index) => put_index(index, out),
-        Value::Rows(rows) => put_rows(rows, out),
+        Value::Rows(rows) => put_rows(alloc, rows, out),
         Value::SequenceValue(n, called) => put_sequence_value(*n, *called, out),
         Value::OwnedBy(table, column) => put_owner_column(table, column, out),
         Value::Grants(grants) => put_grants(grants, out),

@@ -10,7 +10,7 @@ use Rattle.rows_fit.proofs.copying.rows_read.Given as goal
 abbrev pub invariant-loop-line : goal.invariant-loop-line
 invariant-loop-line l =
     ((names primary : List (List ℕ)) → Stands l.columns names primary (option_map (λ o. o.items) l.order) l.required
-    → rows_read l.columns names primary 1 (data_lines l.text) ≡ before l.rows (rows_read l.columns names primary (l.number + 1) (data_lines l.rest))
+    → rows_read l.columns names primary 1 (data_lines l.text) ≡ before l.rows.items (rows_read l.columns names primary (l.number + 1) (data_lines l.rest))
     ) × (l.number + length l.rest ≤ length l.text)
 
 abbrev pub decreases-loop-line : goal.decreases-loop-line
