@@ -1,4 +1,6 @@
 pub mod Rows
-pub mod Finding
 pub mod Places
 pub mod Looking
+pub mod Rights
+pub mod CheckMaps
+pub mod RowLists

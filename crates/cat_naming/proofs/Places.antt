@@ -9,8 +9,8 @@ use Rattle.cat_rows.specs.declared.catalogue.Catalogue.{Catalogue}
 use Rattle.oid_groups.specs.Groups.{group_of}
 use Rattle.oid_groups.proofs.Rows.{rows_of_group}
 use Rattle.cat_naming.specs.Relations.{column_of, columns_of}
-use Rattle.cat_naming.specs.Seen.{column_keys}
-use Rattle.cat_naming.proofs.Finding.{given_at}
+use Rattle.cat_lookups.specs.Beside.{column_keys}
+use Rattle.cat_lookups.proofs.Finding.{given_at}
 
 one_given : {B : Type 0} (g : ℕ → Option B) (p : ℕ) (o : Option B) → g p ≡ o → filter_map g (p ∷ []) ≡ option_to_list o
 one_given g p None e = rw e refl

@@ -9,18 +9,18 @@ pub row_none : {R E : Type 0} (f : R → List E) (es : List E) (rows : List R) �
 row_none f es rows = sym (append-nil es)
 
 -- with the entries of one row more
-pub row_more : {R E : Type 0} (f : R → List E) (es before after more : List E) (rows : List R) (i : ℕ) (row : R) → before ≡ es ++ flat_map f (take i rows) → after ≡ before ++ more → more ≡ f row → i < length rows → row ≡ get_or rows i row → after ≡ es ++ flat_map f (take (i + 1) rows)
-row_more {R} {E} f es before after more rows i row so added given h is =
+pub row_more : {R E : Type 0} (f : R → List E) (es before after : List E) (rows : List R) (i : ℕ) (row : R) → before ≡ es ++ flat_map f (take i rows) → after ≡ before ++ f row → i < length rows → row ≡ get_or rows i row → after ≡ es ++ flat_map f (take (i + 1) rows)
+row_more {R} {E} f es before after rows i row so added h is =
     added
-    ∙ (λ j. so j ++ given j)
+    ∙ ap (λ (all : List E). all ++ f row) so
     ∙ flat_map_more f es (take i rows) row
     ∙ ap (λ rs. es ++ flat_map f rs) (ap (λ r. take i rows ++ r ∷ []) is ∙ sym (take_more rows i row h))
 
 -- the same where the row is read at its place
-pub row_at : {R E : Type 0} (f : R → List E) (es before after more : List E) (rows : List R) (i : ℕ) (d : R) → before ≡ es ++ flat_map f (take i rows) → after ≡ before ++ more → more ≡ f (get_or rows i d) → i < length rows → after ≡ es ++ flat_map f (take (i + 1) rows)
-row_at {R} {E} f es before after more rows i d so added given h =
+pub row_at : {R E : Type 0} (f : R → List E) (es before after : List E) (rows : List R) (i : ℕ) (d : R) → before ≡ es ++ flat_map f (take i rows) → after ≡ before ++ f (get_or rows i d) → i < length rows → after ≡ es ++ flat_map f (take (i + 1) rows)
+row_at {R} {E} f es before after rows i d so added h =
     added
-    ∙ (λ j. so j ++ given j)
+    ∙ ap (λ (all : List E). all ++ f (get_or rows i d)) so
     ∙ flat_map_more f es (take i rows) (get_or rows i d)
     ∙ ap (λ rs. es ++ flat_map f rs) (sym (take_more rows i d h))
 

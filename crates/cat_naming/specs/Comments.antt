@@ -1,6 +1,5 @@
 -- What the rows of pg_description stand for by names.
-use Rattle.std.specs.Prelude.{◌==◌, ℕ, List, [], ◌∷◌, Option, Some, None, if◌then◌else◌}
-use Rattle.std.specs.List.{find}
+use Rattle.std.specs.Prelude.{◌==◌, List, [], ◌∷◌, Option, Some, None, if◌then◌else◌}
 use Rattle.std.specs.Option.{option_map, option_and_then}
 use Rattle.cat_rows.specs.declared.catalogue.Catalogue.{Catalogue}
 use Rattle.cat_rows.specs.declared.notes.DescriptionRow.{DescriptionRow}
@@ -10,15 +9,10 @@ use Rattle.cat_model.specs.declared.object.Object.{Object}
 use Rattle.cat_model.specs.declared.object.Object.TheVariants as object
 use Rattle.cat_model.specs.declared.key.Key.TheVariants as key
 use Rattle.cat_model.specs.declared.value.Value.TheVariants as value
-use Rattle.cat_names.specs.Lookups.{same_oid}
 use Rattle.cat_names.specs.Naming.{Entry}
 use Rattle.plain_tables.specs.Comments.{is_whole}
 use Rattle.cat_book.specs.Paths.{path_of, schema_of, class_path_of}
-use Rattle.cat_naming.specs.Relations.{column_name}
-
--- the first constraint of an oid
-abbrev pub constraint_of : Catalogue → ℕ → Option ConstraintRow
-constraint_of cat oid = find (λ c. same_oid oid c.oid) cat.pg_constraint
+use Rattle.cat_lookups.specs.Found.{column_name, constraint_of}
 
 -- a constraint of a table
 abbrev pub constraint_object : Catalogue → ConstraintRow → Option Object

@@ -3,6 +3,8 @@ pub mod Relations
 pub mod Constraints
 pub mod Comments
 pub mod Entries
-pub mod Seen
+pub mod Roles
+pub mod Rights
 pub mod Texts
 pub mod Examples
+pub mod ValueExamples

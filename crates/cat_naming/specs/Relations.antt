@@ -1,9 +1,8 @@
 -- What the rows of pg_class, pg_attribute, pg_attrdef, pg_sequence and pg_rewrite stand for by names, with the rows of
 -- tables.
-use Rattle.std.specs.Prelude.{ℕ, ℤ, ◌&&◌, List, [], ◌∷◌, filter_map, Option, Some, if◌then◌else◌}
-use Rattle.std.specs.List.{filter, find}
-use Rattle.std.specs.Option.{option_map, option_and_then, option_or}
-use Rattle.std.specs.Ordering.{int_eq}
+use Rattle.std.specs.Prelude.{ℕ, List, [], ◌∷◌, filter_map, Option, Some, if◌then◌else◌}
+use Rattle.std.specs.List.{filter}
+use Rattle.std.specs.Option.{option_map, option_and_then}
 use Rattle.cat_rows.specs.declared.catalogue.Catalogue.{Catalogue}
 use Rattle.cat_rows.specs.declared.relations.ClassRow.{ClassRow}
 use Rattle.cat_rows.specs.declared.relations.AttributeRow.{AttributeRow}
@@ -17,19 +16,19 @@ use Rattle.cat_model.specs.declared.type_name.TypeName.{TypeName}
 use Rattle.cat_model.specs.declared.value.Value.TheVariants as value
 use Rattle.cat_model.specs.declared.value.Column.{Column}
 use Rattle.cat_model.specs.declared.value.Resolved.{Resolved}
-use Rattle.cat_model.specs.Values.{Bytes, Row}
+use Rattle.cat_model.specs.Values.{Row}
 use Rattle.cat_names.specs.declared.rights.GrantKind.{GrantKind}
 use Rattle.cat_names.specs.declared.rights.GrantKind.TheVariants as on
 use Rattle.cat_names.specs.Grants.{grants_of}
 use Rattle.cat_names.specs.Kinds.{relation_kind, is_table, is_view, is_sequence, is_index}
 use Rattle.cat_names.specs.Lookups.{same_oid, role_name, is_no_oid}
 use Rattle.cat_names.specs.Naming.{Entry, under}
-use Rattle.cat_book.specs.Leads.{is_key}
 use Rattle.cat_book.specs.Paths.{class_path, class_path_of}
 use Rattle.row_texts.specs.SequenceTypes.{sequence_kind}
 use Rattle.text_tables.specs.Sequences.{numbers}
 use Rattle.row_texts.specs.ViewTexts.{view_body}
 use Rattle.oid_groups.specs.Orders.{by_number}
+use Rattle.cat_lookups.specs.Found.{column_name, table_of_index}
 use Rattle.cat_naming.specs.Types.{under_path, with_value, typed}
 use Rattle.row_texts.specs.DefaultTexts.{default_said}
 
@@ -50,10 +49,6 @@ column_of cat row = option_map (column_with row) (typed cat row.atttypid row.typ
 abbrev pub columns_of : Catalogue → ℕ → List Column
 columns_of cat oid = filter_map (column_of cat) (by_number (λ a. a.attnum) (filter (λ a. same_oid oid a.attrelid) cat.pg_attribute))
 
--- the name of a relation's column
-abbrev pub column_name : Catalogue → ℕ → ℤ → Option Bytes
-column_name cat oid number = option_map (λ a. a.attname) (find (λ a. same_oid oid a.attrelid && int_eq number a.attnum) cat.pg_attribute)
-
 -- the default of a column
 abbrev pub default_entries : Catalogue → AttrdefRow → List Entry
 default_entries cat row =
@@ -71,14 +66,6 @@ owned_entries cat kind row path =
     (key.Owner (object.Relation path), value.Owner owner)
     ∷ (key.Acl (object.Relation path), value.Grants (grants_of kind owner row.relacl))
     ∷ [])
-
--- the table of the key that has an index
-abbrev pub table_of_key : Catalogue → ℕ → Option ℕ
-table_of_key cat oid = option_map (λ c. c.conrelid) (find (λ c. is_key c && same_oid oid c.conindid) cat.pg_constraint)
-
--- the table of an index: that of its row, or of the key that it belongs to
-abbrev pub table_of_index : Catalogue → ℕ → Option ℕ
-table_of_index cat oid = option_or (option_map (λ i. i.indrelid) (find (λ i. same_oid oid i.indexrelid) cat.pg_index)) (table_of_key cat oid)
 
 -- a table with its rows
 abbrev pub table_entries : Catalogue → RowsByOid → ClassRow → QName → List Entry

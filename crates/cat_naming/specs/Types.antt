@@ -73,14 +73,16 @@ abbrev pub with_value : Option Value → (Value → List Entry) → List Entry
 with_value None entries = []
 with_value (Some v) entries = entries v
 
+-- the owner and the grants of a type of this path
+abbrev pub type_rights : TypeRow → QName → Bytes → List Entry
+type_rights row path owner =
+    (key.Owner (object.Type path), value.Owner owner)
+    ∷ (key.Acl (object.Type path), value.Grants (grants_of on.Type owner row.typacl))
+    ∷ []
+
 -- a type of this path and owner, with its owner and its grants
 abbrev pub owned_type : Catalogue → TypeRow → QName → Bytes → List Entry
-owned_type cat row path owner =
-    with_value (type_value cat row) (λ v.
-    (key.UserType path, v)
-    ∷ (key.Owner (object.Type path), value.Owner owner)
-    ∷ (key.Acl (object.Type path), value.Grants (grants_of on.Type owner row.typacl))
-    ∷ [])
+owned_type cat row path owner = with_value (type_value cat row) (λ v. (key.UserType path, v) ∷ type_rights row path owner)
 
 abbrev pub type_entries : Catalogue → TypeRow → List Entry
 type_entries cat row =

@@ -4,13 +4,11 @@ ghost use Rattle.std.specs.FinMap.{from_entries};
 ghost use Rattle.std.specs.List.{cons_option, slice_get};
 ghost use Rattle.std.specs.Option.{option_and_then};
 ghost use Rattle.constraint_table.specs.Said.{statement_said};
-ghost use Rattle.cat_values.specs.Seen.{checks_seen};
 ghost use Rattle.cat_naming.specs.Types.{check_said, check_of, checks_of};
 
-use crate::naming::Naming;
-use cat_model::Stmt;
+use cat_lookups::Lookups;
+use cat_model::{Checks, Stmt};
 use cat_rows::ConstraintRow;
-use cat_values::{Checks, add_check, no_checks};
 use constraint_table::{only_statement, statement_text, statements_of};
 use copy_text::{Name, Text};
 use std::alloc::{AllocError, Global};
@@ -90,26 +88,36 @@ fn checks_at(
     Ok(checks)
 }
 
-/// The checks of a domain, in the order of their rows.
-pub(crate) fn listed_checks(
+// The checks of a domain, in the order of their rows.
+fn listed_checks(
     alloc: Global,
-    naming: &Naming<'_>,
+    lookups: &Lookups<'_>,
     domain: u32,
 ) -> Result<Vec<(Name, Text)>, AllocError>
-    ensures { IfOk result (λ checks. checks.items ≡ checks_of naming.now domain) }
+    ensures { IfOk result (λ checks. checks.items ≡ checks_of lookups.now domain) }
 {
-    let rows = naming.tables().pg_constraint.as_slice();
-    checks_at(alloc, rows, naming.check_places(domain))
+    let rows = lookups.tables().pg_constraint.as_slice();
+    checks_at(alloc, rows, lookups.check_places(domain))
 }
 
-/// These checks by name. Of two of a name the first counts.
-pub(crate) fn checks_by_name(alloc: Global, listed: Vec<(Name, Text)>) -> Result<Checks, AllocError>
-    ensures { IfOk result (λ checks. checks_seen checks ≡ from_entries listed.items) }
+// These checks by name, of which the first of a name counts: the last is put first.
+fn by_name(alloc: Global, mut listed: Vec<(Name, Text)>) -> Result<Checks, AllocError>
+    ensures { IfOk result (λ checks. checks ≡ from_entries listed.items) }
 {
-    let mut checks = no_checks(alloc);
-    let mut left = listed.into_iter();
-    'checks: while let Some((name, text)) = left.next() {
-        add_check(&mut checks, name, text)?;
+    let mut checks = Checks::new(alloc);
+    'checks: while let Some((name, text)) = listed.pop() {
+        checks.put(name, text)?;
     }
     Ok(checks)
+}
+
+/// The checks of a domain, by name. Of two of a name the first counts.
+pub(crate) fn checks_of(
+    alloc: Global,
+    lookups: &Lookups<'_>,
+    domain: u32,
+) -> Result<Checks, AllocError>
+    ensures { IfOk result (λ checks. checks ≡ from_entries (checks_of lookups.now domain)) }
+{
+    by_name(alloc, listed_checks(alloc, lookups, domain)?)
 }

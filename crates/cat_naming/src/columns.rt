@@ -1,33 +1,31 @@
 //! The columns of tables, and their defaults.
-ghost use Rattle.std.specs.Prelude.{◌≡◌, ◌++◌, map, option_map, IfOk, OnOk};
+ghost use Rattle.std.specs.Prelude.{◌≡◌, ◌++◌, IfOk, OnOk};
 ghost use Rattle.std.specs.List.{flat_map, slice_get};
 ghost use Rattle.std.specs.Option.{option_and_then, option_to_list};
-ghost use Rattle.cat_values.specs.Seen.{column_seen};
 ghost use Rattle.cat_naming.specs.Relations.{column_of, columns_of, default_entries};
-ghost use Rattle.cat_naming.specs.Seen.{entries_seen};
 
-use crate::entries::Entries;
-use crate::naming::Naming;
+use crate::entries::{Entries, push_entry};
 use crate::texts::typed;
-use cat_model::Key;
+use cat_lookups::Lookups;
+use cat_model::{Column, Key, Value};
 use cat_rows::{AttrdefRow, AttributeRow};
-use cat_values::{Column, NamedValue};
 use row_texts::default_said;
 use std::alloc::{AllocError, Global};
 
 // A column by its row.
-fn column_of<'a>(
+fn column_of(
     alloc: Global,
-    naming: &'a Naming<'a>,
-    row: &'a AttributeRow,
-) -> Result<Option<Column<'a>>, AllocError>
-    ensures { IfOk result (λ column. option_map column_seen column ≡ column_of naming.now row.now) }
+    lookups: &Lookups<'_>,
+    row: &AttributeRow,
+) -> Result<Option<Column>, AllocError>
+    ensures { IfOk result (λ column. column ≡ column_of lookups.now row.now) }
 {
-    match typed(alloc, naming, row.atttypid, &row.typtext)? {
-        Some(found) => Ok(Some(Column {
-            name: &row.attname,
-            type_name: found.name,
-            end: found.end,
+    let name = row.attname.clone()?;
+    match typed(alloc, lookups, row.atttypid, &row.typtext)? {
+        Some((type_name, resolved)) => Ok(Some(Column {
+            name,
+            type_name,
+            resolved,
             not_null: row.attnotnull,
         })),
         None => Ok(None),
@@ -35,26 +33,23 @@ fn column_of<'a>(
 }
 
 // The same of the row at a place.
-fn column_at<'a>(
+fn column_at(
     alloc: Global,
-    naming: &'a Naming<'a>,
-    rows: &'a [AttributeRow],
+    lookups: &Lookups<'_>,
+    rows: &[AttributeRow],
     place: usize,
-) -> Result<Option<Column<'a>>, AllocError>
-    ensures { IfOk result (λ column. option_map column_seen column ≡ option_and_then (column_of naming.now) (slice_get rows.now place)) }
+) -> Result<Option<Column>, AllocError>
+    ensures { IfOk result (λ column. column ≡ option_and_then (column_of lookups.now) (slice_get rows.now place)) }
 {
     match rows.get(place) {
-        Some(row) => column_of(alloc, naming, row),
+        Some(row) => column_of(alloc, lookups, row),
         None => Ok(None),
     }
 }
 
 // Adds a column behind others, where there is one.
-fn push_column<'a>(
-    columns: &mut Vec<Column<'a>>,
-    column: Option<Column<'a>>,
-) -> Result<(), AllocError>
-    ensures { OnOk result (map column_seen columns.new.items ≡ map column_seen columns.old.items ++ option_to_list (option_map column_seen column.entry)) }
+fn push_column(columns: &mut Vec<Column>, column: Option<Column>) -> Result<(), AllocError>
+    ensures { OnOk result (columns.new.items ≡ columns.old.items ++ option_to_list column) }
 {
     if let Some(column) = column {
         columns.push(column)?;
@@ -63,55 +58,55 @@ fn push_column<'a>(
 }
 
 /// The columns of a table by rising numbers.
-pub(crate) fn columns_of<'a>(
+pub(crate) fn columns_of(
     alloc: Global,
-    naming: &'a Naming<'a>,
+    lookups: &Lookups<'_>,
     table: u32,
-) -> Result<Vec<Column<'a>>, AllocError>
-    ensures { IfOk result (λ columns. map column_seen columns.items ≡ columns_of naming.now table) }
+) -> Result<Vec<Column>, AllocError>
+    ensures { IfOk result (λ columns. columns.items ≡ columns_of lookups.now table) }
 {
-    let rows = naming.tables().pg_attribute.as_slice();
+    let rows = lookups.tables().pg_attribute.as_slice();
     let mut columns = Vec::new(alloc);
-    for place in naming.column_places(table) {
-        let column = column_at(alloc, naming, rows, *place)?;
+    for place in lookups.column_places(table) {
+        let column = column_at(alloc, lookups, rows, *place)?;
         push_column(&mut columns, column)?;
     }
     Ok(columns)
 }
 
-// The default of a column.
-fn default_entries<'a>(
+// Adds the default of a column.
+fn push_default(
     alloc: Global,
-    naming: &'a Naming<'a>,
+    entries: &mut Entries,
+    lookups: &Lookups<'_>,
     row: &AttrdefRow,
-) -> Result<Entries<'a>, AllocError>
-    ensures { IfOk result (λ entries. entries_seen entries ≡ default_entries naming.now row.now) }
+) -> Result<(), AllocError>
+    ensures { OnOk result (entries.new.items ≡ entries.old.items ++ default_entries lookups.now row.now) }
 {
-    let Some(table) = naming.book().class_path_of(row.adrelid)? else {
-        return Ok(Entries::none(alloc));
+    let Some(table) = lookups.book().class_path_of(row.adrelid)? else {
+        return Ok(());
     };
-    let Some(column) = naming.column_name(row.adrelid, row.adnum) else {
-        return Ok(Entries::none(alloc));
+    let Some(column) = lookups.column_name(row.adrelid, row.adnum) else {
+        return Ok(());
     };
     let Some(text) = default_said(alloc, row.adexpr.as_bytes())? else {
-        return Ok(Entries::none(alloc));
+        return Ok(());
     };
     let key = Key::Default(table, column.clone()?);
-    Entries::one(alloc, key, NamedValue::DefaultText(text))
+    push_entry(entries, key, Value::DefaultText(text))
 }
 
 /// Adds what the defaults of columns give.
-pub(crate) fn add_defaults<'a>(
+pub(crate) fn add_defaults(
     alloc: Global,
-    entries: &mut Entries<'a>,
-    naming: &'a Naming<'a>,
+    entries: &mut Entries,
+    lookups: &Lookups<'_>,
     rows: &[AttrdefRow],
 ) -> Result<(), AllocError>
-    ensures { OnOk result (entries_seen entries.new ≡ entries_seen entries.old ++ flat_map (default_entries naming.now) rows.now) }
+    ensures { OnOk result (entries.new.items ≡ entries.old.items ++ flat_map (default_entries lookups.now) rows.now) }
 {
     for row in rows {
-        let more = default_entries(alloc, naming, row)?;
-        entries.append(more)?;
+        push_default(alloc, entries, lookups, row)?;
     }
     Ok(())
 }

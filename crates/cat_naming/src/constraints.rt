@@ -4,17 +4,13 @@ ghost use Rattle.std.specs.List.{flat_map};
 ghost use Rattle.std.specs.Option.{option_and_then};
 ghost use Rattle.cat_model.specs.KeyEffects.{key_value, foreign_value};
 ghost use Rattle.cat_model.specs.RelationEffects.{check_value};
-ghost use Rattle.cat_values.specs.Seen.{value_seen};
 ghost use Rattle.constraint_table.specs.Said.{statement_said};
 ghost use Rattle.cat_naming.specs.Constraints.{constraint_value, constraint_entries, index_entry, index_entries};
-ghost use Rattle.cat_naming.specs.Seen.{entries_seen};
 
-use crate::entries::Entries;
-use crate::naming::Naming;
-use crate::paths::same_path;
-use cat_model::{ConstraintKind, Items, Key, QName, Stmt};
+use crate::entries::{Entries, push_entry};
+use cat_lookups::Lookups;
+use cat_model::{Constraint, ConstraintKind, Index, Items, Key, QName, Stmt, Value};
 use cat_rows::{ConstraintRow, IndexRow};
-use cat_values::{Constraint, Index, NamedValue, Parent};
 use constraint_table::{only_statement, statement_text, statements_of};
 use copy_text::{Name, Text};
 use row_texts::{IndexText, index_said};
@@ -28,17 +24,17 @@ fn same_names(alloc: Global, names: &Items<Name>) -> Result<Items<Name>, AllocEr
 }
 
 // A primary key or a unique constraint.
-fn key_value<'a>(
+fn key_value(
     alloc: Global,
     kind: ConstraintKind,
     columns: &Items<Name>,
     rest: &Text,
-) -> Result<NamedValue<'a>, AllocError>
-    ensures { IfOk result (λ value. value_seen value ≡ key_value kind columns.now rest.now) }
+) -> Result<Value, AllocError>
+    ensures { IfOk result (λ value. value ≡ key_value kind columns.now rest.now) }
 {
     let columns = same_names(alloc, columns)?;
     let text = rest.clone()?;
-    Ok(NamedValue::Constraint(Constraint {
+    Ok(Value::Constraint(Constraint {
         kind,
         columns,
         parent: None,
@@ -47,36 +43,33 @@ fn key_value<'a>(
 }
 
 // A foreign key.
-fn foreign_value<'a>(
+fn foreign_value(
     alloc: Global,
     columns: &Items<Name>,
     parent: &QName,
     parent_columns: &Items<Name>,
     rest: &Text,
-) -> Result<NamedValue<'a>, AllocError>
-    ensures { IfOk result (λ value. value_seen value ≡ foreign_value columns.now parent.now parent_columns.now rest.now) }
+) -> Result<Value, AllocError>
+    ensures { IfOk result (λ value. value ≡ foreign_value columns.now parent.now parent_columns.now rest.now) }
 {
     let columns = same_names(alloc, columns)?;
-    let table = same_path(parent)?;
+    let parent = parent.clone()?;
     let parent_columns = same_names(alloc, parent_columns)?;
     let text = rest.clone()?;
-    Ok(NamedValue::Constraint(Constraint {
+    Ok(Value::Constraint(Constraint {
         kind: ConstraintKind::Foreign,
         columns,
-        parent: Some(Parent {
-            table,
-            columns: parent_columns,
-        }),
+        parent: Some((parent, parent_columns)),
         text,
     }))
 }
 
 // A check.
-fn check_value<'a>(alloc: Global, text: &Text) -> Result<NamedValue<'a>, AllocError>
-    ensures { IfOk result (λ value. value_seen value ≡ check_value text.now) }
+fn check_value(alloc: Global, text: &Text) -> Result<Value, AllocError>
+    ensures { IfOk result (λ value. value ≡ check_value text.now) }
 {
     let text = text.clone()?;
-    Ok(NamedValue::Constraint(Constraint {
+    Ok(Value::Constraint(Constraint {
         kind: ConstraintKind::Check,
         columns: Items::new(Vec::new(alloc)),
         parent: None,
@@ -85,8 +78,8 @@ fn check_value<'a>(alloc: Global, text: &Text) -> Result<NamedValue<'a>, AllocEr
 }
 
 // What a statement that adds a constraint sets.
-fn constraint_value<'a>(alloc: Global, stmt: &Stmt) -> Result<Option<NamedValue<'a>>, AllocError>
-    ensures { IfOk result (λ value. option_map value_seen value ≡ constraint_value stmt.now) }
+fn constraint_value(alloc: Global, stmt: &Stmt) -> Result<Option<Value>, AllocError>
+    ensures { IfOk result (λ value. value ≡ constraint_value stmt.now) }
 {
     match stmt {
         Stmt::AddPrimary { columns, rest, .. } => {
@@ -116,8 +109,8 @@ fn constraint_value<'a>(alloc: Global, stmt: &Stmt) -> Result<Option<NamedValue<
 }
 
 // The same of a statement that there may be.
-fn value_in<'a>(alloc: Global, stmt: Option<&Stmt>) -> Result<Option<NamedValue<'a>>, AllocError>
-    ensures { IfOk result (λ value. option_map value_seen value ≡ option_and_then constraint_value (option_map (λ s. s.now) stmt.entry)) }
+fn value_in(alloc: Global, stmt: Option<&Stmt>) -> Result<Option<Value>, AllocError>
+    ensures { IfOk result (λ value. value ≡ option_and_then constraint_value (option_map (λ s. s.now) stmt.entry)) }
 {
     match stmt {
         Some(stmt) => constraint_value(alloc, stmt),
@@ -126,51 +119,51 @@ fn value_in<'a>(alloc: Global, stmt: Option<&Stmt>) -> Result<Option<NamedValue<
 }
 
 // What the text of a constraint says.
-fn value_said<'a>(alloc: Global, text: &Text) -> Result<Option<NamedValue<'a>>, AllocError>
-    ensures { IfOk result (λ value. option_map value_seen value ≡ option_and_then constraint_value (statement_said text.now)) }
+fn value_said(alloc: Global, text: &Text) -> Result<Option<Value>, AllocError>
+    ensures { IfOk result (λ value. value ≡ option_and_then constraint_value (statement_said text.now)) }
 {
     let text = statement_text(alloc, text.as_bytes())?;
     let statements = statements_of(alloc, &text)?;
     value_in(alloc, only_statement(text.len(), &statements))
 }
 
-// A constraint of a table.
-fn constraint_entries<'a>(
+// Adds a constraint of a table.
+fn push_constraint(
     alloc: Global,
-    naming: &'a Naming<'a>,
+    entries: &mut Entries,
+    lookups: &Lookups<'_>,
     row: &ConstraintRow,
-) -> Result<Entries<'a>, AllocError>
-    ensures { IfOk result (λ entries. entries_seen entries ≡ constraint_entries naming.now row.now) }
+) -> Result<(), AllocError>
+    ensures { OnOk result (entries.new.items ≡ entries.old.items ++ constraint_entries lookups.now row.now) }
 {
-    let Some(table) = naming.book().class_path_of(row.conrelid)? else {
-        return Ok(Entries::none(alloc));
+    let Some(table) = lookups.book().class_path_of(row.conrelid)? else {
+        return Ok(());
     };
     let name = row.conname.clone()?;
     match value_said(alloc, &row.condef)? {
-        Some(value) => Entries::one(alloc, Key::Con(table, name), value),
-        None => Ok(Entries::none(alloc)),
+        Some(value) => push_entry(entries, Key::Con(table, name), value),
+        None => Ok(()),
     }
 }
 
 /// Adds what the constraints of tables give.
-pub(crate) fn add_constraints<'a>(
+pub(crate) fn add_constraints(
     alloc: Global,
-    entries: &mut Entries<'a>,
-    naming: &'a Naming<'a>,
+    entries: &mut Entries,
+    lookups: &Lookups<'_>,
     rows: &[ConstraintRow],
 ) -> Result<(), AllocError>
-    ensures { OnOk result (entries_seen entries.new ≡ entries_seen entries.old ++ flat_map (constraint_entries naming.now) rows.now) }
+    ensures { OnOk result (entries.new.items ≡ entries.old.items ++ flat_map (constraint_entries lookups.now) rows.now) }
 {
     for row in rows {
-        let more = constraint_entries(alloc, naming, row)?;
-        entries.append(more)?;
+        push_constraint(alloc, entries, lookups, row)?;
     }
     Ok(())
 }
 
-// What the text of an index gives.
-fn index_entry<'a>(alloc: Global, said: IndexText) -> Result<Entries<'a>, AllocError>
-    ensures { IfOk result (λ entries. entries_seen entries ≡ index_entry said ∷ []) }
+// Adds what the text of an index gives.
+fn push_said(entries: &mut Entries, said: IndexText) -> Result<(), AllocError>
+    ensures { OnOk result (entries.new.items ≡ entries.old.items ++ index_entry said ∷ []) }
 {
     let IndexText {
         unique,
@@ -184,30 +177,29 @@ fn index_entry<'a>(alloc: Global, said: IndexText) -> Result<Entries<'a>, AllocE
         unique,
         text: rest,
     };
-    Entries::one(alloc, Key::Index(table, name), NamedValue::Index(index))
+    push_entry(entries, Key::Index(table, name), Value::Index(index))
 }
 
-// An index that isn't a constraint's, as its text says it.
-fn index_entries<'a>(alloc: Global, row: &IndexRow) -> Result<Entries<'a>, AllocError>
-    ensures { IfOk result (λ entries. entries_seen entries ≡ index_entries row.now) }
+// Adds an index that isn't a constraint's, as its text says it.
+fn push_index(alloc: Global, entries: &mut Entries, row: &IndexRow) -> Result<(), AllocError>
+    ensures { OnOk result (entries.new.items ≡ entries.old.items ++ index_entries row.now) }
 {
     match index_said(alloc, row.indexdef.as_bytes())? {
-        Some(said) => index_entry(alloc, said),
-        None => Ok(Entries::none(alloc)),
+        Some(said) => push_said(entries, said),
+        None => Ok(()),
     }
 }
 
 /// Adds what the indexes give.
-pub(crate) fn add_indexes<'a>(
+pub(crate) fn add_indexes(
     alloc: Global,
-    entries: &mut Entries<'a>,
+    entries: &mut Entries,
     rows: &[IndexRow],
 ) -> Result<(), AllocError>
-    ensures { OnOk result (entries_seen entries.new ≡ entries_seen entries.old ++ flat_map index_entries rows.now) }
+    ensures { OnOk result (entries.new.items ≡ entries.old.items ++ flat_map index_entries rows.now) }
 {
     for row in rows {
-        let more = index_entries(alloc, row)?;
-        entries.append(more)?;
+        push_index(alloc, entries, row)?;
     }
     Ok(())
 }

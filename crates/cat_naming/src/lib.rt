@@ -7,14 +7,12 @@ mod columns;
 mod comments;
 mod constraints;
 mod entries;
+mod grants;
 pub mod laws;
 mod named;
-mod naming;
-mod paths;
 mod relations;
 mod sequences;
 mod texts;
 mod types;
 
-pub use named::catalogue_named;
-pub use naming::Naming;
+pub use named::catalogue_map;

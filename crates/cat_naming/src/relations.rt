@@ -1,173 +1,175 @@
 //! What the rows of pg_class give: tables with their rows, views, the owners of sequences, and indexes as relations.
-ghost use Rattle.std.specs.Prelude.{◌≡◌, [], ◌∷◌, ◌++◌, true, IfOk, OnOk};
+ghost use Rattle.std.specs.Prelude.{◌≡◌, [], ◌∷◌, ◌++◌, OnOk};
 ghost use Rattle.std.specs.List.{flat_map};
 ghost use Rattle.cat_model.specs.declared.key.Key.TheVariants as key;
 ghost use Rattle.cat_model.specs.declared.value.Value.TheVariants as value;
-ghost use Rattle.cat_values.specs.Rows.{are_rows};
 ghost use Rattle.cat_naming.specs.Relations.{columns_of, owned_entries, table_entries, view_entries, index_relation_entries, relation_entries, class_entries};
 ghost use Rattle.table_rows.specs.Values.{text_of};
-ghost use Rattle.cat_naming.specs.Texts.{rows_by_oid, IsRead, AreRead};
-ghost use Rattle.cat_naming.specs.Seen.{entries_seen};
+ghost use Rattle.cat_naming.specs.Texts.{rows_by_oid};
 
 use crate::columns::columns_of;
-use crate::entries::{Entries, grants_entry, owner_entry};
-use crate::naming::Naming;
-use crate::paths::same_path;
-use cat_model::{Items, Key, Object, QName};
+use crate::entries::{Entries, push_entry, push_grants, push_owner};
+use cat_lookups::Lookups;
+use cat_model::{Items, Key, Object, QName, TableRows, Value};
 use cat_names::{DataSet, GrantKind, RelationKind, relation_kind};
 use cat_rows::ClassRow;
-use cat_values::{NamedValue, TableRows};
 use std::alloc::{AllocError, Global};
 
-// An owner and grants.
-fn owned_entries<'a>(
+// Adds an owner and grants.
+fn push_owned(
     alloc: Global,
-    naming: &'a Naming<'a>,
+    entries: &mut Entries,
+    lookups: &Lookups<'_>,
     kind: GrantKind,
-    row: &'a ClassRow,
-    path: &QName,
-) -> Result<Entries<'a>, AllocError>
-    ensures { IfOk result (λ entries. entries_seen entries ≡ owned_entries naming.now kind row.now path.now) }
-{
-    let Some(owner) = naming.book().role_name(row.relowner) else {
-        return Ok(Entries::none(alloc));
-    };
-    let object = Object::Relation(same_path(path)?);
-    let mut entries = owner_entry(alloc, object, owner)?;
-    let object = Object::Relation(same_path(path)?);
-    let granted = grants_entry(alloc, kind, object, owner, &row.relacl)?;
-    entries.append(granted)?;
-    Ok(entries)
-}
-
-// The text of a table's rows.
-fn text_of<'a>(rows: &'a DataSet, table: u32) -> &'a [u8]
-    ensures { result.now ≡ text_of rows.now table }
-{
-    match rows.text(table) {
-        Some(text) => text,
-        None => b"",
-    }
-}
-
-// The columns of a table under its path.
-fn table_entry<'a>(
-    alloc: Global,
-    naming: &'a Naming<'a>,
-    table: u32,
-    path: &QName,
-) -> Result<Entries<'a>, AllocError>
-    ensures { IfOk result (λ one. entries_seen one ≡ (key.Rel path.now, value.Table (columns_of naming.now table)) ∷ []) }
-{
-    let key = Key::Rel(same_path(path)?);
-    let columns = Items::new(columns_of(alloc, naming, table)?);
-    Entries::one(alloc, key, NamedValue::Table(columns))
-}
-
-// A table with its rows.
-fn table_entries<'a>(
-    alloc: Global,
-    naming: &'a Naming<'a>,
-    rows: &'a DataSet,
-    row: &'a ClassRow,
-    path: &QName,
-) -> Result<Entries<'a>, AllocError>
-    requires { are_rows (text_of rows.now row.now.oid) ≡ true }
-    ensures { IfOk result (λ entries. entries_seen entries ≡ table_entries naming.now (rows_by_oid rows.now) row.now path.now) }
-{
-    let table = table_entry(alloc, naming, row.oid, path)?;
-    let key = Key::Rows(same_path(path)?);
-    let held = TableRows::new(text_of(rows, row.oid));
-    let held = Entries::one(alloc, key, NamedValue::Rows(held))?;
-    let owned = owned_entries(alloc, naming, GrantKind::Table, row, path)?;
-    table.with_two(held, owned)
-}
-
-// A view.
-fn view_entries<'a>(
-    alloc: Global,
-    naming: &'a Naming<'a>,
-    row: &'a ClassRow,
-    path: &QName,
-) -> Result<Entries<'a>, AllocError>
-    ensures { IfOk result (λ entries. entries_seen entries ≡ view_entries naming.now row.now path.now) }
-{
-    let key = Key::Rel(same_path(path)?);
-    let mut entries = Entries::one(alloc, key, NamedValue::View)?;
-    let owned = owned_entries(alloc, naming, GrantKind::Table, row, path)?;
-    entries.append(owned)?;
-    Ok(entries)
-}
-
-// An index as a relation, of its table.
-fn index_relation_entries<'a>(
-    alloc: Global,
-    naming: &'a Naming<'a>,
     row: &ClassRow,
     path: &QName,
-) -> Result<Entries<'a>, AllocError>
-    ensures { IfOk result (λ entries. entries_seen entries ≡ index_relation_entries naming.now row.now path.now) }
+) -> Result<(), AllocError>
+    ensures { OnOk result (entries.new.items ≡ entries.old.items ++ owned_entries lookups.now kind row.now path.now) }
 {
-    let Some(table) = naming.table_of_index(row.oid) else {
-        return Ok(Entries::none(alloc));
+    let Some(owner) = lookups.book().role_name(row.relowner) else {
+        return Ok(());
     };
-    let Some(table) = naming.book().class_path_of(table)? else {
-        return Ok(Entries::none(alloc));
-    };
-    let key = Key::Rel(same_path(path)?);
-    Entries::one(alloc, key, NamedValue::IndexOf(table))
+    push_owner(entries, Object::Relation(path.clone()?), owner)?;
+    let object = Object::Relation(path.clone()?);
+    push_grants(alloc, entries, kind, object, owner, &row.relacl)
 }
 
-// A relation by its kind; what a sequence is stands in pg_sequence.
-fn relation_entries<'a>(
+// The text of a table's rows; none is the empty text.
+fn text_of(rows: &DataSet, table: u32) -> &[u8]
+    ensures { result.now ≡ text_of rows.now table }
+{
+    rows.text(table).unwrap_or(&[])
+}
+
+// Adds the columns of a table under its path.
+fn push_columns(
     alloc: Global,
-    naming: &'a Naming<'a>,
-    rows: &'a DataSet,
-    row: &'a ClassRow,
+    entries: &mut Entries,
+    lookups: &Lookups<'_>,
+    table: u32,
     path: &QName,
-) -> Result<Entries<'a>, AllocError>
-    requires { IsRead rows.now row.now }
-    ensures { IfOk result (λ entries. entries_seen entries ≡ relation_entries naming.now (rows_by_oid rows.now) row.now path.now) }
+) -> Result<(), AllocError>
+    ensures { OnOk result (entries.new.items ≡ entries.old.items ++ (key.Rel path.now, value.Table (columns_of lookups.now table)) ∷ []) }
+{
+    let path = path.clone()?;
+    let columns = Items::new(columns_of(alloc, lookups, table)?);
+    push_entry(entries, Key::Rel(path), Value::Table(columns))
+}
+
+// Adds the rows of a table under its path.
+fn push_rows(
+    alloc: Global,
+    entries: &mut Entries,
+    rows: &DataSet,
+    table: u32,
+    path: &QName,
+) -> Result<(), AllocError>
+    ensures { OnOk result (entries.new.items ≡ entries.old.items ++ (key.Rows path.now, value.Rows (rows_by_oid rows.now table)) ∷ []) }
+{
+    let path = path.clone()?;
+    let held = TableRows::read(alloc, text_of(rows, table))?;
+    push_entry(entries, Key::Rows(path), Value::Rows(held))
+}
+
+// Adds a table with its rows.
+fn push_table(
+    alloc: Global,
+    entries: &mut Entries,
+    lookups: &Lookups<'_>,
+    rows: &DataSet,
+    row: &ClassRow,
+    path: &QName,
+) -> Result<(), AllocError>
+    ensures { OnOk result (entries.new.items ≡ entries.old.items ++ table_entries lookups.now (rows_by_oid rows.now) row.now path.now) }
+{
+    push_columns(alloc, entries, lookups, row.oid, path)?;
+    push_rows(alloc, entries, rows, row.oid, path)?;
+    push_owned(alloc, entries, lookups, GrantKind::Table, row, path)
+}
+
+// Adds a view.
+fn push_view(
+    alloc: Global,
+    entries: &mut Entries,
+    lookups: &Lookups<'_>,
+    row: &ClassRow,
+    path: &QName,
+) -> Result<(), AllocError>
+    ensures { OnOk result (entries.new.items ≡ entries.old.items ++ view_entries lookups.now row.now path.now) }
+{
+    push_entry(entries, Key::Rel(path.clone()?), Value::View)?;
+    push_owned(alloc, entries, lookups, GrantKind::Table, row, path)
+}
+
+// Adds an index as a relation, of its table.
+fn push_index_relation(
+    entries: &mut Entries,
+    lookups: &Lookups<'_>,
+    row: &ClassRow,
+    path: &QName,
+) -> Result<(), AllocError>
+    ensures { OnOk result (entries.new.items ≡ entries.old.items ++ index_relation_entries lookups.now row.now path.now) }
+{
+    let Some(table) = lookups.table_of_index(row.oid) else {
+        return Ok(());
+    };
+    let Some(table) = lookups.book().class_path_of(table)? else {
+        return Ok(());
+    };
+    let path = path.clone()?;
+    push_entry(entries, Key::Rel(path), Value::IndexOf(table))
+}
+
+// Adds a relation by its kind; what a sequence is stands in pg_sequence.
+fn push_relation(
+    alloc: Global,
+    entries: &mut Entries,
+    lookups: &Lookups<'_>,
+    rows: &DataSet,
+    row: &ClassRow,
+    path: &QName,
+) -> Result<(), AllocError>
+    ensures { OnOk result (entries.new.items ≡ entries.old.items ++ relation_entries lookups.now (rows_by_oid rows.now) row.now path.now) }
 {
     match relation_kind(row.relkind) {
-        RelationKind::Table => table_entries(alloc, naming, rows, row, path),
-        RelationKind::View => view_entries(alloc, naming, row, path),
-        RelationKind::Sequence => owned_entries(alloc, naming, GrantKind::Sequence, row, path),
-        RelationKind::Index => index_relation_entries(alloc, naming, row, path),
-        RelationKind::Other(_) => Ok(Entries::none(alloc)),
+        RelationKind::Table => push_table(alloc, entries, lookups, rows, row, path),
+        RelationKind::View => push_view(alloc, entries, lookups, row, path),
+        RelationKind::Sequence => {
+            push_owned(alloc, entries, lookups, GrantKind::Sequence, row, path)
+        }
+        RelationKind::Index => push_index_relation(entries, lookups, row, path),
+        RelationKind::Other(_) => Ok(()),
     }
 }
 
 // The same with its path.
-fn class_entries<'a>(
+fn push_class(
     alloc: Global,
-    naming: &'a Naming<'a>,
-    rows: &'a DataSet,
-    row: &'a ClassRow,
-) -> Result<Entries<'a>, AllocError>
-    requires { IsRead rows.now row.now }
-    ensures { IfOk result (λ entries. entries_seen entries ≡ class_entries naming.now (rows_by_oid rows.now) row.now) }
+    entries: &mut Entries,
+    lookups: &Lookups<'_>,
+    rows: &DataSet,
+    row: &ClassRow,
+) -> Result<(), AllocError>
+    ensures { OnOk result (entries.new.items ≡ entries.old.items ++ class_entries lookups.now (rows_by_oid rows.now) row.now) }
 {
-    match naming.book().class_path(row)? {
-        Some(path) => relation_entries(alloc, naming, rows, row, &path),
-        None => Ok(Entries::none(alloc)),
+    match lookups.book().class_path(row)? {
+        Some(path) => push_relation(alloc, entries, lookups, rows, row, &path),
+        None => Ok(()),
     }
 }
 
 /// Adds what the relations give.
-pub(crate) fn add_classes<'a>(
+pub(crate) fn add_classes(
     alloc: Global,
-    entries: &mut Entries<'a>,
-    naming: &'a Naming<'a>,
-    texts: &'a DataSet,
-    rows: &'a [ClassRow],
+    entries: &mut Entries,
+    lookups: &Lookups<'_>,
+    texts: &DataSet,
+    rows: &[ClassRow],
 ) -> Result<(), AllocError>
-    requires { AreRead texts.now rows.now }
-    ensures { OnOk result (entries_seen entries.new ≡ entries_seen entries.old ++ flat_map (class_entries naming.now (rows_by_oid texts.now)) rows.now) }
+    ensures { OnOk result (entries.new.items ≡ entries.old.items ++ flat_map (class_entries lookups.now (rows_by_oid texts.now)) rows.now) }
 {
     for row in rows {
-        let more = class_entries(alloc, naming, texts, row)?;
-        entries.append(more)?;
+        push_class(alloc, entries, lookups, texts, row)?;
     }
     Ok(())
 }

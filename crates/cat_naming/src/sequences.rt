@@ -1,107 +1,142 @@
 //! What the rows of pg_sequence and pg_rewrite give.
-ghost use Rattle.std.specs.Prelude.{◌≡◌, ◌++◌, IfOk, OnOk};
+ghost use Rattle.std.specs.Prelude.{◌≡◌, [], ◌∷◌, ◌++◌, OnOk};
 ghost use Rattle.std.specs.List.{flat_map};
+ghost use Rattle.cat_model.specs.declared.key.Key.TheVariants as key;
+ghost use Rattle.cat_model.specs.declared.value.Value.TheVariants as value;
+ghost use Rattle.text_tables.specs.Sequences.{numbers};
 ghost use Rattle.cat_naming.specs.Relations.{owner_entries, sequence_entries, body_entries};
-ghost use Rattle.cat_naming.specs.Seen.{entries_seen};
 
-use crate::entries::Entries;
-use crate::naming::Naming;
-use crate::paths::same_path;
-use cat_model::{Key, QName};
+use crate::entries::{Entries, push_entry};
+use cat_lookups::Lookups;
+use cat_model::{Key, QName, Sequence, SequenceKind, Value};
 use cat_rows::{RewriteRow, SequenceRow};
-use cat_values::NamedValue;
 use row_texts::{sequence_kind, view_body};
 use std::alloc::{AllocError, Global};
 
-// The column that owns a sequence, if one does.
-fn owner_entries<'a>(
-    alloc: Global,
-    naming: &'a Naming<'a>,
-    row: &SequenceRow,
-    path: &QName,
-) -> Result<Entries<'a>, AllocError>
-    ensures { IfOk result (λ entries. entries_seen entries ≡ owner_entries naming.now row.now path.now) }
+// The numbers of a sequence of this type.
+fn numbers(kind: SequenceKind, row: &SequenceRow) -> Sequence
+    ensures { result ≡ numbers kind row.now }
 {
-    if row.ownrel == 0 {
-        return Ok(Entries::none(alloc));
+    Sequence {
+        kind,
+        start: row.seqstart,
+        step: row.seqincrement,
+        min: row.seqmin,
+        max: row.seqmax,
+        cache: row.seqcache,
+        cycle: row.seqcycle,
     }
-    let Some(table) = naming.book().class_path_of(row.ownrel)? else {
-        return Ok(Entries::none(alloc));
-    };
-    let Some(column) = naming.column_name(row.ownrel, row.owncol) else {
-        return Ok(Entries::none(alloc));
-    };
-    let key = Key::OwnedBy(same_path(path)?);
-    Entries::one(alloc, key, NamedValue::OwnedBy(table, column))
 }
 
-// A sequence with its value and its owner.
-fn sequence_entries<'a>(
-    alloc: Global,
-    naming: &'a Naming<'a>,
-    row: &'a SequenceRow,
-) -> Result<Entries<'a>, AllocError>
-    ensures { IfOk result (λ entries. entries_seen entries ≡ sequence_entries naming.now row.now) }
+// Adds a sequence under its path.
+fn push_numbers(
+    entries: &mut Entries,
+    path: &QName,
+    kind: SequenceKind,
+    row: &SequenceRow,
+) -> Result<(), AllocError>
+    ensures { OnOk result (entries.new.items ≡ entries.old.items ++ (key.Rel path.now, value.Sequence (numbers kind row.now)) ∷ []) }
 {
-    let Some(path) = naming.book().class_path_of(row.seqrelid)? else {
-        return Ok(Entries::none(alloc));
+    let path = path.clone()?;
+    push_entry(entries, Key::Rel(path), Value::Sequence(numbers(kind, row)))
+}
+
+// Adds the value of a sequence under its path.
+fn push_last_value(entries: &mut Entries, path: &QName, row: &SequenceRow) -> Result<(), AllocError>
+    ensures { OnOk result (entries.new.items ≡ entries.old.items ++ (key.SeqVal path.now, value.SequenceValue row.now.last_value row.now.is_called) ∷ []) }
+{
+    let path = path.clone()?;
+    let value = Value::SequenceValue(row.last_value, row.is_called);
+    push_entry(entries, Key::SeqVal(path), value)
+}
+
+// Adds the column that owns a sequence, if one does.
+fn push_sequence_owner(
+    entries: &mut Entries,
+    lookups: &Lookups<'_>,
+    row: &SequenceRow,
+    path: &QName,
+) -> Result<(), AllocError>
+    ensures { OnOk result (entries.new.items ≡ entries.old.items ++ owner_entries lookups.now row.now path.now) }
+{
+    if row.ownrel == 0 {
+        return Ok(());
+    }
+    let Some(table) = lookups.book().class_path_of(row.ownrel)? else {
+        return Ok(());
+    };
+    let Some(column) = lookups.column_name(row.ownrel, row.owncol) else {
+        return Ok(());
+    };
+    let path = path.clone()?;
+    let column = column.clone()?;
+    push_entry(entries, Key::OwnedBy(path), Value::OwnedBy(table, column))
+}
+
+// Adds a sequence with its value and its owner.
+fn push_sequence(
+    alloc: Global,
+    entries: &mut Entries,
+    lookups: &Lookups<'_>,
+    row: &SequenceRow,
+) -> Result<(), AllocError>
+    ensures { OnOk result (entries.new.items ≡ entries.old.items ++ sequence_entries lookups.now row.now) }
+{
+    let Some(path) = lookups.book().class_path_of(row.seqrelid)? else {
+        return Ok(());
     };
     let Some(kind) = sequence_kind(alloc, row.seqtype.as_bytes())? else {
-        return Ok(Entries::none(alloc));
+        return Ok(());
     };
-    let key = Key::Rel(same_path(&path)?);
-    let sequence = Entries::one(alloc, key, NamedValue::Sequence(kind, row))?;
-    let key = Key::SeqVal(same_path(&path)?);
-    let given = Entries::one(alloc, key, NamedValue::SequenceValue(row))?;
-    let owner = owner_entries(alloc, naming, row, &path)?;
-    sequence.with_two(given, owner)
+    push_numbers(entries, &path, kind, row)?;
+    push_last_value(entries, &path, row)?;
+    push_sequence_owner(entries, lookups, row, &path)
 }
 
 /// Adds what the sequences give.
-pub(crate) fn add_sequences<'a>(
+pub(crate) fn add_sequences(
     alloc: Global,
-    entries: &mut Entries<'a>,
-    naming: &'a Naming<'a>,
-    rows: &'a [SequenceRow],
+    entries: &mut Entries,
+    lookups: &Lookups<'_>,
+    rows: &[SequenceRow],
 ) -> Result<(), AllocError>
-    ensures { OnOk result (entries_seen entries.new ≡ entries_seen entries.old ++ flat_map (sequence_entries naming.now) rows.now) }
+    ensures { OnOk result (entries.new.items ≡ entries.old.items ++ flat_map (sequence_entries lookups.now) rows.now) }
 {
     for row in rows {
-        let more = sequence_entries(alloc, naming, row)?;
-        entries.append(more)?;
+        push_sequence(alloc, entries, lookups, row)?;
     }
     Ok(())
 }
 
-// The body of a view.
-fn body_entries<'a>(
+// Adds the body of a view.
+fn push_body(
     alloc: Global,
-    naming: &'a Naming<'a>,
+    entries: &mut Entries,
+    lookups: &Lookups<'_>,
     row: &RewriteRow,
-) -> Result<Entries<'a>, AllocError>
-    ensures { IfOk result (λ entries. entries_seen entries ≡ body_entries naming.now row.now) }
+) -> Result<(), AllocError>
+    ensures { OnOk result (entries.new.items ≡ entries.old.items ++ body_entries lookups.now row.now) }
 {
-    let Some(path) = naming.book().class_path_of(row.ev_class)? else {
-        return Ok(Entries::none(alloc));
+    let Some(path) = lookups.book().class_path_of(row.ev_class)? else {
+        return Ok(());
     };
     let Some(body) = view_body(alloc, row.viewdef.as_bytes())? else {
-        return Ok(Entries::none(alloc));
+        return Ok(());
     };
-    Entries::one(alloc, Key::Body(path), NamedValue::Body(body))
+    push_entry(entries, Key::Body(path), Value::Body(body))
 }
 
 /// Adds what the bodies of views give.
-pub(crate) fn add_bodies<'a>(
+pub(crate) fn add_bodies(
     alloc: Global,
-    entries: &mut Entries<'a>,
-    naming: &'a Naming<'a>,
+    entries: &mut Entries,
+    lookups: &Lookups<'_>,
     rows: &[RewriteRow],
 ) -> Result<(), AllocError>
-    ensures { OnOk result (entries_seen entries.new ≡ entries_seen entries.old ++ flat_map (body_entries naming.now) rows.now) }
+    ensures { OnOk result (entries.new.items ≡ entries.old.items ++ flat_map (body_entries lookups.now) rows.now) }
 {
     for row in rows {
-        let more = body_entries(alloc, naming, row)?;
-        entries.append(more)?;
+        push_body(alloc, entries, lookups, row)?;
     }
     Ok(())
 }

@@ -1,54 +1,74 @@
 //! Texts of types and defaults.
-ghost use Rattle.std.specs.Prelude.{◌≡◌, Some, option_map, IfOk};
+ghost use Rattle.std.specs.Prelude.{◌≡◌, Some, IfOk};
 ghost use Rattle.std.specs.Option.{option_and_then};
-ghost use Rattle.cat_model.specs.Values.{Bytes};
+ghost use Rattle.cat_model.specs.TypeEffects.{as_it_is};
 ghost use Rattle.row_texts.specs.TypeTexts.{type_named};
-ghost use Rattle.cat_naming.specs.Seen.{typed_seen};
+ghost use Rattle.type_ends.specs.Ends.{resolved};
 ghost use Rattle.cat_naming.specs.Types.{typed};
 ghost use Rattle.row_texts.specs.DefaultTexts.{default_said};
 
-use crate::naming::Naming;
-use cat_model::TypeName;
+use cat_lookups::Lookups;
+use cat_model::{Resolved, TypeName};
 use copy_text::Text;
 use row_texts::{default_said, type_named};
 use std::alloc::{AllocError, Global};
-use type_ends::TypeEnd;
 
-/// A type as a text names it.
-#[derive(Drop)]
-pub(crate) struct NamedType<'a> {
-    pub(crate) name: TypeName,
-    /// What it is at the end of its chain; `None` for a type without a row, which is what it is.
-    pub(crate) end: Option<TypeEnd<'a>>,
+// A type without a row is what it is.
+fn as_it_is(name: &TypeName) -> Result<Resolved, AllocError>
+    ensures { IfOk result (λ resolved. resolved ≡ as_it_is name.now) }
+{
+    Ok(Resolved {
+        type_name: name.clone()?,
+        labels: None,
+        not_null: false,
+    })
 }
 
 // What the type of an oid is at the end of its chain.
-fn with_end<'a>(naming: &'a Naming<'a>, oid: u32, name: TypeName) -> Option<NamedType<'a>>
-    ensures { (text : Bytes) → type_named text ≡ Some name → option_map typed_seen result ≡ typed naming.now oid text }
+fn resolved(
+    alloc: Global,
+    lookups: &Lookups<'_>,
+    oid: u32,
+    text: &Text,
+    name: &TypeName,
+) -> Result<Option<Resolved>, AllocError>
+    requires { type_named text.now ≡ Some name.now }
+    ensures { IfOk result (λ end. end ≡ resolved lookups.now oid text.now) }
 {
     if oid == 0 {
-        return Some(NamedType { name, end: None });
+        return Ok(Some(as_it_is(name)?));
     }
-    match naming.ends().end_of(oid) {
-        Some(end) => Some(NamedType {
-            name,
-            end: Some(end),
-        }),
-        None => None,
+    lookups.ends().end_of(alloc, oid)
+}
+
+// The same with the type's name.
+fn with_end(
+    alloc: Global,
+    lookups: &Lookups<'_>,
+    oid: u32,
+    text: &Text,
+    name: TypeName,
+) -> Result<Option<(TypeName, Resolved)>, AllocError>
+    requires { type_named text.now ≡ Some name }
+    ensures { IfOk result (λ found. found ≡ typed lookups.now oid text.now) }
+{
+    match resolved(alloc, lookups, oid, text, &name)? {
+        Some(end) => Ok(Some((name, end))),
+        None => Ok(None),
     }
 }
 
 /// The type that a text names, with what the type of this oid is at the end of its chain.
-pub(crate) fn typed<'a>(
+pub(crate) fn typed(
     alloc: Global,
-    naming: &'a Naming<'a>,
+    lookups: &Lookups<'_>,
     oid: u32,
     text: &Text,
-) -> Result<Option<NamedType<'a>>, AllocError>
-    ensures { IfOk result (λ found. option_map typed_seen found ≡ typed naming.now oid text.now) }
+) -> Result<Option<(TypeName, Resolved)>, AllocError>
+    ensures { IfOk result (λ found. found ≡ typed lookups.now oid text.now) }
 {
     match type_named(alloc, text.as_bytes())? {
-        Some(name) => Ok(with_end(naming, oid, name)),
+        Some(name) => with_end(alloc, lookups, oid, text, name),
         None => Ok(None),
     }
 }

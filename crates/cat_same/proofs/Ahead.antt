@@ -1,40 +1,79 @@
--- Going over a map in the order of its keys: what stands ahead, and what was passed.
-use Rattle.std.proofs.Common.{◌≡◌, Bool, true, false, cond, List, [], ◌∷◌, Some, is_some, IsSome, BTreeMap, refl, sym, ap, subst, ◌∙◌}
-use Rattle.std.proofs.lemmas.Map.Keys.{sorted_head}
+-- Going over a map in any order: the least difference so far, and what is agreed on beside the entries that are ahead.
+use Rattle.std.proofs.Common.{◌≡◌, ◌≢◌, inl, inr, Bool, true, false, true≢false, cond, List, [], ◌∷◌, Option, Some, None, is_some, IsSome, refl, sym, ap, subst, ◌∙◌}
+use Rattle.std.specs.Prelude.{⊤, IfSome}
 use Rattle.std.specs.declared.cmp.Ordering.TheVariants.{Less}
-use Rattle.std.specs.Ordering.{is_eq}
-use Rattle.std.specs.BTreeMap.{is_at}
-use Rattle.std.specs.Cmp.{Equal-is}
-use Rattle.std.specs.List.{AllByRecursion}
-use Rattle.std.specs.List.Sorted.{IsStrictlySortedBy}
+use Rattle.std.specs.Ordering.{is_eq, is_lt}
+use Rattle.std.specs.FinMap.{get, from_entries}
+use Rattle.std.specs.List.{AllByRecursion, IsDistinct}
 use Rattle.std.specs.Map.{keys_of, lookup}
 use Rattle.cat_model.specs.declared.key.Key.{Key}
-use Rattle.cat_model.specs.Keys.{key_cmp}
-use Rattle.cat_model.specs.KeyLaws.{key_cmp_total, key_cmp-IsAntisymmetric}
-use Rattle.cat_values.specs.declared.value.NamedValue.{NamedValue}
-use Rattle.cat_values.specs.Seen.{value_at}
+use Rattle.cat_model.specs.declared.value.Value.{Value}
+use Rattle.cat_model.specs.Keys.{key_cmp, key_eq}
+use Rattle.cat_model.specs.KeyLaws.{key_cmp_total, key_cmp-IsAntisymmetric, key_eq-same}
+use Rattle.cat_model.specs.Values.{Named}
+use Rattle.cat_model.proofs.MapsSeen.{got_seen}
+use Rattle.same_maps.proofs.Keys.{got_all}
+use Rattle.cat_same.specs.Differences.{IsFirstDifference, IsWithEntry, lesser_of}
+use Rattle.cat_same.proofs.Differences.{below, lesser_is}
 
-abbrev is_ahead : Key → List (Key × NamedValue) → Bool
-is_ahead q es = is_some (lookup (is_at (key_cmp q)) es)
+-- a key that is less than another, if there is another
+abbrev pub IsBelow : Key → Option Key → Type 0
+IsBelow key None = ⊤
+IsBelow key (Some other) = key_cmp key other ≡ Less
 
-none_above : (j k : Key) (es : List (Key × NamedValue)) → AllByRecursion (λ y. key_cmp k y ≡ Less) (keys_of es) → key_cmp j k ≡ Less → is_ahead j es ≡ false
-none_above j k [] above less = refl
-none_above j k (e ∷ es) above less =
-    ap (λ r. is_some (cond (is_eq r) (Some e.1) (lookup (is_at (key_cmp j)) es))) (key_cmp_total.trans j k e.0 less above.0)
-    ∙ none_above j k es above.1 less
+module _ (of other : Named) where
+  -- the entries ahead are the map's; the least difference is one; each lesser key that isn't ahead is agreed on
+  abbrev pub IsSoFar : List (Key × Value) → Option Key → Type 0
+  IsSoFar ahead least =
+      AllByRecursion (λ e. get of e.0 ≡ Some e.1) ahead
+      × IfSome least (λ k. get of k ≢ get other k)
+      × ((q : Key) → lookup (key_eq q) ahead ≡ None → IsSome (get of q) → IsBelow q least → get of q ≡ get other q)
 
--- a key below the next one isn't ahead
-pub not_ahead : (j : Key) (e : Key × NamedValue) (es : List (Key × NamedValue)) → IsStrictlySortedBy key_cmp (keys_of (e ∷ es)) → key_cmp j e.0 ≡ Less → is_ahead j (e ∷ es) ≡ false
-not_ahead j e es sorted less =
-    ap (λ r. is_some (cond (is_eq r) (Some e.1) (lookup (is_at (key_cmp j)) es))) less
-    ∙ none_above j e.0 es (sorted_head key_cmp e.0 (keys_of es) sorted) less
+  pub at_first : (es : List (Key × Value)) → from_entries es ≡ of → IsDistinct key_eq (keys_of es) → IsSoFar es None
+  at_first es seen distinct = (
+    got_all (λ k v. get of k ≡ Some v) of es seen distinct (λ k v is. is),
+    tt,
+    λ q none there less. absurd (true≢false (sym there ∙ ap is_some (ap (λ (m : Named). get m q) (sym seen) ∙ got_seen key_cmp_total key_cmp-IsAntisymmetric es q ∙ none))),
+  )
 
--- a key that is no longer ahead is the one that was passed, or wasn't ahead before
-pub passed : (of other : BTreeMap Key NamedValue) (e : Key × NamedValue) (es : List (Key × NamedValue)) → value_at of e.0 ≡ value_at other e.0
-    → ((q : Key) → is_ahead q (e ∷ es) ≡ false → IsSome (value_at of q) → value_at of q ≡ value_at other q)
-    → (q : Key) → is_ahead q es ≡ false → IsSome (value_at of q) → value_at of q ≡ value_at other q
-passed of other e es same before q none there = by (is_eq (key_cmp q e.0)) refl
-  where
-    by : (b : Bool) → is_eq (key_cmp q e.0) ≡ b → value_at of q ≡ value_at other q
-    by true at = subst (λ (k : Key). value_at of k ≡ value_at other k) (sym (key_cmp-IsAntisymmetric q e.0 ((Equal-is (key_cmp q e.0)).0 at))) same
-    by false at = before q (ap (λ b. is_some (cond b (Some e.1) (lookup (is_at (key_cmp q)) es))) at ∙ none) there
+  pub at_last : (least : Option Key) → IsSoFar [] least → IsFirstDifference of other least
+  at_last None so = λ q there. so.2 q refl there tt
+  at_last (Some k) so = (so.1, λ q less there. so.2 q refl there less)
+
+  -- a key below the next one isn't it
+  not_next : (q k : Key) (v : Value) (ahead : List (Key × Value)) → key_cmp q k ≡ Less → lookup (key_eq q) ahead ≡ None → lookup (key_eq q) ((k, v) ∷ ahead) ≡ None
+  not_next q k v ahead less none = ap (λ r. cond (is_eq r) (Some v) (lookup (key_eq q) ahead)) less ∙ none
+
+  -- the next entry is the other map's too
+  kept : (k : Key) (v : Value) (ahead : List (Key × Value)) (least : Option Key) → IsSoFar ((k, v) ∷ ahead) least → get other k ≡ Some v → IsSoFar ahead least
+  kept k v ahead least so same = (so.0.1, so.1, λ q none there less. by q none there less (key_eq q k) refl)
+    where
+      by : (q : Key) → lookup (key_eq q) ahead ≡ None → IsSome (get of q) → IsBelow q least → (b : Bool) → key_eq q k ≡ b → get of q ≡ get other q
+      by q none there less true at = subst (λ (j : Key). get of j ≡ get other j) (sym (key_eq-same q k at)) (so.0.0 ∙ sym same)
+      by q none there less false at = so.2 q (ap (λ b. cond b (Some v) (lookup (key_eq q) ahead)) at ∙ none) there less
+
+  -- it isn't
+  found : (k : Key) (v : Value) (ahead : List (Key × Value)) (least : Option Key) → IsSoFar ((k, v) ∷ ahead) least → get other k ≢ Some v → IsSoFar ahead (lesser_of least (Some k))
+  found k v ahead None so apart = (
+    so.0.1,
+    λ same. apart (sym same ∙ so.0.0),
+    λ q none there less. so.2 q (not_next q k v ahead less none) there tt,
+  )
+  found k v ahead (Some j) so apart = by (is_lt (key_cmp k j)) refl
+    where
+      by : (b : Bool) → is_lt (key_cmp k j) ≡ b → IsSoFar ahead (Some (cond b k j))
+      by true lt = (
+        so.0.1,
+        λ same. apart (sym same ∙ so.0.0),
+        λ q none there less. so.2 q (not_next q k v ahead less none) there (key_cmp_total.trans q k j less (lesser_is (key_cmp k j) lt)),
+      )
+      by false ge = (
+        so.0.1,
+        so.1,
+        λ q none there less. so.2 q (not_next q k v ahead (below q j k ge less) none) there less,
+      )
+
+  -- the next entry is passed
+  pub passed : (k : Key) (v : Value) (ahead : List (Key × Value)) (least next : Option Key) → IsSoFar ((k, v) ∷ ahead) least → IsWithEntry other (k, v) least next → IsSoFar ahead next
+  passed k v ahead least next so (inl (same, is)) = subst (IsSoFar ahead) (sym is) (kept k v ahead least so same)
+  passed k v ahead least next so (inr (apart, is)) = subst (IsSoFar ahead) (sym is) (found k v ahead least so apart)

@@ -1,19 +1,16 @@
--- The first differences of two maps, each against the other, give the verdict on what they stand for.
-use Rattle.std.proofs.Common.{◌≡◌, ◌≢◌, Bool, true, false, true≢false, cond, List, Option, Some, None, IsSome, BTreeMap, refl, sym, ap, subst, ◌∙◌}
+-- The first differences of two maps, each against the other, give the verdict on them.
+use Rattle.std.proofs.Common.{◌≡◌, ◌≢◌, Bool, true, false, true≢false, cond, Option, Some, None, IsSome, refl, sym, ap, subst, ◌∙◌}
 use Rattle.std.specs.declared.cmp.Ordering.{Ordering}
 use Rattle.std.specs.declared.cmp.Ordering.TheVariants.{Less, Equal, Greater}
 use Rattle.std.specs.Ordering.{is_lt, ordering_reverse}
-use Rattle.std.specs.FinMap.{get, from_entries, get-from_entries, same_map}
+use Rattle.std.specs.FinMap.{get, same_map}
 use Rattle.cat_model.specs.declared.key.Key.{Key}
 use Rattle.cat_model.specs.Keys.{key_cmp}
 use Rattle.cat_model.specs.KeyLaws.{key_cmp_total, key_cmp-IsAntisymmetric}
 use Rattle.cat_model.specs.declared.value.Value.{Value}
 use Rattle.cat_model.specs.Values.{Named}
-use Rattle.cat_names.specs.Naming.{Entry}
-use Rattle.cat_values.specs.declared.value.NamedValue.{NamedValue}
 use Rattle.cat_same.specs.declared.compare.Verdict.{Verdict}
 use Rattle.cat_same.specs.declared.compare.Verdict.TheVariants.{Same, Differs}
-use Rattle.cat_values.specs.Seen.{AreEntries, value_at}
 use Rattle.cat_same.specs.Differences.{AgreeBelow, IsFirstDifference, lesser_of}
 use Rattle.cat_same.specs.Verdicts.{IsLeastDifference, IsVerdict}
 
@@ -35,56 +32,44 @@ below j a b ge h = by (key_cmp a b) refl
         let yes : is_lt (key_cmp b a) ≡ true = ap is_lt turned in
         absurd (true≢false (sym yes ∙ ge))
 
-lesser_is : (r : Ordering) → is_lt r ≡ true → r ≡ Less
+pub lesser_is : (r : Ordering) → is_lt r ≡ true → r ≡ Less
 lesser_is Less e = refl
 lesser_is Equal e = absurd cc
 lesser_is Greater e = absurd cc
 
-module _ (a b : BTreeMap Key NamedValue) (es fs : List Entry) (of_a : AreEntries a es) (of_b : AreEntries b fs) where
-  abbrev first : Named
-  first = from_entries es
+module _ (a b : Named) where
+  no_difference : IsFirstDifference a b None → IsFirstDifference b a None → a ≡ b
+  no_difference f g = same_map key_cmp_total key_cmp-IsAntisymmetric a b (λ q. both_sides (get a q) (get b q) (f q) (g q))
 
-  abbrev second : Named
-  second = from_entries fs
-
-  at_a : (q : Key) → get first q ≡ value_at a q
-  at_a q = get-from_entries key_cmp_total es q ∙ sym (of_a q)
-
-  at_b : (q : Key) → get second q ≡ value_at b q
-  at_b q = get-from_entries key_cmp_total fs q ∙ sym (of_b q)
-
-  no_difference : IsFirstDifference a b None → IsFirstDifference b a None → first ≡ second
-  no_difference f g = same_map key_cmp_total key_cmp-IsAntisymmetric first second (λ q. at_a q ∙ both_sides (value_at a q) (value_at b q) (f q) (g q) ∙ sym (at_b q))
-
-  least : (k : Key) → (value_at a k ≢ value_at b k) → AgreeBelow a b k → AgreeBelow b a k → IsLeastDifference first second k
+  least : (k : Key) → (get a k ≢ get b k) → AgreeBelow a b k → AgreeBelow b a k → IsLeastDifference a b k
   least k differs f g = record {
-    differs = λ e. differs (sym (at_a k) ∙ e ∙ at_b k);
-    agrees = λ j less. at_a j ∙ both_sides (value_at a j) (value_at b j) (f j less) (g j less) ∙ sym (at_b j);
+    differs = differs;
+    agrees = λ j less. both_sides (get a j) (get b j) (f j less) (g j less);
   }
 
-  of_two : (j k : Key) → IsFirstDifference a b (Some j) → IsFirstDifference b a (Some k) → (r : Bool) → is_lt (key_cmp k j) ≡ r → IsLeastDifference first second (cond r k j)
+  of_two : (j k : Key) → IsFirstDifference a b (Some j) → IsFirstDifference b a (Some k) → (r : Bool) → is_lt (key_cmp k j) ≡ r → IsLeastDifference a b (cond r k j)
   of_two j k f g true e =
       least k (λ same. g.0 (sym same)) (λ q less. f.1 q (key_cmp_total.trans q k j less (lesser_is (key_cmp k j) e))) g.1
   of_two j k f g false e = least j f.0 f.1 (λ q less. g.1 q (below q j k e less))
 
   -- the lesser of the two first differences is the least
-  pub differs_at : (f g : Option Key) (k : Key) → IsFirstDifference a b f → IsFirstDifference b a g → lesser_of f g ≡ Some k → IsLeastDifference first second k
-  differs_at (Some j) (Some l) k f g e = subst (IsLeastDifference first second) (some_same _ _ e) (of_two j l f g (is_lt (key_cmp l j)) refl)
+  pub differs_at : (f g : Option Key) (k : Key) → IsFirstDifference a b f → IsFirstDifference b a g → lesser_of f g ≡ Some k → IsLeastDifference a b k
+  differs_at (Some j) (Some l) k f g e = subst (IsLeastDifference a b) (some_same _ _ e) (of_two j l f g (is_lt (key_cmp l j)) refl)
     where
       some_same : (x y : Key) → Some x ≡ Some y → x ≡ y
       some_same x y e = cc
-  differs_at (Some j) None k f g e = subst (IsLeastDifference first second) (some_same j k e) (least j f.0 f.1 (λ q less. g q))
+  differs_at (Some j) None k f g e = subst (IsLeastDifference a b) (some_same j k e) (least j f.0 f.1 (λ q less. g q))
     where
       some_same : (x y : Key) → Some x ≡ Some y → x ≡ y
       some_same x y e = cc
-  differs_at None (Some l) k f g e = subst (IsLeastDifference first second) (some_same l k e) (least l (λ same. g.0 (sym same)) (λ q less. f q) g.1)
+  differs_at None (Some l) k f g e = subst (IsLeastDifference a b) (some_same l k e) (least l (λ same. g.0 (sym same)) (λ q less. f q) g.1)
     where
       some_same : (x y : Key) → Some x ≡ Some y → x ≡ y
       some_same x y e = cc
   differs_at None None k f g e = absurd cc
 
-  -- without one the maps stand for the same
-  pub same_where_none : (f g : Option Key) → IsFirstDifference a b f → IsFirstDifference b a g → lesser_of f g ≡ None → first ≡ second
+  -- without one the maps are the same
+  pub same_where_none : (f g : Option Key) → IsFirstDifference a b f → IsFirstDifference b a g → lesser_of f g ≡ None → a ≡ b
   same_where_none None None f g e = no_difference f g
   same_where_none None (Some l) f g e = absurd cc
   same_where_none (Some j) None f g e = absurd cc

@@ -1,4 +1,3 @@
 mod Differences
 mod Lookups
 mod Ahead
-mod Texts

@@ -1,20 +1,18 @@
 //! The comparison of two catalogues.
-ghost use Rattle.std.specs.Prelude.{◌≡◌, ◌↔◌, List, IsTrue, IfOk, None, Some, option_map};
-ghost use Rattle.std.specs.FinMap.{from_entries};
-ghost use Rattle.cat_names.specs.Naming.{Entry};
+ghost use Rattle.std.specs.Prelude.{◌≡◌, ◌↔◌, IsTrue, IfOk, None, Some, option_map};
+ghost use Rattle.std.specs.FinMap.{get};
 ghost use Rattle.table_rows.specs.Values.{values_fault};
-ghost use Rattle.cat_values.specs.Seen.{value_at, value_seen, AreEntries};
-ghost use Rattle.cat_naming.specs.Entries.{entries_of, catalogue_named};
+ghost use Rattle.cat_naming.specs.Entries.{catalogue_named};
 ghost use Rattle.cat_naming.specs.Texts.{rows_by_oid};
-ghost use Rattle.cat_same.specs.Differences.{IsFirstDifference, lesser_of};
+ghost use Rattle.cat_same.specs.Differences.{IsFirstDifference, IsWithEntry, lesser_of};
 ghost use Rattle.cat_same.specs.Verdicts.{IsVerdict};
 
-use cat_model::Key;
+use cat_model::{Key, Value};
 use cat_names::DataSet;
-use cat_naming::{Naming, catalogue_named};
-use cat_values::{Named, NamedValue, same_value};
+use cat_naming::catalogue_map;
+use eng_map::NamedMap;
+use same_maps::same_value;
 use std::alloc::{AllocError, Global};
-use table_rows::laws::texts_without_fault_have_rows;
 use well_formed::WellFormed;
 
 /// What a comparison comes to.
@@ -27,34 +25,13 @@ pub enum Verdict {
 }
 
 // Whether a value is what stands under a key.
-fn is_at(
-    alloc: Global,
-    named: &Named<'_>,
-    key: &Key,
-    value: &NamedValue<'_>,
-) -> Result<bool, AllocError>
-    ensures { IfOk result (λ at. IsTrue at ↔ (value_at named.now key.now ≡ Some (value_seen value.now))) }
+fn is_at(named: &NamedMap, key: &Key, value: &Value) -> bool
+    ensures { IsTrue result ↔ (get named.now key.now ≡ Some value.now) }
 {
     match named.get(key) {
-        Some(other) => same_value(alloc, other, value),
-        None => Ok(false),
+        Some(other) => same_value(other, value),
+        None => false,
     }
-}
-
-// The least key of the first at which the second has another value or none.
-fn first_difference<'m>(
-    alloc: Global,
-    of: &'m Named<'_>,
-    other: &Named<'_>,
-) -> Result<Option<&'m Key>, AllocError>
-    ensures { IfOk result (λ first. IsFirstDifference of.now other.now (option_map (λ k. k.now) first)) }
-{
-    for (key, value) in of.iter() {
-        if !is_at(alloc, other, key, value)? {
-            return Ok(Some(key));
-        }
-    }
-    Ok(None)
 }
 
 // The lesser of two keys, or the one that there is.
@@ -68,12 +45,40 @@ fn lesser<'m>(a: Option<&'m Key>, b: Option<&'m Key>) -> Option<&'m Key>
     }
 }
 
-// The verdict on what two maps stand for.
-fn compare_named(alloc: Global, a: &Named<'_>, b: &Named<'_>) -> Result<Verdict, AllocError>
-    ensures { IfOk result (λ verdict. (es fs : List Entry) → AreEntries a.now es → AreEntries b.now fs → IsVerdict (from_entries es) (from_entries fs) verdict) }
+// The least difference so far, with one entry more.
+fn with_entry<'m>(
+    other: &NamedMap,
+    key: &'m Key,
+    value: &Value,
+    least: Option<&'m Key>,
+) -> Option<&'m Key>
+    ensures { IsWithEntry other.now (key.now, value.now) (option_map (λ k. k.now) least.entry) (option_map (λ k. k.now) result) }
 {
-    let of_a = first_difference(alloc, a, b)?;
-    let of_b = first_difference(alloc, b, a)?;
+    if is_at(other, key, value) {
+        least
+    } else {
+        lesser(least, Some(key))
+    }
+}
+
+// The least key of the first at which the second has another value or none.
+fn first_difference<'m>(of: &'m NamedMap, other: &NamedMap) -> Option<&'m Key>
+    ensures { IsFirstDifference of.now other.now (option_map (λ k. k.now) result) }
+{
+    let mut least = None;
+    for (key, value) in of.iter() {
+        least = with_entry(other, key, value, least);
+    }
+    least
+}
+
+/// Compares two catalogues by names, in a time that grows with their sizes: each is gone over once, and each key of it
+/// looked up in the other. The only error is want of memory.
+pub fn compare_maps(a: &NamedMap, b: &NamedMap) -> Result<Verdict, AllocError>
+    ensures { IfOk result (λ verdict. IsVerdict a.now b.now verdict) }
+{
+    let of_a = first_difference(a, b);
+    let of_b = first_difference(b, a);
     match lesser(of_a, of_b) {
         Some(key) => Ok(Verdict::Differs(key.clone()?)),
         None => Ok(Verdict::Same),
@@ -81,49 +86,11 @@ fn compare_named(alloc: Global, a: &Named<'_>, b: &Named<'_>) -> Result<Verdict,
 }
 
 // What a catalogue whose texts have no fault stands for.
-fn named<'n>(
-    alloc: Global,
-    naming: &'n Naming<'_>,
-    rows: &'n DataSet,
-) -> Result<Named<'n>, AllocError>
-    requires { values_fault naming.now rows.now ≡ None }
-    ensures { IfOk result (λ named. AreEntries named (entries_of naming.now (rows_by_oid rows.now))) }
+fn named(alloc: Global, cat: &WellFormed, rows: &DataSet) -> Result<NamedMap, AllocError>
+    requires { values_fault cat.now rows.now ≡ None }
+    ensures { IfOk result (λ named. named ≡ catalogue_named cat.now (rows_by_oid rows.now)) }
 {
-    texts_without_fault_have_rows();
-    catalogue_named(alloc, naming, rows)
-}
-
-// The verdict on two catalogues, each with what its rows are found by.
-fn compare_namings(
-    alloc: Global,
-    a: &Naming<'_>,
-    a_rows: &DataSet,
-    b: &Naming<'_>,
-    b_rows: &DataSet,
-) -> Result<Verdict, AllocError>
-    requires first { values_fault a.now a_rows.now ≡ None }
-    requires second { values_fault b.now b_rows.now ≡ None }
-    ensures { IfOk result (λ verdict. IsVerdict (catalogue_named a.now (rows_by_oid a_rows.now)) (catalogue_named b.now (rows_by_oid b_rows.now)) verdict) }
-{
-    let of_a = named(alloc, a, a_rows)?;
-    let of_b = named(alloc, b, b_rows)?;
-    compare_named(alloc, &of_a, &of_b)
-}
-
-// The same, where the second catalogue's rows are still to be found.
-fn compare_with(
-    alloc: Global,
-    a: &Naming<'_>,
-    a_rows: &DataSet,
-    b: &WellFormed,
-    b_rows: &DataSet,
-) -> Result<Verdict, AllocError>
-    requires first { values_fault a.now a_rows.now ≡ None }
-    requires second { values_fault b.now b_rows.now ≡ None }
-    ensures { IfOk result (λ verdict. IsVerdict (catalogue_named a.now (rows_by_oid a_rows.now)) (catalogue_named b.now (rows_by_oid b_rows.now)) verdict) }
-{
-    let b = Naming::of(alloc, b.rows())?;
-    compare_namings(alloc, a, a_rows, &b, b_rows)
+    catalogue_map(alloc, cat.rows(), rows)
 }
 
 /// Compares what two catalogues and the rows of their tables stand for by names, in a time that grows with their rows
@@ -140,6 +107,7 @@ pub fn same(
     requires second { values_fault b.now b_rows.now ≡ None }
     ensures { IfOk result (λ verdict. IsVerdict (catalogue_named a.now (rows_by_oid a_rows.now)) (catalogue_named b.now (rows_by_oid b_rows.now)) verdict) }
 {
-    let a = Naming::of(alloc, a.rows())?;
-    compare_with(alloc, &a, a_rows, b, b_rows)
+    let of_a = named(alloc, a, a_rows)?;
+    let of_b = named(alloc, b, b_rows)?;
+    compare_maps(&of_a, &of_b)
 }

@@ -4,4 +4,4 @@
 mod compare;
 pub mod laws;
 
-pub use compare::{Verdict, same};
+pub use compare::{Verdict, compare_maps, same};

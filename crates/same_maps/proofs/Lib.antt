@@ -2,5 +2,5 @@ mod Bytes
 mod Entries
 mod Flags
 mod Holdings
-mod Keys
+pub mod Keys
 mod Lists

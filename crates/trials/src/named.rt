@@ -3,7 +3,7 @@ use crate::base::Base;
 use crate::comparing::formed;
 use cat_model::{Key, Value};
 use cat_names::DataSet;
-use eng_load::catalogue_map;
+use cat_naming::catalogue_map;
 use eng_map::NamedMap;
 use std::alloc::{AllocError, Global};
 use table_rows::{CheckValuesError, check_values};

@@ -9,7 +9,7 @@ use cat_rows::{AuthidRow, Catalogue};
 use checked_export::{ExportError, WholeExport, export_whole};
 use copy_text::Name;
 use ddl_read::{Located, ReadStmtsError, read_stmts};
-use eng_load::catalogue_map;
+use cat_naming::catalogue_map;
 use eng_steps::ApplyError;
 use std::alloc::{AllocError, Global};
 use table_rows::{CheckValuesError, check_values};

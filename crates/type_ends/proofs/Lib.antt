@@ -1,5 +1,4 @@
 pub mod LabelsAt
 pub mod Numbered
 pub mod Reached
-pub mod SameLabels
 pub mod Trails

@@ -4,5 +4,4 @@ pub mod Ends
 pub mod Enums
 pub mod Examples
 pub mod Jumps
-pub mod Seen
 pub mod Steps

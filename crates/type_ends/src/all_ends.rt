@@ -1,17 +1,18 @@
 //! The ends of all chains of a catalogue.
-ghost use Rattle.std.specs.Prelude.{◌≡◌, ◌≢◌, ℕ, option_map, IfOk};
+ghost use Rattle.std.specs.Prelude.{◌≡◌, ◌≢◌, IfOk};
 ghost use Rattle.cat_model.specs.Values.{Bytes};
 ghost use Rattle.cat_book.specs.Leads.{type_oids};
 ghost use Rattle.type_ends.specs.Ends.{labels_of, resolved};
-ghost use Rattle.type_ends.specs.Seen.{end_seen};
 
 use crate::bases::{bases, end_at};
-use crate::ends::{Base, Labels, TypeEnd};
+use crate::ends::Base;
 use crate::enums::{label_groups, labels_of};
 use crate::jumps::{Jump, far_jumps, jump_from, steps};
 use cat_book::Book;
+use cat_model::{Items, Resolved};
 use cat_names::OidIndex;
 use cat_rows::{Catalogue, TypeRow};
+use copy_text::Text;
 use oid_groups::Groups;
 use std::alloc::{AllocError, Global};
 use std::marker::Model;
@@ -69,20 +70,21 @@ impl<'a> TypeEnds<'a> {
 
     /// What the first type of this oid is at the end of its chain; `None` where its chain doesn't end, leads to no row, to
     /// a text that names no type, or to an enum whose schema isn't there, and where there is no such type. Nothing is said
-    /// of the oid 0, which stands for no type of the table.
-    pub fn end_of(&self, oid: u32) -> Option<TypeEnd<'_>>
-        ensures { (text : Bytes) → oid ≢ 0 → option_map end_seen result ≡ resolved self.now oid text }
+    /// of the oid 0, which stands for no type of the table. The error is that memory ran out.
+    pub fn end_of(&self, alloc: Global, oid: u32) -> Result<Option<Resolved>, AllocError>
+        ensures { (text : Bytes) → oid ≢ 0 → IfOk result (λ end. end ≡ resolved self.now oid text) }
     {
         match self.oids.find(oid) {
-            Some(place) => end_at(&self.bases, jump_from(&self.jumps, place)),
-            None => None,
+            Some(place) => end_at(alloc, &self.bases, jump_from(&self.jumps, place)),
+            None => Ok(None),
         }
     }
 
-    /// The labels of an enum, in the order of their positions; none where there is no such enum.
-    pub fn labels_of(&self, alloc: Global, oid: u32) -> Result<Labels<'a>, AllocError>
+    /// The labels of an enum, in the order of their positions; none where there is no such enum. The error is that memory
+    /// ran out.
+    pub fn labels_of(&self, alloc: Global, oid: u32) -> Result<Items<Text>, AllocError>
         ensures { IfOk result (λ labels. labels ≡ labels_of self.now oid) }
     {
-        labels_of(alloc, self.cat, &self.labels, oid)
+        labels_of(alloc, self.cat, &self.labels, oid)?.to_items(alloc)
     }
 }

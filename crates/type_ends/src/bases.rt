@@ -6,14 +6,13 @@ ghost use Rattle.cat_book.specs.Leads.{type_oids};
 ghost use Rattle.type_ends.specs.Bases.{end_at};
 ghost use Rattle.type_ends.specs.Ends.{labels_of};
 ghost use Rattle.type_ends.specs.Enums.{label_keys};
-ghost use Rattle.type_ends.specs.Seen.{end_seen};
 ghost use Rattle.type_ends.specs.Steps.{enum_base, other_base, base_at_end, is_place, base_at_place, bases_of};
 
-use crate::ends::{Base, TypeEnd};
+use crate::ends::{Base, end_with};
 use crate::enums::labels_of;
 use crate::jumps::{Jump, is_domain};
 use cat_book::Book;
-use cat_model::TypeName;
+use cat_model::{Resolved, TypeName};
 use cat_names::OidIndex;
 use cat_rows::TypeRow;
 use copy_text::Text;
@@ -124,14 +123,15 @@ pub(crate) fn bases<'a>(
 }
 
 /// The end to which a jump leads; `None` where there is none.
-pub(crate) fn end_at<'b>(bases: &'b [Option<Base<'b>>], jump: Jump) -> Option<TypeEnd<'b>>
-    ensures { option_map end_seen result ≡ end_at bases.now jump }
+pub(crate) fn end_at(
+    alloc: Global,
+    bases: &[Option<Base<'_>>],
+    jump: Jump,
+) -> Result<Option<Resolved>, AllocError>
+    ensures { IfOk result (λ end. end ≡ end_at bases.now jump) }
 {
     match bases.get(jump.place) {
-        Some(Some(base)) => Some(TypeEnd {
-            base,
-            not_null: jump.not_null,
-        }),
-        _ => None,
+        Some(Some(base)) => Ok(Some(end_with(alloc, jump.not_null, base)?)),
+        _ => Ok(None),
     }
 }

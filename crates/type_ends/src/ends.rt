@@ -1,15 +1,16 @@
 //! The ends of chains of domains, and the labels of enums.
-ghost use Rattle.std.specs.Prelude.{◌≡◌, ◌↔◌, IsTrue, IfOk};
+ghost use Rattle.std.specs.Prelude.{◌≡◌, IfOk};
+ghost use Rattle.type_ends.specs.Bases.{end_with};
 ghost use Rattle.type_ends.specs.Enums.{labels_seen};
 
-use cat_model::{Items, TypeName};
+use cat_model::{Items, Resolved, TypeName};
 use copy_text::Text;
 use std::alloc::{AllocError, Global};
 use std::marker::Model;
 
 /// The labels of an enum, in the order of their positions. A contract sees the list of their bytes.
 #[derive(Drop)]
-pub struct Labels<'a> {
+pub(crate) struct Labels<'a> {
     labels: Vec<&'a Text>,
 }
 
@@ -25,24 +26,17 @@ impl<'a> Model for Labels<'a> {
 
 impl<'a> Labels<'a> {
     /// These labels.
-    pub fn new(labels: Vec<&'a Text>) -> Labels<'a>
+    pub(crate) fn new(labels: Vec<&'a Text>) -> Labels<'a>
         ensures { result ≡ labels_seen labels.entry.items }
     {
         Labels { labels }
     }
 
     /// The labels once more, as a list of texts. The error is that memory ran out.
-    pub fn to_items(&self, alloc: Global) -> Result<Items<Text>, AllocError>
+    pub(crate) fn to_items(&self, alloc: Global) -> Result<Items<Text>, AllocError>
         ensures { IfOk result (λ labels. labels ≡ self.now) }
     {
         Ok(Items::new(copied(alloc, &self.labels)?))
-    }
-
-    /// Whether the same labels stand in the same order.
-    pub fn is_same(&self, other: &Labels<'_>) -> bool
-        ensures { IsTrue result ↔ (self.now ≡ other.now) }
-    {
-        are_same(&self.labels, &other.labels)
     }
 }
 
@@ -57,27 +51,37 @@ fn copied(alloc: Global, labels: &[&Text]) -> Result<Vec<Text>, AllocError>
     Ok(texts)
 }
 
-// Whether these texts are the same in the same order.
-fn are_same(labels: &[&Text], others: &[&Text]) -> bool
-    ensures { IsTrue result ↔ (labels_seen labels.now ≡ labels_seen others.now) }
+// The labels once more, where there are any.
+fn labels_of(alloc: Global, labels: &Option<Labels<'_>>) -> Result<Option<Items<Text>>, AllocError>
+    ensures { IfOk result (λ copy. copy ≡ labels.now) }
 {
-    labels == others
+    match labels {
+        Some(labels) => Ok(Some(labels.to_items(alloc)?)),
+        None => Ok(None),
+    }
 }
 
 /// A type that is no domain, at the end of a chain of domains: an enum with its labels, or a type without a row.
 #[derive(Drop)]
-pub struct Base<'a> {
+pub(crate) struct Base<'a> {
     /// The type.
-    pub type_name: TypeName,
+    pub(crate) type_name: TypeName,
     /// The labels of an enum; `None` for any other type.
-    pub labels: Option<Labels<'a>>,
+    pub(crate) labels: Option<Labels<'a>>,
 }
 
-/// What a type of pg_type is at the end of its chain of domains.
-#[derive(Clone, Copy)]
-pub struct TypeEnd<'a> {
-    /// The type at the end.
-    pub base: &'a Base<'a>,
-    /// Whether a domain of the chain takes no null.
-    pub not_null: bool,
+/// What a type is whose chain of domains ends so.
+pub(crate) fn end_with(
+    alloc: Global,
+    not_null: bool,
+    base: &Base<'_>,
+) -> Result<Resolved, AllocError>
+    ensures { IfOk result (λ resolved. resolved ≡ end_with not_null base.now) }
+{
+    let labels = labels_of(alloc, &base.labels)?;
+    Ok(Resolved {
+        type_name: base.type_name.clone()?,
+        labels,
+        not_null,
+    })
 }

@@ -9,4 +9,3 @@ mod jumps;
 pub mod laws;
 
 pub use all_ends::TypeEnds;
-pub use ends::{Base, Labels, TypeEnd};

@@ -11,5 +11,5 @@ pub returns : goal.returns
 returns c =
     let given : List ConstraintRow → List ℕ → List (Bytes × Bytes) = λ rows places. filter_map (λ p. option_and_then check_of (slice_get rows p)) places in
     subst (λ (cs : List (Bytes × Bytes)). IfOk c.checks_at.result (λ checks. checks.items ≡ cs))
-    (ap₂ given (c.as_slice-rows.ensures ∙ ap (λ k. k.pg_constraint) c.tables.ensures) c.check_places.ensures ∙ checks_of_group c.args.naming.now c.args.domain)
+    (ap₂ given (c.as_slice-rows.ensures ∙ ap (λ k. k.pg_constraint) c.tables.ensures) c.check_places.ensures ∙ checks_of_group c.args.lookups.now c.args.domain)
     c.checks_at.ensures

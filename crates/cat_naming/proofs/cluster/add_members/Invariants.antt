@@ -2,8 +2,7 @@
 use Rattle.std.proofs.Common.{◌≡◌, ◌++◌, take}
 use Rattle.std.specs.List.{flat_map}
 use Rattle.cat_names.specs.Naming.{member_entries}
-use Rattle.cat_naming.specs.Seen.{entries_seen}
 use Rattle.cat_naming.proofs.cluster.add_members.Given as goal
 
 abbrev pub invariant-loop-row : goal.invariant-loop-row
-invariant-loop-row l = entries_seen l.entries ≡ entries_seen l.fn.entries ++ flat_map (member_entries l.fn.book.pg_authid) (take l.row-index l.rows)
+invariant-loop-row l = l.entries.items ≡ l.fn.entries.items ++ flat_map (member_entries l.fn.book.pg_authid) (take l.row-index l.rows)

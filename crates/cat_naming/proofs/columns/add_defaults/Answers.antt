@@ -1,15 +1,14 @@
 use Rattle.std.proofs.Common.{arith}
 use Rattle.cat_naming.specs.Relations.{default_entries}
-use Rattle.cat_naming.specs.Seen.{entries_seen}
 use Rattle.cat_naming.proofs.Rows.{row_none, row_more, rows_all}
 use Rattle.cat_naming.proofs.columns.add_defaults.Goals as goal
 
 pub loop-row-init : goal.loop-row-init
-loop-row-init c = row_none (default_entries c.args.naming.now) (entries_seen c.args.entries.now) c.args.rows.now
+loop-row-init c = row_none (default_entries c.args.lookups.now) c.args.entries.now.items c.args.rows.now
 
 pub loop-row-preserved : goal.loop-row-preserved
 loop-row-preserved c =
-    row_more (default_entries c.args.naming.now) (entries_seen c.args.entries.now) _ _ (entries_seen c.in_ok-more.more) c.args.rows.now c.loop-row.row-index c.row-item.result c.loop-row.invariant c.in_ok-append.ensures c.in_ok-more.ensures c.loop-row-test.true c.row-item.is
+    row_more (default_entries c.args.lookups.now) c.args.entries.now.items _ _ c.args.rows.now c.loop-row.row-index c.row-item.result c.loop-row.invariant c.in_ok-push_default.ensures c.loop-row-test.true c.row-item.is
 
 pub returns : goal.returns
-returns c = rows_all (default_entries c.args.naming.now) (entries_seen c.args.entries.now) _ c.args.rows.now c.loop-row.row-index c.loop-row.invariant (omega (arith, c.loop-row-test.false))
+returns c = rows_all (default_entries c.args.lookups.now) c.args.entries.now.items _ c.args.rows.now c.loop-row.row-index c.loop-row.invariant (omega (arith, c.loop-row-test.false))

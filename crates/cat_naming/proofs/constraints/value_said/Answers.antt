@@ -1,10 +1,9 @@
-use Rattle.std.proofs.Common.{◌≡◌, IfOk, ℕ, Option, length, Ok, option_map, ap, ap₂, arith, subst, ◌∙◌}
+use Rattle.std.proofs.Common.{◌≡◌, IfOk, ℕ, Option, length, Ok, ap, ap₂, arith, subst, ◌∙◌}
 use Rattle.std.specs.Option.{option_and_then}
 use Rattle.cat_model.specs.Values.{Bytes}
 use Rattle.cat_model.specs.declared.stmt.Stmt.{Stmt}
 use Rattle.ddl_read.specs.Reading.{statements_of}
 use Rattle.constraint_table.specs.Said.{only_statement, statement_text}
-use Rattle.cat_values.specs.Seen.{value_seen}
 use Rattle.cat_naming.specs.Constraints.{constraint_value}
 use Rattle.cat_naming.proofs.constraints.value_said.Goals as goal
 
@@ -12,7 +11,7 @@ pub returns : goal.returns
 returns c =
     let of_text = c.in_ok-text.ensures ∙ ap statement_text c.as_bytes.ensures.value in
     let long : c.len.result ≡ length c.in_ok-text.text.items = omega (arith, c.in_ok-text.text.ok.0, c.len.ensures) in
-    subst (λ (o : Option Stmt). IfOk c.value_in.result (λ value. option_map value_seen value ≡ option_and_then constraint_value o))
+    subst (λ (o : Option Stmt). IfOk c.value_in.result (λ value. value ≡ option_and_then constraint_value o))
     (c.only_statement.ensures
     ∙ ap (λ ss. only_statement c.len.result (Ok ss)) c.deref-2.ensures.value
     ∙ c.in_ok-statements.ensures c.len.result

@@ -16,7 +16,7 @@ use Rattle.cat_names.specs.Lookups.{role_name}
 use Rattle.cat_naming.specs.Entries.{entries_of, catalogue_named}
 use Rattle.cat_naming.specs.Examples.{one, path}
 use Rattle.cat_same.specs.Examples.{nothing, row_of, with_rights, with_role}
-use Rattle.cat_values.specs.Seen.{role_value}
+use Rattle.cat_naming.specs.Roles.{role_value}
 use Rattle.cat_same.proofs.Lookups.{found, none_below, find-behind, find-beside}
 use Rattle.cat_same.proofs.laws.verdicts_meet_the_examples.Goals as goal
 

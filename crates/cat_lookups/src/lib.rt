@@ -1,0 +1,6 @@
+//! A catalogue whose rows are found without going through its tables.
+#![tactic(auto)]
+
+mod lookups;
+
+pub use lookups::Lookups;

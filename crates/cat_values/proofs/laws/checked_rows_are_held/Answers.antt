@@ -1,5 +1,0 @@
-use Rattle.cat_values.proofs.RowLists.{held}
-use Rattle.cat_values.proofs.laws.checked_rows_are_held.Goals as goal
-
-pub returns : goal.returns
-returns c = λ columns text rows e. held text rows (c.rows_are_what_their_lines_read.ensures.lines columns text rows e)

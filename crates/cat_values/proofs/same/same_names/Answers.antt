@@ -1,5 +1,0 @@
-use Rattle.cat_values.proofs.Bytes.{same_lists}
-use Rattle.cat_values.proofs.same.same_names.Goals as goal
-
-pub returns : goal.returns
-returns c = same_lists c.args.a.now c.args.b.now c.eq.result c.eq.ensures
