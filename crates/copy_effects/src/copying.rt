@@ -51,7 +51,7 @@ fn rows_added(
 {
     match first_cause(alloc, named, q, columns, &new)? {
         Some(cause) => Err(ApplyError::Refused(cause)),
-        None => Ok(rows_changes(alloc, named, q, new.as_slice())?),
+        None => Ok(rows_changes(alloc, named, q, new)?),
     }
 }
 

@@ -6,7 +6,7 @@ ghost use Rattle.cat_model.specs.declared.key.Key.TheVariants as key;
 ghost use Rattle.cat_model.specs.declared.value.Value.TheVariants as value;
 ghost use Rattle.cat_model.specs.KeyEffects.{rows_in};
 
-use cat_model::{Key, QName, TableRows, Value};
+use cat_model::{Items, Key, QName, TableRows, Value};
 use copy_text::Row;
 use eng_map::{Change, NamedMap};
 use eng_steps::{let_go_key, one};
@@ -61,11 +61,11 @@ pub(crate) fn rows_changes(
     alloc: Global,
     named: &NamedMap,
     q: &QName,
-    new: &[Row],
+    new: Items<Row>,
 ) -> Result<Vec<Change>, AllocError>
-    requires { All (λ row. 0 < length row) new.now }
-    ensures { IfOk result (λ changes. changes.items ≡ (key.Rows q.now, Some (value.Rows (rows_in (get named.now (key.Rows q.now)) ++ new.now))) ∷ []) }
+    requires { All (λ row. 0 < length row) new }
+    ensures { IfOk result (λ changes. changes.items ≡ (key.Rows q.now, Some (value.Rows (rows_in (get named.now (key.Rows q.now)) ++ new))) ∷ []) }
 {
-    let all = all_rows(alloc, named, q, new)?;
+    let all = all_rows(alloc, named, q, new.as_slice())?;
     one(alloc, Key::Rows(q.clone()?), Value::Rows(all))
 }

@@ -7,8 +7,9 @@ use Rattle.cat_model.specs.Values.{Bytes}
 use Rattle.schema_folders.specs.declared.schemas.SchemaRow.{SchemaRow}
 use Rattle.schema_folders.specs.Naming.{boot, named}
 use Rattle.schema_folders.specs.Run.{catalogue_after, Grown}
-use Rattle.schema_folders.specs.Folder.{File, files_written, folder_saved, saved, PartSaved, IsNamespaces}
-use Rattle.schema_folders.specs.Folder.{IsCut as IsCutFile}
+use Rattle.schema_folders.specs.Folder.{files_written, folder_saved, IsNamespaces}
+use Rattle.saved_folders.specs.Files.{File, saved, PartSaved}
+use Rattle.saved_folders.specs.Files.{IsCut as IsCutFile}
 use Rattle.tool_words.specs.declared.outcome.Outcome.{Outcome}
 use Rattle.tool_words.specs.declared.outcome.Outcome.TheVariants.{Done}
 use Rattle.tool_words.specs.declared.words.Teller.{Teller}
@@ -17,9 +18,10 @@ use Rattle.dump_ports.specs.declared.moment.Moment.{Moment}
 use Rattle.tool_words.specs.declared.words.Asked.{Asked}
 use Rattle.tool_words.specs.Answers.{◌>>=◌}
 use Rattle.tool_words.specs.Words.{words_asked}
-use Rattle.dump_tools.specs.Due.{asked_due, due, Plan, Applies, Prints, Compares, Application, Applied, IsCarriedOut, WasDue, report_of}
+use Rattle.saved_folders.specs.Folders.{Texts, files_of}
+use Rattle.dump_tools.specs.Due.{asked_due, due, Plan, Applies, Running, Runs, Leaves, report_of_run, Prints, Compares, Application, Applied, IsCarriedOut, WasDue, report_of}
 use Rattle.dump_tools.specs.Outputs.{World, world, Output, Writes, Tells, all_performed, IsPart, IsCut, CutShort, stores}
-use Rattle.dump_tools.specs.Runs.{Run, run_of, IsApplied, HasCut}
+use Rattle.dump_tools.specs.Runs.{Run, run_of, IsApplied, MayCome, HasCut}
 use Rattle.dump_tools.proofs.Ending.{made_of, holds}
 use Rattle.dump_tools.proofs.Taking.{Came, alone}
 
@@ -105,35 +107,52 @@ cut_due teller reads r due d before after one two h = subst (λ x. HasCut x tell
 pub due_asked : (words : List Bytes) (moment : Moment) (tree : Tree) (input : Bytes) (asked : Asked) → words_asked words ≡ Ok asked → due words moment tree input ≡ asked_due asked moment tree input
 due_asked words moment tree input asked e = ap (λ (r : Result Asked Outcome). r >>= λ a. asked_due a moment tree input) e
 
-abbrev pub applied_run : (plan : Application) (text : Bytes) → Run
-applied_run plan text = run_of (map stores (files_written plan.folder text) ++ Tells (report_of plan) ∷ []) Done
+-- ---- a run that stores files and tells a report
 
--- the run in which a script is applied
-pub may_apply : (plan : Application) (schemas : List SchemaRow) (text : Bytes) → Grown plan.rows schemas → named schemas ≡ catalogue_after boot plan.statements (named plan.rows) → IsNamespaces schemas text → IsApplied plan (applied_run plan text)
-may_apply plan schemas text g same n = record { text = text; comes = made_of plan schemas text g same n; holds = holds plan schemas text n; is = refl }
+abbrev pub stored_run : List File → Bytes → Run
+stored_run files told = run_of (map stores files ++ Tells told ∷ []) Done
 
--- the writing of a folder ended on its way
-pub cut_in_folder : (teller : Teller) (plan : Application) (text : Bytes) → IsApplied plan (applied_run plan text) → (before after : Option Tree) (left printed told : Option Bytes) → PartSaved (files_written plan.folder text) before after → HasCut None teller (Ok (Applies plan)) (world before left printed told) (world after left printed told)
-cut_in_folder teller plan text may before after left printed told s = record {
-  outputs = map stores (files_written plan.folder text) ++ Tells (report_of plan) ∷ [];
-  of_run = inr (applied_run plan text, alone teller (Ok (Applies plan)) (applied_run plan text) may, refl);
-  cut = folder_cut (files_written plan.folder text) (Tells (report_of plan) ∷ []) before after left printed told s;
+-- the storing of the files ended on its way
+pub cut_in_files : (teller : Teller) (due : Result Plan Outcome) (files : List File) (report : Bytes) → MayCome teller due (stored_run files report) → (before after : Option Tree) (left printed told : Option Bytes) → PartSaved files before after → HasCut None teller due (world before left printed told) (world after left printed told)
+cut_in_files teller due files report may before after left printed told s = record {
+  outputs = map stores files ++ Tells report ∷ [];
+  of_run = inr (stored_run files report, alone teller due (stored_run files report) may, refl);
+  cut = folder_cut files (Tells report ∷ []) before after left printed told s;
 }
 
--- the telling of the report ended on its way
-pub cut_in_report : (teller : Teller) (plan : Application) (before after : Option Tree) (left printed told told_after : Option Bytes) → Applied plan before after → AppendsPart (report_of plan) told told_after → HasCut None teller (Ok (Applies plan)) (world before left printed told) (world after left printed told_after)
-cut_in_report teller plan before after left printed told told_after a p = record {
-  outputs = map stores (files_written plan.folder a.text) ++ Tells (report_of plan) ∷ [];
-  of_run = inr (applied_run plan a.text, alone teller (Ok (Applies plan)) (applied_run plan a.text) (record { text = a.text; comes = a.result; holds = a.holds; is = refl }), refl);
+-- the telling of the report did
+pub cut_in_told : (teller : Teller) (due : Result Plan Outcome) (files : List File) (report : Bytes) → MayCome teller due (stored_run files report) → (before after : Option Tree) (left printed told told_after : Option Bytes) → after ≡ option_map (saved files) before → AppendsPart report told told_after → HasCut None teller due (world before left printed told) (world after left printed told_after)
+cut_in_told teller due files report may before after left printed told told_after whole p = record {
+  outputs = map stores files ++ Tells report ∷ [];
+  of_run = inr (stored_run files report, alone teller due (stored_run files report) may, refl);
   cut = record {
-    whole = map stores (files_written plan.folder a.text);
-    later = Tells (report_of plan) ∷ [];
+    whole = map stores files;
+    later = Tells report ∷ [];
     split = refl;
-    cut = subst (λ w. IsPart (Tells (report_of plan)) w (world after left printed told_after))
-        (ap (λ tree. world tree left printed told) a.saved ∙ sym (whole_put (files_written plan.folder a.text) before left printed told))
-        (told_part after left printed told told_after (report_of plan) p);
+    cut = subst (λ w. IsPart (Tells report) w (world after left printed told_after))
+        (ap (λ tree. world tree left printed told) whole ∙ sym (whole_put files before left printed told))
+        (told_part after left printed told told_after report p);
   };
 }
+
+-- all of them were stored, and the report told
+pub came_stored : (teller : Teller) (due : Result Plan Outcome) (files : List File) (report : Bytes) → MayCome teller due (stored_run files report) → (before after : Option Tree) (left out_before out_after told_before told_after : Option Bytes)
+    → after ≡ option_map (saved files) before → out_after ≡ out_before → Appends report told_before told_after → Came teller due Done (world before left out_before told_before) (world after left out_after told_after)
+came_stored teller due files report may before after left out_before out_after told_before told_after whole kept told = record {
+  run = stored_run files report;
+  may = may;
+  answers = refl;
+  put = same_world after (option_map (saved files) before) left out_after out_before told_after (option_map (λ told. told ++ report) told_before) whole kept told
+      ∙ sym (all_put files (Tells report ∷ []) before left out_before told_before);
+}
+
+-- the run in which a script is applied
+pub may_apply : (plan : Application) (schemas : List SchemaRow) (text : Bytes) → Grown plan.rows schemas → named schemas ≡ catalogue_after boot plan.statements (named plan.rows) → IsNamespaces schemas text → IsApplied plan (stored_run (files_written plan.folder text) (report_of plan))
+may_apply plan schemas text g same n = record { text = text; comes = made_of plan schemas text g same n; holds = holds plan schemas text n; is = refl }
+
+-- the run of a script on an opening
+pub may_run : (teller : Teller) (plan : Running) (texts : Texts) → Leaves plan texts → MayCome teller (Ok (Runs plan)) (stored_run (files_of plan.folder texts) (report_of_run plan))
+may_run teller plan texts leaves = inl (record { texts = texts; leaves = leaves; is = refl })
 
 -- the printing of a text ended on its way
 pub cut_in_text : (teller : Teller) (due : Result Plan Outcome) (text : Bytes) (tree tree' : Option Tree) (left printed printed_after told : Option Bytes) → due ≡ Ok (Prints text) → tree' ≡ tree → AppendsPart text printed printed_after → HasCut None teller due (world tree left printed told) (world tree' left printed_after told)
@@ -150,13 +169,10 @@ pub ended : (teller : Teller) (due : Result Plan Outcome) (before after : Option
 ended teller due before after left out_before out_after told_before told_after w = subst (λ d. Came teller d Done (world before left out_before told_before) (world after left out_after told_after)) (sym w.is_due) (of w.plan w.carried)
   where
     of : (plan : Plan) → IsCarriedOut plan before after out_before out_after told_before told_after → Came teller (Ok plan) Done (world before left out_before told_before) (world after left out_after told_after)
-    of (Applies plan) carried = record {
-      run = applied_run plan carried.0.text;
-      may = record { text = carried.0.text; comes = carried.0.result; holds = carried.0.holds; is = refl };
-      answers = refl;
-      put = same_world after (option_map (folder_saved plan.folder carried.0.text) before) left out_after out_before told_after (option_map (λ told. told ++ report_of plan) told_before) carried.0.saved carried.1 carried.2
-          ∙ sym (all_put (files_written plan.folder carried.0.text) (Tells (report_of plan) ∷ []) before left out_before told_before);
-    }
+    of (Applies plan) carried = came_stored teller (Ok (Applies plan)) (files_written plan.folder carried.0.text) (report_of plan) (record { text = carried.0.text; comes = carried.0.result; holds = carried.0.holds; is = refl })
+        before after left out_before out_after told_before told_after carried.0.saved carried.1 carried.2
+    of (Runs plan) carried = came_stored teller (Ok (Runs plan)) (files_of plan.folder carried.0.texts) (report_of_run plan) (may_run teller plan carried.0.texts carried.0.leaves)
+        before after left out_before out_after told_before told_after carried.0.saved carried.1 carried.2
     of (Prints text) carried = record {
       run = run_of (Writes text ∷ []) Done;
       may = refl;

@@ -37,7 +37,10 @@ use Rattle.toc_entry.specs.declared.entry.Entry.{Entry}
 use Rattle.dump_schemas.specs.Toc.{toc_due}
 use Rattle.dump_schemas.specs.Scripts.{script_of as dumped_script}
 use Rattle.schema_folders.specs.Texts.{within, file_of}
-use Rattle.schema_folders.specs.Statements.{are_taken, scripted, script_of}
+use Rattle.cat_names.specs.Naming.{boot as boot_role}
+use Rattle.cat_load.specs.declared.meeting.LoadFault.{LoadFault}
+use Rattle.cat_load.specs.Loads.{rows_fault}
+use Rattle.openings.specs.Openings.{meet, opened}
 use Rattle.cat_rows.specs.Catalogues.{rows_in}
 use Rattle.schema_folders.specs.Folder.{is_bare, schemas_of, opening_in, opening_of, or_unbuilt}
 use Rattle.tool_words.specs.Outcomes.{fault_outcome}
@@ -115,15 +118,30 @@ opening_never folder tree e =
 
 scripted_never : (r : Result (List Located) DdlFault) → scripted r ≡ Err Done → ⊥
 scripted_never (Err fault) e = cc
-scripted_never (Ok statements) e = by_kinds (are_taken statements) e
-  where
-    by_kinds : (b : Bool) → cond {A = Result (List Located) Outcome} b (Ok statements) (Err (OutOfProfile what.Unbuilt)) ≡ Err Done → ⊥
-    by_kinds true h = cc
-    by_kinds false h = cc
+scripted_never (Ok statements) e = cc
 
-script_never : (text : List ℕ) → script_of text ≡ Err Done → ⊥
-unfolding script_of
+script_never : (text : List ℕ) → script_read text ≡ Err Done → ⊥
+unfolding script_read
 script_never text e = scripted_never (statements_of text) e
+
+meet_never : (fault : Option LoadFault) → meet fault ≡ Err Done → ⊥
+meet_never None e = cc
+meet_never (Some fault) e = cc
+
+opened_never : (export : Exported) → opened export ≡ Err Done → ⊥
+opened_never export e = bind_never (meet (rows_fault export.cat export.rows)) _ (meet_never (rows_fault export.cat export.rows)) (λ done h. ok_never _ h) e
+
+runs_never : (folder : Bytes) (statements : List Located) (export : Exported) (boot : Option Bytes) → runs_as folder statements export boot ≡ Err Done → ⊥
+runs_never folder statements export None e = cc
+runs_never folder statements export (Some role) e = cc
+
+plan_never : (folder : Bytes) (statements : List Located) (export : Exported) → plan_for folder statements export ≡ Err Done → ⊥
+unfolding plan_for
+plan_never folder statements export e = by (schemas_for statements export.cat) e
+  where
+    by : (schemas : Option (List SchemaRow)) → plan_with folder statements export schemas ≡ Err Done → ⊥
+    by None h = bind_never (opened export) _ (opened_never export) (λ opening h. runs_never folder statements opening (boot_role opening.cat) h) h
+    by (Some rows) h = cc
 
 input_never : (what : Limit) (limit : ℕ) (input : Bytes) → input_of what limit input ≡ Err Done → ⊥
 unfolding input_of
@@ -140,9 +158,9 @@ source_never Input tree input e = input_never Script script_limit input e
 text_never : (folder text : Bytes) (tree : Tree) → text_due folder text tree ≡ Err Done → ⊥
 unfolding text_due
 text_never folder text tree e =
-    bind_never (script_of text) _ (script_never text)
-    (λ statements. bind_never (opening_of folder tree) _ (opening_never folder tree)
-    (λ rows h. ok_never _ h)) e
+    bind_never (script_read text) _ (script_never text)
+    (λ statements. bind_never (export_of folder tree) _ (export_never folder tree)
+    (λ export h. plan_never folder statements export h)) e
 
 psql_never : (folder : Bytes) (script : ScriptSource) (tree : Tree) (input : Bytes) → psql_due folder script tree input ≡ Err Done → ⊥
 unfolding psql_due

@@ -10,7 +10,8 @@ use Rattle.cat_rows.specs.declared.table.SysTable.{SysTable}
 use Rattle.cat_model.specs.Values.{Bytes, bytes_cmp, Named}
 use Rattle.tool_words.specs.declared.outcome.Outcome.{Outcome}
 use Rattle.tool_words.specs.declared.words.Teller.{Teller}
-use Rattle.schema_folders.specs.Folder.{File, IsElsewhere, all_tables, table_written, table_files, marker_written, files_written}
+use Rattle.schema_folders.specs.Folder.{IsElsewhere, all_tables, table_written, table_files, marker_written, files_written}
+use Rattle.saved_folders.specs.Files.{File}
 use Rattle.dump_tools.specs.Outputs.{World, Output, Stores, Writes, Tells, Takes, with_text, performed, all_performed, IsPart, IsCut, CutShort, stores}
 use Rattle.dump_tools.specs.Runs.{Run, IsCompared, MayCome, MayRun}
 use Rattle.dump_tools.specs.Due.{Plan, Applies, Prints, Compares, report_of}

@@ -36,9 +36,27 @@ may_differ teller d (TooLarge what most, h) = elim h [ ]
 may_differ teller d (Differs key, h) = subst (λ r. MayCome teller r (told_run teller (Differs key))) (sym h.is_due) (inr (key, h.least, refl))
 may_differ teller d (Memory, h) = elim h [ ]
 
+-- the line of what a script leaves and isn't written
+may_be_unmade : (teller : Teller) (d : Result Plan Outcome) (answer : Outcome) → IsUnmadeAnswer answer → IsToRun d → MayCome teller d (told_run teller answer)
+may_be_unmade teller d answer unmade run = subst (λ r. MayCome teller r (told_run teller answer)) (sym run.1) (inr (answer, unmade, refl))
+
+may_stop : (teller : Teller) (d : Result Plan Outcome) (h : (a : Outcome) × IsUnmade a d) → MayCome teller d (told_run teller h.0)
+may_stop teller d (Done, h) = elim h [ ]
+may_stop teller d (Usage word kind, h) = elim h [ ]
+may_stop teller d (ReadFault, h) = elim h [ ]
+may_stop teller d (WriteFault, h) = elim h [ ]
+may_stop teller d (Missing name, h) = elim h [ ]
+may_stop teller d (BadExport file line kind, h) = elim h [ ]
+may_stop teller d (BadScript fault, h) = elim h [ ]
+may_stop teller d (OutOfProfile what, h) = may_be_unmade teller d (OutOfProfile what) h.0 h.1
+may_stop teller d (TooLarge what most, h) = may_be_unmade teller d (TooLarge what most) tt h
+may_stop teller d (Differs key, h) = elim h [ ]
+may_stop teller d (Memory, h) = elim h [ ]
+
 -- an answer that is due, by which the work didn't end on its way: its line may come
 may_tell : (teller : Teller) (d : Result Plan Outcome) (answer : Outcome) → (d ≡ Err Done → ⊥) → IsAnswerDue answer d → IsEarly answer ⊎ MayCome teller d (told_run teller answer)
-may_tell teller d answer n (inr h) = inr (may_differ teller d (answer, h))
+may_tell teller d answer n (inr (inl h)) = inr (may_differ teller d (answer, h))
+may_tell teller d answer n (inr (inr h)) = inr (may_stop teller d (answer, h))
 may_tell teller d Done n (inl e) = elim (n e) [ ]
 may_tell teller d (Usage word kind) n (inl e) = inr (may_refuse teller d (Usage word kind) e)
 may_tell teller d ReadFault n (inl e) = inl tt
@@ -54,7 +72,8 @@ may_tell teller d Memory n (inl e) = inl tt
 -- such an answer is a refusal, before which nothing was put out
 pub refuses : (d : Result Plan Outcome) (answer : Outcome) → (d ≡ Err Done → ⊥) → IsAnswerDue answer d → (IsEarly answer → ⊥) → IsRefusal answer × IsTold answer
 refuses d Done n (inl e) late = elim (n e) [ ]
-refuses d Done n (inr h) late = elim h [ ]
+refuses d Done n (inr (inl h)) late = elim h [ ]
+refuses d Done n (inr (inr h)) late = elim h [ ]
 refuses d (Usage word kind) n h late = (tt, tt)
 refuses d ReadFault n h late = (tt, tt)
 refuses d WriteFault n h late = elim (late tt) [ ]

@@ -1,6 +1,6 @@
 -- What is due for the words of a command line, the files and standard input: the first refusal of its steps in their
 -- order, or a plan that is carried out. And what the files hold once it is.
-use Rattle.std.specs.Prelude.{◌≡◌, ℕ, ◌+◌, ◌≤◌, List, [], ◌++◌, length, map, Option, option_map, Result, Ok, Err, ◌⊎◌, codes, nat_le, if◌then◌else◌}
+use Rattle.std.specs.Prelude.{◌≡◌, true, ℕ, ◌+◌, ◌≤◌, List, [], ◌++◌, length, map, Option, Some, None, option_map, Result, Ok, Err, ◌⊎◌, codes, nat_le, if◌then◌else◌}
 use Rattle.std.specs.List.{All, IsDistinct}
 use Rattle.std.specs.List.Sorted.{IsPermutation}
 use Rattle.cat_rows.specs.declared.table.SysTable.TheVariants.{PgNamespace}
@@ -10,15 +10,22 @@ use Rattle.dump_ports.specs.Tree.{Tree}
 use Rattle.dump_ports.specs.Faults.{HasRisen, HasNotRisen}
 use Rattle.cat_model.specs.Values.{Bytes, bytes_cmp, Named}
 use Rattle.cat_model.specs.declared.key.Key.{Key}
-use Rattle.cat_naming.specs.Entries.{catalogue_named}
-use Rattle.cat_naming.specs.Texts.{rows_by_oid}
+use Rattle.std.specs.Result.{result_ok}
+use Rattle.cat_rows.specs.declared.catalogue.Catalogue.{Catalogue}
+use Rattle.cat_names.specs.Naming.{boot as boot_role}
+use Rattle.cat_model.specs.declared.words.What.TheVariants.{Unbuilt}
+use Rattle.ddl_read.specs.declared.fault.DdlFault.{DdlFault}
+use Rattle.ddl_read.specs.Reading.{statements_of}
+use Rattle.openings.specs.Openings.{opened, export_named}
+use Rattle.saved_folders.specs.Folders.{Texts, folder_saved as folder_stored}
+use Rattle.saved_folders.specs.Exports.{ReadsAs}
 use Rattle.cat_same.specs.Verdicts.{IsLeastDifference}
 use Rattle.schema_folders.specs.declared.schemas.SchemaRow.{SchemaRow}
 use Rattle.ddl_read.specs.declared.located.Located.{Located}
 use Rattle.tool_words.specs.declared.outcome.Limit.{Limit}
 use Rattle.tool_words.specs.declared.outcome.Limit.TheVariants.{Script, Entries}
 use Rattle.tool_words.specs.declared.outcome.Outcome.{Outcome}
-use Rattle.tool_words.specs.declared.outcome.Outcome.TheVariants.{ReadFault, WriteFault, TooLarge, Differs, Memory}
+use Rattle.tool_words.specs.declared.outcome.Outcome.TheVariants.{ReadFault, WriteFault, BadScript, OutOfProfile, TooLarge, Differs, Memory}
 use Rattle.tool_words.specs.Answers.{◌>>=◌, IsDue}
 use Rattle.tool_words.specs.declared.words.Asked.{Asked}
 use Rattle.tool_words.specs.declared.words.Asked.TheVariants.{Psql, Dump, Compare}
@@ -33,24 +40,36 @@ use Rattle.dump_schemas.specs.Toc.{toc_due}
 use Rattle.dump_schemas.specs.Scripts.{script_of as dumped_script}
 use Rattle.schema_folders.specs.Texts.{file_of}
 use Rattle.exports.specs.Exports.{Exported, export_of}
-use Rattle.schema_folders.specs.Statements.{script_of}
-use Rattle.dump_tools.specs.declared.tools.Work.{Work}
-use Rattle.schema_folders.specs.Folder.{opening_of, cells_of_row, schemas_alone, Holds, folder_saved}
+use Rattle.schema_folders.specs.Statements.{are_taken}
+use Rattle.dump_tools.specs.declared.psql.Work.{Work}
+use Rattle.dump_tools.specs.declared.psql.Work.TheVariants as work
+use Rattle.dump_tools.specs.declared.psql.SchemaWork.{SchemaWork}
+use Rattle.dump_tools.specs.declared.psql.ScriptWork.{ScriptWork}
+use Rattle.schema_folders.specs.Folder.{opening_in, opening_of, cells_of_row, schemas_alone, Holds, folder_saved}
 use Rattle.tool_words.specs.Lines.{Appends}
 use Rattle.schema_folders.specs.Naming.{boot, named}
 use Rattle.tool_words.specs.Messages.{report}
 use Rattle.schema_folders.specs.Run.{catalogue_after, refusals, IsUsers}
 
--- a script to apply to a folder of schemas
+-- a script of schemas, to apply to a folder whose only objects they are
 pub record Application : Type 0 where
   pub folder : Bytes
   pub statements : List Located
   pub rows : List SchemaRow
 
+-- any other script, to run on an opening; what it creates belongs to this role
+pub record Running : Type 0 where
+  pub folder : Bytes
+  pub boot : Bytes
+  pub statements : List Located
+  pub opening : Exported
+
 -- what a tool does once all is read
 pub data Plan : Type 0 where
-  -- psql applies a script to a folder
+  -- psql applies a script of schemas to a folder of schemas
   Applies : Application → Plan
+  -- psql runs a script on a folder
+  Runs : Running → Plan
   -- pg_dump prints a text
   Prints : Bytes → Plan
   -- pg_catcmp compares two catalogues by names
@@ -68,12 +87,41 @@ abbrev pub source_of : ScriptSource → Tree → Bytes → Result Bytes Outcome
 source_of (File name) tree input = file_of Script script_limit name tree
 source_of Input tree input = input_of Script script_limit input
 
+-- what a text is that was read: its first fault, or its statements
+abbrev pub scripted : Result (List Located) DdlFault → Result (List Located) Outcome
+scripted (Err fault) = Err (BadScript fault)
+scripted (Ok statements) = Ok statements
+
+-- the statements of a script
+unfoldable pub script_read : Bytes → Result (List Located) Outcome
+script_read text = scripted (statements_of text)
+
+-- the schemas of a catalogue, where they are its only objects and the statements are all of schemas
+abbrev pub schemas_for : List Located → Catalogue → Option (List SchemaRow)
+schemas_for statements cat = if are_taken statements then result_ok (opening_in cat) else None
+
+abbrev pub runs_as : Bytes → List Located → Exported → Option Bytes → Result Plan Outcome
+runs_as folder statements export None = Err (OutOfProfile Unbuilt)
+runs_as folder statements export (Some role) = Ok (Runs (record { folder = folder; boot = role; statements = statements; opening = export }))
+
+-- a script to run on an export: the rows of each table have to meet it
+abbrev pub running : Bytes → List Located → Exported → Result Plan Outcome
+running folder statements export = opened export >>= λ opening. runs_as folder statements opening (boot_role opening.cat)
+
+abbrev pub plan_with : Bytes → List Located → Exported → Option (List SchemaRow) → Result Plan Outcome
+plan_with folder statements export None = running folder statements export
+plan_with folder statements export (Some rows) = Ok (Applies (record { folder = folder; statements = statements; rows = rows }))
+
+-- what psql does with a script's statements and a folder's export
+unfoldable pub plan_for : Bytes → List Located → Exported → Result Plan Outcome
+plan_for folder statements export = plan_with folder statements export (schemas_for statements export.cat)
+
 -- once the text of the script is read: its statements, then the folder
 unfoldable pub text_due : Bytes → Bytes → Tree → Result Plan Outcome
 text_due folder text tree = do
-  statements ← script_of text
-  rows ← opening_of folder tree
-  Ok (Applies (record { folder = folder; statements = statements; rows = rows }))
+  statements ← script_read text
+  export ← export_of folder tree
+  plan_for folder statements export
 
 -- psql: the script is read, then the folder
 unfoldable pub psql_due : Bytes → ScriptSource → Tree → Bytes → Result Plan Outcome
@@ -102,10 +150,6 @@ dump_due folder moment tree = do
   rows ← opening_of folder tree
   script_due moment rows
 
--- what an export stands for by names
-unfoldable pub export_named : Exported → Named
-export_named export = catalogue_named export.cat (rows_by_oid export.rows)
-
 -- once the first is read: the second folder
 unfoldable pub second_due : Exported → Bytes → Tree → Result Plan Outcome
 second_due one second tree = do
@@ -127,12 +171,22 @@ asked_due (Compare first second) moment tree input = compare_due first second tr
 abbrev pub due : List Bytes → Moment → Tree → Bytes → Result Plan Outcome
 due words moment tree input = words_asked words >>= λ asked. asked_due asked moment tree input
 
--- the work that was read, as a script for a folder
-abbrev pub application_of : Bytes → Work → Application
+-- the work that was read, as a script of schemas for a folder
+abbrev pub application_of : Bytes → SchemaWork → Application
 application_of folder work = record { folder = folder; statements = work.statements.items; rows = work.schemas }
 
+-- and as one to run on an opening
+abbrev pub running_of : Bytes → ScriptWork → Running
+running_of folder work = record { folder = folder; boot = work.boot; statements = work.statements.items; opening = work.opening }
+
 abbrev pub plan_of : Bytes → Work → Plan
-plan_of folder work = Applies (application_of folder work)
+plan_of folder (work.Schemas schemas) = Applies (application_of folder schemas)
+plan_of folder (work.Script script) = Runs (running_of folder script)
+
+-- the statements of work on schemas are all of kinds that are carried out on schemas alone
+abbrev pub IsTaken : Work → Type 0
+IsTaken (work.Schemas schemas) = are_taken schemas.statements.items ≡ true
+IsTaken (work.Script script) = Unit {0}
 
 -- ---- what stands once a plan is carried out
 
@@ -160,12 +214,31 @@ pub record Applied (plan : Application) (before after : Option Tree) : Type 0 wh
 abbrev pub report_of : Application → List ℕ
 report_of plan = report (refusals boot plan.statements (named plan.rows))
 
+-- What the statements leave of the opening, by names: these files are of a folder that is read as an export which stands
+-- for it, whatever was there before.
+pub record Leaves (plan : Running) (texts : Texts) : Type 0 where
+  pub export : Exported
+  pub same : export_named export ≡ catalogue_after plan.boot plan.statements (export_named plan.opening)
+  pub reads : ReadsAs texts export
+
+-- The folder was written: each of its files holds its whole text.
+pub record Ran (plan : Running) (before after : Option Tree) : Type 0 where
+  pub texts : Texts
+  pub leaves : Leaves plan texts
+  pub saved : after ≡ option_map (folder_stored plan.folder texts) before
+
+-- the report of a script that ran
+abbrev pub report_of_run : Running → List ℕ
+report_of_run plan = report (refusals plan.boot plan.statements (export_named plan.opening))
+
 -- What stands of the files, of standard output and of standard error once a plan is carried out: a script was applied and
 -- its report was written to standard error, or a text was written to standard output, or two catalogues were the same,
 -- and nothing else changed.
 abbrev pub IsCarriedOut : Plan → Option Tree → Option Tree → Option (List ℕ) → Option (List ℕ) → Option (List ℕ) → Option (List ℕ) → Type 0
 IsCarriedOut (Applies plan) before after out_before out_after told_before told_after =
     Applied plan before after × (out_after ≡ out_before) × Appends (report_of plan) told_before told_after
+IsCarriedOut (Runs plan) before after out_before out_after told_before told_after =
+    Ran plan before after × (out_after ≡ out_before) × Appends (report_of_run plan) told_before told_after
 IsCarriedOut (Prints text) before after out_before out_after told_before told_after =
     (after ≡ before) × Appends text out_before out_after × (told_after ≡ told_before)
 IsCarriedOut (Compares a b) before after out_before out_after told_before told_after =
@@ -194,9 +267,21 @@ abbrev pub IsDifference : Outcome → Result Plan Outcome → Type 0
 IsDifference (Differs key) due = DiffersAt due key
 IsDifference outcome due = ⊥
 
--- an answer other than Done: the refusal that is due, or the difference to which the plan that is due comes
+-- a script is to run on an opening
+abbrev pub IsToRun : Result Plan Outcome → Type 0
+IsToRun due = (plan : Running) × (due ≡ Ok (Runs plan))
+
+-- A script is to run, and what it leaves isn't written: its files would be over a limit of reading, or rows that stand
+-- for it weren't found.
+abbrev pub IsUnmade : Outcome → Result Plan Outcome → Type 0
+IsUnmade (TooLarge limit most) due = IsToRun due
+IsUnmade (OutOfProfile what) due = (what ≡ Unbuilt) × IsToRun due
+IsUnmade outcome due = ⊥
+
+-- an answer other than Done: the refusal that is due, the difference to which the plan that is due comes, or that what a
+-- script leaves isn't written
 abbrev pub IsAnswerDue : Outcome → Result Plan Outcome → Type 0
-IsAnswerDue outcome due = IsDue outcome due ⊎ IsDifference outcome due
+IsAnswerDue outcome due = IsDue outcome due ⊎ IsDifference outcome due ⊎ IsUnmade outcome due
 
 -- ---- counts of faults
 

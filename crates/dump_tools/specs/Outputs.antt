@@ -4,7 +4,7 @@ use Rattle.std.specs.Prelude.{◌≡◌, ◌++◌, List, [], ◌∷◌, length, 
 use Rattle.std.specs.FinMap.{insert}
 use Rattle.dump_ports.specs.Tree.{Tree}
 use Rattle.cat_model.specs.Values.{Bytes}
-use Rattle.schema_folders.specs.Folder.{File}
+use Rattle.saved_folders.specs.Files.{File}
 
 -- What stands outside of the program, as far as each object tells it: the texts of the files, what is left of standard
 -- input, what standard output and standard error have taken.

@@ -9,11 +9,13 @@ use Rattle.cat_model.specs.declared.key.Key.{Key}
 use Rattle.cat_same.specs.Verdicts.{IsLeastDifference}
 use Rattle.schema_folders.specs.Folder.{files_written, folder_saved, schemas_alone, Holds}
 use Rattle.tool_words.specs.declared.outcome.Outcome.{Outcome}
-use Rattle.tool_words.specs.declared.outcome.Outcome.TheVariants.{Done, ReadFault, WriteFault, Memory, Differs}
+use Rattle.tool_words.specs.declared.outcome.Outcome.TheVariants.{Done, ReadFault, WriteFault, OutOfProfile, TooLarge, Memory, Differs}
 use Rattle.tool_words.specs.declared.words.Teller.{Teller}
 use Rattle.tool_words.specs.Words.{teller_of, reads_input}
 use Rattle.tool_words.specs.Messages.{outcome_line}
-use Rattle.dump_tools.specs.Due.{Application, Plan, Applies, Prints, Compares, Comes, report_of, due}
+use Rattle.cat_model.specs.declared.words.What.TheVariants.{Unbuilt}
+use Rattle.saved_folders.specs.Folders.{Texts, files_of}
+use Rattle.dump_tools.specs.Due.{Application, Running, Plan, Applies, Runs, Prints, Compares, Comes, Leaves, report_of, report_of_run, due}
 use Rattle.dump_tools.specs.Inputs.{where_read, IsTaken, HasTaken}
 use Rattle.dump_tools.specs.Outputs.{World, Output, Writes, Tells, Takes, all_performed, IsPart, CutShort, stores}
 
@@ -37,6 +39,23 @@ pub record IsApplied (plan : Application) (run : Run) : Type 0 where
   pub holds : (tree : Tree) → Holds plan.folder (folder_saved plan.folder text tree) (schemas_alone comes.rows)
   pub is : run ≡ run_of (map stores (files_written plan.folder text) ++ Tells (report_of plan) ∷ []) Done
 
+-- A script is run: the files of the folder that stands for what it leaves are stored one after another, the marker last,
+-- and then the report is told.
+pub record IsRan (plan : Running) (run : Run) : Type 0 where
+  pub texts : Texts
+  pub leaves : Leaves plan texts
+  pub is : run ≡ run_of (map stores (files_of plan.folder texts) ++ Tells (report_of_run plan) ∷ []) Done
+
+-- what a script leaves isn't written
+abbrev pub IsUnmadeAnswer : Outcome → Type 0
+IsUnmadeAnswer (TooLarge limit most) = Unit {0}
+IsUnmadeAnswer (OutOfProfile what) = what ≡ Unbuilt
+IsUnmadeAnswer answer = ⊥
+
+-- A script is run, or what it leaves isn't written.
+abbrev pub MayBeRun : Teller → Running → Run → Type 0
+MayBeRun teller plan run = IsRan plan run ⊎ ((answer : Outcome) × IsUnmadeAnswer answer × (run ≡ told_run teller answer))
+
 -- Two catalogues are compared: they are the same, or the least key at which they differ is told.
 abbrev pub IsCompared : Teller → Named → Named → Run → Type 0
 IsCompared teller a b run = ((a ≡ b) × (run ≡ run_of [] Done)) ⊎ ((key : Key) × IsLeastDifference a b key × (run ≡ told_run teller (Differs key)))
@@ -45,6 +64,7 @@ IsCompared teller a b run = ((a ≡ b) × (run ≡ run_of [] Done)) ⊎ ((key : 
 abbrev pub MayCome : Teller → Result Plan Outcome → Run → Type 0
 MayCome teller (Err refusal) run = run ≡ told_run teller refusal
 MayCome teller (Ok (Applies plan)) run = IsApplied plan run
+MayCome teller (Ok (Runs plan)) run = MayBeRun teller plan run
 MayCome teller (Ok (Prints text)) run = run ≡ run_of (Writes text ∷ []) Done
 MayCome teller (Ok (Compares a b)) run = IsCompared teller a b run
 

@@ -3,6 +3,7 @@
 
 mod dumping;
 pub mod laws;
+mod psql;
 mod scripts;
 mod tools;
 

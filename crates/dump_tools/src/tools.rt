@@ -16,78 +16,18 @@ ghost use Rattle.dump_tools.specs.Outputs.{world};
 ghost use Rattle.dump_tools.specs.Runs.{read_by, StepTakes, HasCut, Ended, Answered};
 
 use crate::dumping::dump_text;
-use crate::scripts::read_source;
+use crate::psql::psql;
 use cat_model::Key;
 use cat_same::{Verdict, same};
 use copy_text::Text;
-use ddl_read::Located;
 use dump_ports::{Failed, Files, Gate, Moment, Sink, Source};
 use exports::{Export, read_export};
-use schema_folders::{
-    Schemas, namespaces_text, read_folder, read_script, run_script, write_folder,
-};
+use schema_folders::read_folder;
 use std::alloc::{AllocError, Global};
-use tool_words::{
-    Asked, Difference, Outcome, ScriptSource, Teller, read_asked, tell, teller_of, write_bytes,
-};
-
-/// What psql carries out: the statements of a script, and the schemas of a folder.
-#[derive(Drop)]
-struct Work {
-    statements: Vec<Located>,
-    schemas: Schemas,
-}
-
-/// Reads the statements of a script, then the folder.
-#[tactic(auto, unfolding(crate::specs::Due::text_due))]
-fn read_plan<F: Files>(
-    alloc: Global,
-    files: &mut F,
-    folder: &Text,
-    text: &[u8],
-) -> Result<Work, Outcome>
-    ensures due { (tree : Tree) → F.tree files.old ≡ Some tree → Gives (plan_of folder.now) result (text_due folder.now text.now tree) }
-    ensures taken { IfOk result (λ work. are_taken work.statements.items ≡ true) }
-    ensures kept { F.tree files.new ≡ F.tree files.old }
-    ensures read_count { CountsRead result (F.read_faults files.old) (F.read_faults files.new) }
-    ensures write_count { F.write_faults files.new ≡ F.write_faults files.old }
-{
-    let statements = read_script(alloc, text)?;
-    let schemas = read_folder(alloc, files, folder)?;
-    Ok(Work {
-        statements,
-        schemas,
-    })
-}
-
-/// Applies the statements, writes the folder, then the report.
-fn carry_out<F: Files, E: Sink>(
-    alloc: Global,
-    files: &mut F,
-    err: &mut E,
-    folder: &Text,
-    work: Work,
-) -> Result<(), Outcome>
-    requires taken { are_taken work.statements.items ≡ true }
-    ensures ok { OnOk result ((printed : Option (List ℕ)) → IsCarriedOut (plan_of folder.now work) (F.tree files.old) (F.tree files.new) printed printed (E.written err.old) (E.written err.new)) }
-    ensures late { IfErr result IsLate }
-    ensures cut { OnErr result ((teller : Teller) (left printed : Option (List ℕ)) → HasCut None teller (Ok (plan_of folder.now work)) (world (F.tree files.old) left printed (E.written err.old)) (world (F.tree files.new) left printed (E.written err.new))) }
-    ensures silent { IfErr result (λ outcome. IsTold outcome → E.written err.new ≡ E.written err.old) }
-    ensures read_count { F.read_faults files.new ≡ F.read_faults files.old }
-    ensures write_count { CountsWrites result (F.write_faults files.old) (F.write_faults files.new) (E.faults err.old) (E.faults err.new) }
-{
-    let Work {
-        statements,
-        mut schemas,
-    } = work;
-    let report = run_script(alloc, &mut schemas, &statements)?;
-    let namespaces = namespaces_text(alloc, schemas)?;
-    write_folder(alloc, files, folder, &namespaces)?;
-    write_report(err, &report)
-}
+use tool_words::{Asked, Difference, Outcome, Teller, read_asked, tell, teller_of, write_bytes};
 
 /// Writes a report, or a script, to its stream.
-fn write_report<S: Sink>(stream: &mut S, report: &[u8]) -> Result<(), Outcome>
+pub(crate) fn write_report<S: Sink>(stream: &mut S, report: &[u8]) -> Result<(), Outcome>
     ensures ok { OnOk result (Appends report.now (S.written stream.old) (S.written stream.new)) }
     ensures failed { IfErr result (λ outcome. outcome ≡ Outcome.WriteFault) }
     ensures err { OnErr result (AppendsPart report.now (S.written stream.old) (S.written stream.new)) }
@@ -97,47 +37,6 @@ fn write_report<S: Sink>(stream: &mut S, report: &[u8]) -> Result<(), Outcome>
         Ok(()) => Ok(()),
         Err(Failed) => Err(Outcome::WriteFault),
     }
-}
-
-/// Applies a script to a folder of schemas.
-fn psql<F: Files, I: Source, E: Sink>(
-    alloc: Global,
-    files: &mut F,
-    input: &mut I,
-    err: &mut E,
-    folder: &Text,
-    script: &ScriptSource,
-) -> Result<(), Outcome>
-    ensures done { OnOk result ((tree : Tree) (bytes : Bytes) (printed : Option (List ℕ)) → F.tree files.old ≡ Some tree → TellsLeft (is_input script.now) (I.left input.old) bytes → WasDue (psql_due folder.now script.now tree bytes) (F.tree files.old) (F.tree files.new) printed printed (E.written err.old) (E.written err.new)) }
-    ensures refused { IfErr result (λ outcome. (tree : Tree) (bytes : Bytes) → F.tree files.old ≡ Some tree → TellsLeft (is_input script.now) (I.left input.old) bytes → IsDue outcome (psql_due folder.now script.now tree bytes)) }
-    ensures kept { IfErr result (λ outcome. IsRefusal outcome → F.tree files.new ≡ F.tree files.old) }
-    ensures unread { is_input script.now ≡ false → input.new ≡ input.old }
-    ensures taken { (bytes : Bytes) → TellsLeft (is_input script.now) (I.left input.old) bytes → StepTakes result (where_read (is_input script.now) bytes) (I.left input.old) (I.left input.new) }
-    ensures cut { OnErr result ((teller : Teller) (tree : Tree) (bytes : Bytes) (printed : Option (List ℕ)) → F.tree files.old ≡ Some tree → TellsLeft (is_input script.now) (I.left input.old) bytes → HasCut (where_read (is_input script.now) bytes) teller (psql_due folder.now script.now tree bytes) (world (F.tree files.old) (I.left input.old) printed (E.written err.old)) (world (F.tree files.new) (I.left input.new) printed (E.written err.new))) }
-    ensures silent { IfErr result (λ outcome. IsTold outcome → E.written err.new ≡ E.written err.old) }
-    ensures counted { (prints : ℕ) → CountsStep result (counts (F.read_faults files.old) (I.faults input.old) (F.write_faults files.old) prints (E.faults err.old)) (counts (F.read_faults files.new) (I.faults input.new) (F.write_faults files.new) prints (E.faults err.new)) }
-{
-    let text = read_source(alloc, files, input, script)?;
-    apply(alloc, files, err, folder, &text)
-}
-
-/// Applies the text of a script to a folder of schemas.
-fn apply<F: Files, E: Sink>(
-    alloc: Global,
-    files: &mut F,
-    err: &mut E,
-    folder: &Text,
-    text: &[u8],
-) -> Result<(), Outcome>
-    ensures done { OnOk result ((tree : Tree) (printed : Option (List ℕ)) → F.tree files.old ≡ Some tree → WasDue (text_due folder.now text.now tree) (F.tree files.old) (F.tree files.new) printed printed (E.written err.old) (E.written err.new)) }
-    ensures refused { IfErr result (λ outcome. (tree : Tree) → F.tree files.old ≡ Some tree → IsDue outcome (text_due folder.now text.now tree)) }
-    ensures kept { IfErr result (λ outcome. IsRefusal outcome → F.tree files.new ≡ F.tree files.old) }
-    ensures cut { OnErr result ((teller : Teller) (tree : Tree) (left printed : Option (List ℕ)) → F.tree files.old ≡ Some tree → HasCut None teller (text_due folder.now text.now tree) (world (F.tree files.old) left printed (E.written err.old)) (world (F.tree files.new) left printed (E.written err.new))) }
-    ensures silent { IfErr result (λ outcome. IsTold outcome → E.written err.new ≡ E.written err.old) }
-    ensures counted { (inputs prints : ℕ) → CountsStep result (counts (F.read_faults files.old) inputs (F.write_faults files.old) prints (E.faults err.old)) (counts (F.read_faults files.new) inputs (F.write_faults files.new) prints (E.faults err.new)) }
-{
-    let work = read_plan(alloc, files, folder, text)?;
-    carry_out(alloc, files, err, folder, work)
 }
 
 /// Prints the script of a folder of schemas.

@@ -9,7 +9,8 @@ use Rattle.cat_rows.specs.declared.table.SysTable.TheVariants.{PgAuthid}
 use Rattle.cat_rows.specs.Kinds.{table_file}
 use Rattle.cat_model.specs.Values.{Bytes}
 use Rattle.schema_folders.specs.Texts.{path}
-use Rattle.schema_folders.specs.Folder.{File, all_tables, plain_text, table_written, table_files, saved, IsCut, PartSaved}
+use Rattle.schema_folders.specs.Folder.{all_tables, plain_text, table_written, table_files}
+use Rattle.saved_folders.specs.Files.{File, saved, IsCut, PartSaved}
 
 pub saved-append : (xs ys : List File) (tree : Tree) → saved (xs ++ ys) tree ≡ saved ys (saved xs tree)
 saved-append [] ys tree = refl

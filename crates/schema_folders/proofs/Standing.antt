@@ -33,7 +33,8 @@ use Rattle.cat_model.specs.Values.{Bytes, bytes_cmp}
 use Rattle.schema_folders.specs.declared.schemas.SchemaRow.{SchemaRow}
 use Rattle.schema_folders.specs.Naming.{has_name, has_oid}
 use Rattle.schema_folders.specs.Texts.{path}
-use Rattle.schema_folders.specs.Folder.{File, plain_row, joined, rows_after, cells_of_row, namespace_row, schemas_alone, marker, marker_file, all_tables, file_of_table, plain_text, table_written, table_files, marker_written, saved, folder_saved, IsNamespaces, Holds}
+use Rattle.schema_folders.specs.Folder.{plain_row, joined, rows_after, cells_of_row, namespace_row, schemas_alone, marker, marker_file, all_tables, file_of_table, plain_text, table_written, table_files, marker_written, folder_saved, IsNamespaces, Holds}
+use Rattle.saved_folders.specs.Files.{File, saved}
 use Rattle.schema_folders.proofs.Saved.{saved-append}
 
 -- ---- the rows that a table's text was written of, in its order

@@ -162,11 +162,6 @@ plain_text namespaces PgDatabase = database_text
 plain_text namespaces PgNamespace = namespaces
 plain_text namespaces _ = []
 
--- a file by its name, and its text
-pub record File : Type 0 where
-  pub name : Bytes
-  pub text : Bytes
-
 abbrev pub table_written : Bytes → Bytes → SysTable → File
 table_written folder namespaces table = record { name = file_of_table folder table; text = plain_text namespaces table }
 
@@ -181,27 +176,9 @@ table_files folder namespaces = map (table_written folder namespaces) all_tables
 abbrev pub files_written : Bytes → Bytes → List File
 files_written folder namespaces = table_files folder namespaces ++ marker_written folder ∷ []
 
--- the tree once these files are written
-abbrev pub saved : List File → Tree → Tree
-saved [] tree = tree
-saved (file ∷ files) tree = saved files (insert tree file.name file.text)
-
 -- the tree once the whole folder is written
 abbrev pub folder_saved : Bytes → Bytes → Tree → Tree
 folder_saved folder namespaces tree = saved (files_written folder namespaces) tree
-
--- the first of these files holds some first part of its text, or is as it was; the others are as they were
-abbrev pub IsCut : List File → Option Tree → Option Tree → Type 0
-IsCut [] before after = after ≡ before
-IsCut (file ∷ later) before after = TakesPrefix (λ text tree. insert tree file.name text) file.text before after
-
--- The writing of these files ended on its way: some are whole, the next one holds a first part of its text or is as it
--- was, and the later ones are untouched.
-pub record PartSaved (files : List File) (before after : Option Tree) : Type 0 where
-  pub whole : List File
-  pub later : List File
-  pub split : files ≡ whole ++ later
-  pub cut : IsCut later (option_map (saved whole) before) after
 
 -- a text of pg_namespace that holds these schemas by rising oid, and reads as them
 pub record IsNamespaces (rows : List SchemaRow) (text : Bytes) : Type 0 where

@@ -4,7 +4,8 @@ ghost use Rattle.std.specs.List.{list_all};
 ghost use Rattle.std.specs.FinMap.{insert};
 ghost use Rattle.dump_ports.specs.Tree.{Tree, text_at, TakesPrefix};
 ghost use Rattle.tool_words.specs.Answers.{Gives, CountsRead, CountsWrite, IsLate};
-ghost use Rattle.schema_folders.specs.Folder.{marker, marker_file, authid_text, database_text, file_of_table, plain_text, table_files, marker_written, files_written, saved, folder_saved, PartSaved};
+ghost use Rattle.schema_folders.specs.Folder.{marker, marker_file, authid_text, database_text, file_of_table, plain_text, table_files, marker_written, files_written, folder_saved};
+ghost use Rattle.saved_folders.specs.Files.{saved, PartSaved};
 
 use crate::texts::path;
 use cat_rows::SysTable;

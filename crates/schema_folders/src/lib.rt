@@ -11,8 +11,8 @@ mod texts;
 
 pub use folder::write_folder;
 pub use namespaces::namespaces_text;
-pub use opening::read_folder;
+pub use opening::{bare_schemas, read_folder};
 pub use run::run_script;
 pub use schemas::{ApplyFault, SchemaCause, SchemaRow, Schemas};
-pub use script::read_script;
+pub use script::are_taken;
 pub use texts::read_file;

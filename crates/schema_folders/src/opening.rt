@@ -3,6 +3,7 @@ ghost use Rattle.std.specs.Prelude.{◌≡◌, ℕ, ◌≤◌, ◌++◌, ◌||�
 ghost use Rattle.dump_ports.specs.Tree.{Tree};
 ghost use Rattle.cat_rows.specs.RowCells.{namespace_cells};
 ghost use Rattle.cat_names.specs.Rights.{is_empty_list};
+ghost use Rattle.std.specs.Result.{result_ok};
 ghost use Rattle.tool_words.specs.Answers.{Gives, CountsRead};
 ghost use Rattle.schema_folders.specs.Folder.{rows_after, plain_row, schemas_of, if_public, may_all, is_unlimited, is_boot_row, is_database_row, is_alone, has_no_relations, has_no_more, is_bare, or_unbuilt, opening_in, opening_of};
 
@@ -45,6 +46,23 @@ fn opening_in(alloc: Global, cat: &Catalogue) -> Result<Schemas, Outcome>
 {
     let schemas = schemas_of(alloc, cat.pg_namespace.as_slice())?;
     or_unbuilt(is_bare(cat), schemas)
+}
+
+/// The schemas of a catalogue, where they are its only objects. The only error is want of memory.
+pub fn bare_schemas(alloc: Global, cat: &Catalogue) -> Result<Option<Schemas>, AllocError>
+    ensures { IfOk result (λ found. found ≡ result_ok (opening_in cat.now)) }
+{
+    let schemas = schemas_of(alloc, cat.pg_namespace.as_slice())?;
+    Ok(where_bare(is_bare(cat), schemas))
+}
+
+fn where_bare(bare: bool, schemas: Option<Schemas>) -> Option<Schemas>
+    ensures { result ≡ result_ok (or_unbuilt bare schemas) }
+{
+    match schemas {
+        Some(schemas) if bare => Some(schemas),
+        _ => None,
+    }
 }
 
 /// The schemas, where there are some and all else is bare.

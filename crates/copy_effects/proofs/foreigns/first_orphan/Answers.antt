@@ -25,11 +25,11 @@ returns c =
     let columns = c.in_ok-parent_table.ensures ∙ c.in_ok-parent_columns.ensures ∙ ap (λ (p : QName). columns_of (get named (key.Rel p))) c.parent-parent.ensures in
     let here = λ (p : QName). if same_path q p then rows_in (get named (key.Rows q)) else rows_in (get named (key.Rows p)) in
     let rows =
-      c.rows_after-rows_after.ensures
-      ∙ ap (λ (rows : List Row). if same_path q c.parent-parent.result.now then rows ++ c.as_slice.result.now else rows) c.in_ok-rows.ensures
-      ∙ ap (λ (more : List Row). if same_path q c.parent-parent.result.now then here c.parent-parent.result.now ++ more else here c.parent-parent.result.now) c.as_slice.ensures
-      ∙ joined_if (same_path q c.parent-parent.result.now) (rows_in (get named (key.Rows q))) (rows_in (get named (key.Rows c.parent-parent.result.now))) new
-      ∙ ap (λ (p : QName). if same_path q p then rows_in (get named (key.Rows q)) ++ new else rows_in (get named (key.Rows p))) c.parent-parent.ensures in
+    c.rows_after-rows_after.ensures
+    ∙ ap (λ (rows : List Row). if same_path q c.parent-parent.result.now then rows ++ c.as_slice.result.now else rows) (c.deref.ensures.value ∙ c.in_ok-rows.ensures)
+    ∙ ap (λ (more : List Row). if same_path q c.parent-parent.result.now then here c.parent-parent.result.now ++ more else here c.parent-parent.result.now) c.as_slice.ensures
+    ∙ joined_if (same_path q c.parent-parent.result.now) (rows_in (get named (key.Rows q))) (rows_in (get named (key.Rows c.parent-parent.result.now))) new
+    ∙ ap (λ (p : QName). if same_path q p then rows_in (get named (key.Rows q)) ++ new else rows_in (get named (key.Rows p))) c.parent-parent.ensures in
     IfOk-weaker c.orphan_among.result _ _
     (λ row e. e ∙ (λ i. orphan c.args.columns.now f.columns new (columns i) f.parent_columns (rows i)))
     c.orphan_among.ensures

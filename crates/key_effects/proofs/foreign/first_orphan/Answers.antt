@@ -8,5 +8,5 @@ pub returns : goal.returns
 returns c =
     let new = c.args.new in
     IfOk-weaker c.orphan_among.result _ _
-    (λ row e. e ∙ (λ i. orphan (c.in_ok-table.ensures i) new.columns.now (c.in_ok-rows.ensures i) (c.in_ok-parent_table.ensures i) new.parent_columns.now (c.in_ok-parent_rows.ensures i)))
+    (λ row e. e ∙ (λ i. orphan (c.in_ok-table.ensures i) new.columns.now ((c.deref.ensures.value ∙ c.in_ok-rows.ensures) i) (c.in_ok-parent_table.ensures i) new.parent_columns.now ((c.deref-2.ensures.value ∙ c.in_ok-parent_rows.ensures) i)))
     c.orphan_among.ensures

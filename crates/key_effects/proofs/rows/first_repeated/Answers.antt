@@ -6,4 +6,4 @@ use Rattle.key_effects.proofs.rows.first_repeated.Goals as goal
 
 pub returns : goal.returns
 returns c =
-    IfOk-weaker c.repeated_among.result _ _ (λ pair e. e ∙ (λ i. repeated (c.in_ok-table.ensures i) c.args.names.now (c.in_ok-rows.ensures i))) c.repeated_among.ensures
+    IfOk-weaker c.repeated_among.result _ _ (λ pair e. e ∙ (λ i. repeated (c.in_ok-table.ensures i) c.args.names.now ((c.deref.ensures.value ∙ c.in_ok-rows.ensures) i))) c.repeated_among.ensures

@@ -1,5 +1,5 @@
 use Rattle.std.proofs.Common.{◌≡◌, option_map}
-use Rattle.schema_folders.specs.Folder.{saved}
+use Rattle.saved_folders.specs.Files.{saved}
 use Rattle.schema_folders.proofs.Saved.{first_files}
 use Rattle.schema_folders.proofs.folder.write_tables.Given as goal
 

@@ -3,7 +3,7 @@ use Rattle.tool_words.proofs.Lining.{always_err}
 use Rattle.dump_tools.specs.Due.{plan_of}
 use Rattle.dump_tools.proofs.Putting.{cut_kept, cut_due}
 use Rattle.std.proofs.Common.{None, refl}
-use Rattle.dump_tools.proofs.tools.apply.Goals as goal
+use Rattle.dump_tools.proofs.psql.apply.Goals as goal
 
 -- nothing was put out before all was read
 pub returns-in_err-work-clause-cut : goal.returns-in_err-work-clause-cut

@@ -8,7 +8,7 @@ use Rattle.dump_tools.proofs.Counting.{step_behind}
 use Rattle.dump_tools.proofs.Putting.{cut_due}
 use Rattle.dump_tools.proofs.Scripting.{psql_read, psql_refused, psql_done}
 use Rattle.dump_tools.proofs.Taking.{begun, behind_cut, cut_taking}
-use Rattle.dump_tools.proofs.tools.psql.Goals as goal
+use Rattle.dump_tools.proofs.psql.psql.Goals as goal
 
 -- nothing but the input, or some of it, was taken
 pub returns-in_err-text-clause-cut : goal.returns-in_err-text-clause-cut

@@ -1,0 +1,298 @@
+//! psql: a script applied to a folder.
+ghost use Rattle.std.specs.Prelude.{◌≡◌, ℕ, ◌⊎◌, List, Option, Some, None, true, false, IfOk, IfErr, IfSome, OnOk, OnErr, Result, Ok, Err};
+ghost use Rattle.std.specs.Result.{result_ok};
+ghost use Rattle.tool_words.specs.declared.words.Teller.{Teller};
+ghost use Rattle.dump_ports.specs.Tree.{Tree};
+ghost use Rattle.cat_model.specs.Values.{Bytes};
+ghost use Rattle.cat_names.specs.Naming.{boot as boot_role};
+ghost use Rattle.tool_words.specs.Answers.{Gives, CountsRead, IsDue, IsLate, IsRefusal, IsTold};
+ghost use Rattle.tool_words.specs.Words.{is_input};
+ghost use Rattle.schema_folders.specs.Statements.{are_taken};
+ghost use Rattle.openings.specs.Openings.{opened};
+ghost use Rattle.dump_tools.specs.Due.{Applies, Runs, application_of, running_of, plan_of, IsTaken, schemas_for, script_read, running, runs_as, plan_with, plan_for, text_due, psql_due, IsAnswerDue, IsCarriedOut, WasDue, counts, CountsStep, CountsWrites};
+ghost use Rattle.dump_tools.specs.Inputs.{where_read, TellsLeft};
+ghost use Rattle.dump_tools.specs.Outputs.{world};
+ghost use Rattle.dump_tools.specs.Runs.{StepTakes, HasCut};
+
+use crate::scripts::read_source;
+use crate::tools::write_report;
+use cat_model::What;
+use cat_rows::Catalogue;
+use copy_text::{Name, Text};
+use ddl_read::{Located, read_stmts};
+use dump_ports::{Files, Sink, Source};
+use exports::{Export, read_export};
+use openings::{Opening, open_export};
+use saved_folders::write_texts;
+use schema_folders::{
+    Schemas, are_taken, bare_schemas, namespaces_text, run_script, write_folder,
+};
+use script_runs::{boot_role, run_opening};
+use std::alloc::{AllocError, Global};
+use tool_words::{Outcome, ScriptSource};
+
+/// A script of schemas alone, and the schemas of a folder whose only objects they are.
+#[derive(Drop)]
+struct SchemaWork {
+    statements: Vec<Located>,
+    schemas: Schemas,
+}
+
+/// Any other script, the opening on which it is run, and the role that owns what it creates.
+#[derive(Drop)]
+struct ScriptWork {
+    statements: Vec<Located>,
+    opening: Opening,
+    boot: Name,
+}
+
+/// What psql carries out.
+#[derive(Drop)]
+enum Work {
+    Schemas(SchemaWork),
+    Script(ScriptWork),
+}
+
+/// The statements of a script, in order; empty ones are passed over. `BadScript` is the first place at which no statement
+/// goes on.
+#[tactic(auto, unfolding(crate::specs::Due::script_read))]
+fn read_statements(alloc: Global, text: &[u8]) -> Result<Vec<Located>, Outcome>
+    ensures exact { Gives (λ statements. statements.items) result (script_read text.now) }
+    ensures count { (n : ℕ) → CountsRead result n n }
+{
+    Ok(read_stmts(alloc, text)?)
+}
+
+/// The schemas of a catalogue, where they are its only objects and the statements are all of schemas.
+fn schemas_for(
+    alloc: Global,
+    statements: &[Located],
+    cat: &Catalogue,
+) -> Result<Option<Schemas>, AllocError>
+    ensures schemas { IfOk result (λ found. found ≡ schemas_for statements.now cat.now) }
+    ensures taken { IfOk result (λ found. IfSome found (λ _. are_taken statements.now ≡ true)) }
+{
+    if are_taken(statements) {
+        bare_schemas(alloc, cat)
+    } else {
+        Ok(None)
+    }
+}
+
+/// The role of an opening to which what is created belongs.
+fn boot_of(opening: &Opening) -> Result<Option<Name>, AllocError>
+    ensures { IfOk result (λ name. name ≡ boot_role opening.now.cat) }
+{
+    boot_role(opening.export().catalogue().rows())
+}
+
+/// The work of a script on an opening, where the role is there.
+fn work_with(
+    statements: Vec<Located>,
+    opening: Opening,
+    boot: Option<Name>,
+) -> Result<Work, Outcome>
+    ensures due { (folder : Bytes) → Gives (plan_of folder) result (runs_as folder statements.items opening boot) }
+    ensures taken { IfOk result IsTaken }
+    ensures count { (n : ℕ) → CountsRead result n n }
+{
+    match boot {
+        Some(boot) => Ok(Work::Script(ScriptWork {
+            statements,
+            opening,
+            boot,
+        })),
+        None => Err(Outcome::OutOfProfile(What::Unbuilt)),
+    }
+}
+
+/// The work of a script on an opening.
+fn opening_work(statements: Vec<Located>, opening: Opening) -> Result<Work, Outcome>
+    ensures due { (folder : Bytes) → Gives (plan_of folder) result (runs_as folder statements.items opening (boot_role opening.cat)) }
+    ensures taken { IfOk result IsTaken }
+    ensures count { (n : ℕ) → CountsRead result n n }
+{
+    let boot = boot_of(&opening)?;
+    work_with(statements, opening, boot)
+}
+
+/// The work of a script on an export, whose rows have to meet their tables.
+fn export_work(
+    alloc: Global,
+    statements: Vec<Located>,
+    export: Export,
+) -> Result<Work, Outcome>
+    ensures due { (folder : Bytes) → Gives (plan_of folder) result (running folder statements.items export) }
+    ensures taken { IfOk result IsTaken }
+    ensures count { (n : ℕ) → CountsRead result n n }
+{
+    let opening = open_export(alloc, export)?;
+    opening_work(statements, opening)
+}
+
+/// The work of a script on an export, where its schemas are known to be all that counts, or not.
+fn work_of(
+    alloc: Global,
+    statements: Vec<Located>,
+    export: Export,
+    schemas: Option<Schemas>,
+) -> Result<Work, Outcome>
+    requires { IfSome schemas (λ _. are_taken statements.items ≡ true) }
+    ensures due { (folder : Bytes) → Gives (plan_of folder) result (plan_with folder statements.items export schemas) }
+    ensures taken { IfOk result IsTaken }
+    ensures count { (n : ℕ) → CountsRead result n n }
+{
+    match schemas {
+        Some(schemas) => Ok(Work::Schemas(SchemaWork {
+            statements,
+            schemas,
+        })),
+        None => export_work(alloc, statements, export),
+    }
+}
+
+/// What psql does with the statements of a script and the export of a folder.
+#[tactic(auto, unfolding(crate::specs::Due::plan_for))]
+fn plan_work(alloc: Global, statements: Vec<Located>, export: Export) -> Result<Work, Outcome>
+    ensures due { (folder : Bytes) → Gives (plan_of folder) result (plan_for folder statements.items export) }
+    ensures taken { IfOk result IsTaken }
+    ensures count { (n : ℕ) → CountsRead result n n }
+{
+    let schemas = schemas_for(alloc, &statements, export.catalogue().rows())?;
+    work_of(alloc, statements, export, schemas)
+}
+
+/// Reads the statements of a script, then the folder.
+#[tactic(auto, unfolding(crate::specs::Due::text_due))]
+fn read_plan<F: Files>(
+    alloc: Global,
+    files: &mut F,
+    folder: &Text,
+    text: &[u8],
+) -> Result<Work, Outcome>
+    ensures due { (tree : Tree) → F.tree files.old ≡ Some tree → Gives (plan_of folder.now) result (text_due folder.now text.now tree) }
+    ensures taken { IfOk result IsTaken }
+    ensures kept { F.tree files.new ≡ F.tree files.old }
+    ensures read_count { CountsRead result (F.read_faults files.old) (F.read_faults files.new) }
+    ensures write_count { F.write_faults files.new ≡ F.write_faults files.old }
+{
+    let statements = read_statements(alloc, text)?;
+    let export = read_export(alloc, files, folder)?;
+    plan_work(alloc, statements, export)
+}
+
+/// Applies the statements to the schemas, writes the folder, then the report.
+fn apply_schemas<F: Files, E: Sink>(
+    alloc: Global,
+    files: &mut F,
+    err: &mut E,
+    folder: &Text,
+    work: SchemaWork,
+) -> Result<(), Outcome>
+    requires { are_taken work.statements.items ≡ true }
+    ensures ok { OnOk result ((printed : Option (List ℕ)) → IsCarriedOut (Applies (application_of folder.now work)) (F.tree files.old) (F.tree files.new) printed printed (E.written err.old) (E.written err.new)) }
+    ensures late { IfErr result IsLate }
+    ensures cut { OnErr result ((teller : Teller) (left printed : Option (List ℕ)) → HasCut None teller (Ok (Applies (application_of folder.now work))) (world (F.tree files.old) left printed (E.written err.old)) (world (F.tree files.new) left printed (E.written err.new))) }
+    ensures silent { IfErr result (λ outcome. IsTold outcome → E.written err.new ≡ E.written err.old) }
+    ensures read_count { F.read_faults files.new ≡ F.read_faults files.old }
+    ensures write_count { CountsWrites result (F.write_faults files.old) (F.write_faults files.new) (E.faults err.old) (E.faults err.new) }
+{
+    let SchemaWork {
+        statements,
+        mut schemas,
+    } = work;
+    let report = run_script(alloc, &mut schemas, &statements)?;
+    let namespaces = namespaces_text(alloc, schemas)?;
+    write_folder(alloc, files, folder, &namespaces)?;
+    write_report(err, &report)
+}
+
+/// Runs the statements on the opening, writes the folder, then the report.
+fn run_script_work<F: Files, E: Sink>(
+    alloc: Global,
+    files: &mut F,
+    err: &mut E,
+    folder: &Text,
+    work: ScriptWork,
+) -> Result<(), Outcome>
+    ensures ok { OnOk result ((printed : Option (List ℕ)) → IsCarriedOut (Runs (running_of folder.now work)) (F.tree files.old) (F.tree files.new) printed printed (E.written err.old) (E.written err.new)) }
+    ensures refused { IfErr result (λ outcome. IsAnswerDue outcome (Ok (Runs (running_of folder.now work)))) }
+    ensures kept { IfErr result (λ outcome. IsRefusal outcome → F.tree files.new ≡ F.tree files.old) }
+    ensures cut { OnErr result ((teller : Teller) (left printed : Option (List ℕ)) → HasCut None teller (Ok (Runs (running_of folder.now work))) (world (F.tree files.old) left printed (E.written err.old)) (world (F.tree files.new) left printed (E.written err.new))) }
+    ensures silent { IfErr result (λ outcome. IsTold outcome → E.written err.new ≡ E.written err.old) }
+    ensures read_count { F.read_faults files.new ≡ F.read_faults files.old }
+    ensures write_count { CountsWrites result (F.write_faults files.old) (F.write_faults files.new) (E.faults err.old) (E.faults err.new) }
+{
+    let ScriptWork {
+        statements,
+        opening,
+        boot,
+    } = work;
+    let run = run_opening(alloc, opening, boot, &statements)?;
+    write_texts(alloc, files, folder, &run.texts)?;
+    write_report(err, &run.report)
+}
+
+/// Carries out what psql has to do, writes the folder, then the report.
+fn carry_out<F: Files, E: Sink>(
+    alloc: Global,
+    files: &mut F,
+    err: &mut E,
+    folder: &Text,
+    work: Work,
+) -> Result<(), Outcome>
+    requires taken { IsTaken work }
+    ensures ok { OnOk result ((printed : Option (List ℕ)) → IsCarriedOut (plan_of folder.now work) (F.tree files.old) (F.tree files.new) printed printed (E.written err.old) (E.written err.new)) }
+    ensures refused { IfErr result (λ outcome. IsAnswerDue outcome (Ok (plan_of folder.now work))) }
+    ensures kept { IfErr result (λ outcome. IsRefusal outcome → F.tree files.new ≡ F.tree files.old) }
+    ensures cut { OnErr result ((teller : Teller) (left printed : Option (List ℕ)) → HasCut None teller (Ok (plan_of folder.now work)) (world (F.tree files.old) left printed (E.written err.old)) (world (F.tree files.new) left printed (E.written err.new))) }
+    ensures silent { IfErr result (λ outcome. IsTold outcome → E.written err.new ≡ E.written err.old) }
+    ensures read_count { F.read_faults files.new ≡ F.read_faults files.old }
+    ensures write_count { CountsWrites result (F.write_faults files.old) (F.write_faults files.new) (E.faults err.old) (E.faults err.new) }
+{
+    match work {
+        Work::Schemas(work) => apply_schemas(alloc, files, err, folder, work),
+        Work::Script(work) => run_script_work(alloc, files, err, folder, work),
+    }
+}
+
+/// Applies a script to a folder.
+pub(crate) fn psql<F: Files, I: Source, E: Sink>(
+    alloc: Global,
+    files: &mut F,
+    input: &mut I,
+    err: &mut E,
+    folder: &Text,
+    script: &ScriptSource,
+) -> Result<(), Outcome>
+    ensures done { OnOk result ((tree : Tree) (bytes : Bytes) (printed : Option (List ℕ)) → F.tree files.old ≡ Some tree → TellsLeft (is_input script.now) (I.left input.old) bytes → WasDue (psql_due folder.now script.now tree bytes) (F.tree files.old) (F.tree files.new) printed printed (E.written err.old) (E.written err.new)) }
+    ensures refused { IfErr result (λ outcome. (tree : Tree) (bytes : Bytes) → F.tree files.old ≡ Some tree → TellsLeft (is_input script.now) (I.left input.old) bytes → IsAnswerDue outcome (psql_due folder.now script.now tree bytes)) }
+    ensures kept { IfErr result (λ outcome. IsRefusal outcome → F.tree files.new ≡ F.tree files.old) }
+    ensures unread { is_input script.now ≡ false → input.new ≡ input.old }
+    ensures taken { (bytes : Bytes) → TellsLeft (is_input script.now) (I.left input.old) bytes → StepTakes result (where_read (is_input script.now) bytes) (I.left input.old) (I.left input.new) }
+    ensures cut { OnErr result ((teller : Teller) (tree : Tree) (bytes : Bytes) (printed : Option (List ℕ)) → F.tree files.old ≡ Some tree → TellsLeft (is_input script.now) (I.left input.old) bytes → HasCut (where_read (is_input script.now) bytes) teller (psql_due folder.now script.now tree bytes) (world (F.tree files.old) (I.left input.old) printed (E.written err.old)) (world (F.tree files.new) (I.left input.new) printed (E.written err.new))) }
+    ensures silent { IfErr result (λ outcome. IsTold outcome → E.written err.new ≡ E.written err.old) }
+    ensures counted { (prints : ℕ) → CountsStep result (counts (F.read_faults files.old) (I.faults input.old) (F.write_faults files.old) prints (E.faults err.old)) (counts (F.read_faults files.new) (I.faults input.new) (F.write_faults files.new) prints (E.faults err.new)) }
+{
+    let text = read_source(alloc, files, input, script)?;
+    apply(alloc, files, err, folder, &text)
+}
+
+/// Applies the text of a script to a folder.
+fn apply<F: Files, E: Sink>(
+    alloc: Global,
+    files: &mut F,
+    err: &mut E,
+    folder: &Text,
+    text: &[u8],
+) -> Result<(), Outcome>
+    ensures done { OnOk result ((tree : Tree) (printed : Option (List ℕ)) → F.tree files.old ≡ Some tree → WasDue (text_due folder.now text.now tree) (F.tree files.old) (F.tree files.new) printed printed (E.written err.old) (E.written err.new)) }
+    ensures refused { IfErr result (λ outcome. (tree : Tree) → F.tree files.old ≡ Some tree → IsAnswerDue outcome (text_due folder.now text.now tree)) }
+    ensures kept { IfErr result (λ outcome. IsRefusal outcome → F.tree files.new ≡ F.tree files.old) }
+    ensures cut { OnErr result ((teller : Teller) (tree : Tree) (left printed : Option (List ℕ)) → F.tree files.old ≡ Some tree → HasCut None teller (text_due folder.now text.now tree) (world (F.tree files.old) left printed (E.written err.old)) (world (F.tree files.new) left printed (E.written err.new))) }
+    ensures silent { IfErr result (λ outcome. IsTold outcome → E.written err.new ≡ E.written err.old) }
+    ensures counted { (inputs prints : ℕ) → CountsStep result (counts (F.read_faults files.old) inputs (F.write_faults files.old) prints (E.faults err.old)) (counts (F.read_faults files.new) inputs (F.write_faults files.new) prints (E.faults err.new)) }
+{
+    let work = read_plan(alloc, files, folder, text)?;
+    carry_out(alloc, files, err, folder, work)
+}

@@ -1,0 +1,92 @@
+//! The texts of a folder that stands for a catalogue by names.
+ghost use Rattle.std.specs.Prelude.{◌≡◌, None, IfErr, IfOk, IsTrue, OnOk};
+ghost use Rattle.table_rows.specs.Values.{values_fault};
+ghost use Rattle.openings.specs.Openings.{export_named};
+ghost use Rattle.saved_folders.specs.Exports.{ReadsAs};
+ghost use Rattle.script_runs.specs.Writing.{IsUnwritten, StandFor};
+
+use cat_export::{Exported, export_named};
+use cat_model::What;
+use cat_names::DataSet;
+use cat_rows::Catalogue;
+use eng_load::catalogue_map;
+use eng_map::NamedMap;
+use same_maps::same_maps;
+use saved_folders::{ExportTexts, make_texts};
+use std::alloc::{AllocError, Global};
+use tool_words::Outcome;
+
+// The answer where no texts were made.
+fn unwritten(outcome: Outcome) -> Outcome
+    ensures { IsUnwritten result }
+{
+    match outcome {
+        Outcome::TooLarge(..) | Outcome::Memory => outcome,
+        _ => Outcome::OutOfProfile(What::Unbuilt),
+    }
+}
+
+// The texts of a catalogue and the rows of its tables.
+fn texts_of(alloc: Global, cat: &Catalogue, rows: &DataSet) -> Result<ExportTexts, Outcome>
+    ensures reads { IfOk result (λ made. ReadsAs made.texts made.export) }
+    ensures unwritten { IfErr result IsUnwritten }
+{
+    match make_texts(alloc, cat, rows) {
+        Ok(texts) => Ok(texts),
+        Err(outcome) => Err(unwritten(outcome)),
+    }
+}
+
+// Whether the export of the texts stands for the catalogue.
+fn stands(alloc: Global, texts: &ExportTexts, named: &NamedMap) -> Result<bool, AllocError>
+    ensures { IfOk result (λ same. IsTrue same → export_named texts.now.export ≡ named.now) }
+{
+    let read_back = catalogue_map(alloc, texts.catalogue().rows(), texts.rows())?;
+    Ok(same_maps(&read_back, named))
+}
+
+// Goes on where the export of the texts stands for the catalogue.
+fn check_standing(alloc: Global, texts: &ExportTexts, named: &NamedMap) -> Result<(), Outcome>
+    ensures same { OnOk result (export_named texts.now.export ≡ named.now) }
+    ensures unwritten { IfErr result IsUnwritten }
+{
+    if stands(alloc, texts, named)? {
+        Ok(())
+    } else {
+        Err(Outcome::OutOfProfile(What::Unbuilt))
+    }
+}
+
+// The texts of an export, where it stands for the catalogue.
+fn checked_texts(
+    alloc: Global,
+    export: Exported,
+    named: &NamedMap,
+) -> Result<ExportTexts, Outcome>
+    ensures stand { IfOk result (StandFor named.now) }
+    ensures unwritten { IfErr result IsUnwritten }
+{
+    let Exported { catalogue, rows } = export;
+    let texts = texts_of(alloc, &catalogue, &rows)?;
+    check_standing(alloc, &texts, named)?;
+    Ok(texts)
+}
+
+/// The texts of a folder that is read as an export which stands for a catalogue by names, where the catalogue began as
+/// this opening.
+///
+/// # Errors
+///
+/// `TooLarge` where the folder's files would be over a limit of reading; `Memory`; and `OutOfProfile(Unbuilt)` where the
+/// rows that were made for the catalogue don't stand for it, which no case shows.
+pub(crate) fn named_texts(
+    alloc: Global,
+    named: &NamedMap,
+    opening: &Catalogue,
+) -> Result<ExportTexts, Outcome>
+    ensures stand { IfOk result (StandFor named.now) }
+    ensures unwritten { IfErr result IsUnwritten }
+{
+    let export = export_named(alloc, named, opening)?;
+    checked_texts(alloc, export, named)
+}
