@@ -1,7 +1,7 @@
 -- A folder taken in as an opening: an export whose rows meet their tables.
 use Rattle.std.specs.Prelude.{◌≡◌, ℕ, Option, Some, None, Result, Ok, Err}
 use Rattle.dump_ports.specs.Tree.{Tree}
-use Rattle.folder_io.specs.declared.fault.ExportFile.TheVariants.{Data}
+use Rattle.folder_io.specs.declared.file.ExportFile.TheVariants.{Data}
 use Rattle.cat_model.specs.declared.cause.Cause.{Cause}
 use Rattle.cat_model.specs.declared.cause.Cause.TheVariants as cause
 use Rattle.cat_model.specs.Values.{Bytes, Named}
@@ -47,6 +47,6 @@ unfoldable pub export_named : Exported → Named
 export_named export = catalogue_named export.cat (rows_by_oid export.rows)
 
 -- the map is what the export stands for, and its rows meet their tables
-pub record IsMap (export : Exported) (named : Named) : Type 0 where
-  pub named : named ≡ export_named export
+pub record IsMap (export : Exported) (map : Named) : Type 0 where
+  pub stands : map ≡ export_named export
   pub meets : rows_fault export.cat export.rows ≡ None

@@ -97,6 +97,7 @@ fn load_outcome(fault: LoadFault) -> Outcome
 }
 
 // The map of an export, where its rows meet their tables.
+#[tactic(auto, unfolding(crate::specs::Openings::export_named))]
 fn load_export(alloc: Global, export: &Export) -> Result<NamedMap, Outcome>
     ensures due { Gives (λ _. tt) result (meet (rows_fault export.now.cat export.now.rows)) }
     ensures named { IfOk result (λ map. map ≡ export_named export.now) }

@@ -24,6 +24,7 @@ use Rattle.cat_model.specs.Values.{Bytes, bytes_cmp}
 use Rattle.cat_model.specs.declared.words.What.TheVariants.{Unbuilt}
 use Rattle.cat_names.specs.Rights.{is_empty_list}
 use Rattle.exports.specs.Exports.{export_of}
+use Rattle.saved_folders.specs.Files.{File, saved}
 use Rattle.schema_folders.specs.declared.schemas.SchemaRow.{SchemaRow}
 use Rattle.tool_words.specs.declared.outcome.Outcome.{Outcome}
 use Rattle.tool_words.specs.declared.outcome.Outcome.TheVariants.{OutOfProfile}

@@ -9,7 +9,7 @@ use cat_export::{Exported, export_named};
 use cat_model::What;
 use cat_names::DataSet;
 use cat_rows::Catalogue;
-use eng_load::catalogue_map;
+use cat_naming::catalogue_map;
 use eng_map::NamedMap;
 use same_maps::same_maps;
 use saved_folders::{ExportTexts, make_texts};
