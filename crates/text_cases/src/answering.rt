@@ -1,7 +1,7 @@
 //! The answer to a case.
 use crate::escapes::decoded;
 use crate::kind::TextKind;
-use crate::{footprints, grammar, languages, references, statements, tables};
+use crate::{footprints, grammar, languages, references, refused, statements, tables};
 use std::alloc::{AllocError, Global};
 
 // The answer to a case whose line is looked at as a text.
@@ -39,6 +39,7 @@ pub fn answer(
         TextKind::NextToken => languages::token_behind(alloc, line, out),
         TextKind::Data => languages::data(alloc, line, out),
         TextKind::SameRows => languages::same_texts(alloc, line, out),
+        TextKind::Refused => refused::report(alloc, line, out),
         _ => match decoded(alloc, line)? {
             Some(text) => of_bytes(alloc, kind, &text, out),
             None => out.extend_from_slice(b"?"),

@@ -34,6 +34,8 @@ pub enum TextKind {
     Data,
     /// Two texts: whether they hold the same rows.
     SameRows,
+    /// Refused statements: psql's report of them.
+    Refused,
 }
 
 /// A part of a statement, and what its first token is behind.
@@ -107,6 +109,7 @@ fn other_of(name: &str) -> Option<TextKind> {
         "footprint" => TextKind::Footprint,
         "data" => TextKind::Data,
         "same rows" => TextKind::SameRows,
+        "refused" => TextKind::Refused,
         _ => return None,
     };
     Some(kind)

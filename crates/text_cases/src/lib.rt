@@ -1,4 +1,4 @@
-//! Cases of texts, for the program `trials`: rows, tokens, names, rights, statements, references, footprints, tables.
+//! Cases of texts, for the program `trials`: rows, tokens, names, rights, statements, references, footprints, tables, refusals.
 //!
 //! A case is a line in which a byte outside printable ASCII, and the backslash, is written `\xHH`.
 #![tactic(auto)]
@@ -10,6 +10,7 @@ mod grammar;
 mod kind;
 mod languages;
 mod references;
+mod refused;
 mod statements;
 mod tables;
 
