@@ -1,0 +1,9 @@
+pub mod Texts
+pub mod Rights
+pub mod Asked
+pub mod Asks
+pub mod Itself
+pub mod Beside
+pub mod Sound
+pub mod Fit
+pub mod Examples
