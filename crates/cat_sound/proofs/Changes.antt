@@ -98,6 +98,16 @@ there_is named k v is = subst (λ (o : Option Value). Passes o Asked.there) (sym
 pub meets_is : (named : Named) (k : Key) (a : Asked) (v : Value) → get named k ≡ Some v → Meets a v → IsMet named (k, a)
 meets_is named k a v is met = subst (λ (o : Option Value). Passes o a) (sym is) met
 
+-- where a value is put that meets whatever the old one did, what was met stays met
+pub alike_left : (named : Named) (k : Key) (old new : Value) → get named k ≡ Some old → ((a : Asked) → Meets a old → Meets a new) → (ask : Ask) → IsMet named ask → IsMet (changed ((k, Some new) ∷ []) named) ask
+alike_left named k old new is alike ask met = by (key_eq ask.0 k) refl
+  where
+    by : (same : Bool) → key_eq ask.0 k ≡ same → IsMet (changed ((k, Some new) ∷ []) named) ask
+    by true e =
+        let here : get named ask.0 ≡ Some old = ap (get named) (key_eq-same ask.0 k e) ∙ is in
+        now ((k, Some new) ∷ []) named ask new (rw e refl) (alike ask.1 (subst (λ (o : Option Value). Passes o ask.1) here met))
+    by false e = left ((k, Some new) ∷ []) named ask (rw e refl) met
+
 -- ---- changes of several keys
 
 pub value_after-append : (cs ds : List Change) (k : Key) (old : Option Value) → value_after (cs ++ ds) k old ≡ value_after ds k (value_after cs k old)

@@ -17,3 +17,17 @@ pub mod JoinedGrants
 pub mod OwnerTo
 pub mod GrantChanges
 pub mod GrantStatements
+pub mod References
+pub mod Sequences
+pub mod Shared
+pub mod TypeSteps
+pub mod Checks
+pub mod Types
+pub mod DomainChecks
+pub mod KeyFacts
+pub mod KeyStatements
+pub mod Indexes
+pub mod CopiedRows
+pub mod Copies
+pub mod ColumnSteps
+pub mod Tables

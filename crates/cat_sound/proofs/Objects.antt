@@ -39,6 +39,10 @@ use Rattle.cat_sound.proofs.TreeSteps.{Keeps, keeps_sets, keeps_check, keeps_fre
 abbrev comment_set : Object → Option Bytes → List Change
 comment_set o text = (key.Comment o, option_map value.Comment text) ∷ []
 
+-- a column that is there, by itself
+pub one_column : (columns : List Column) (column : Bytes) → column_there columns column ≡ true → columns_there columns (column ∷ []) ≡ true
+one_column columns column e = rw e refl
+
 module _ (texts : Texts) (named : Named) (sound : IsSound texts named) where
   pub create_schema-keeps : (boot name : Bytes) → IsMet named (key.Role boot, Asked.there) → Keeps texts named (create_schema boot name)
   create_schema-keeps boot name boot_there =
@@ -98,9 +102,6 @@ module _ (texts : Texts) (named : Named) (sound : IsSound texts named) where
   comment_kept : (o : Object) (text : Option Bytes) → has_comment o ≡ true → AllByRecursion (IsMet named) (comment_asks o) → Keeps texts named (sets (comment_set o text))
   comment_kept o text own met =
       keeps_sets (keeps_aside texts named (comment_set o text) sound (refl, tt) (comment_good o text own (comment_left o text met), tt))
-
-  one_column : (columns : List Column) (column : Bytes) → column_there columns column ≡ true → columns_there columns (column ∷ []) ≡ true
-  one_column columns column e = rw e refl
 
   pub comment_on-keeps : (what : Commented) (text : Option Bytes) → Keeps texts named (comment_on what text)
   comment_on-keeps (commented.Schema name) text = keeps_needs sound (key.Schema name) (λ v is. comment_kept (object.Schema name) text refl (there_is named (key.Schema name) v is, tt))

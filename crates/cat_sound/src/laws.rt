@@ -1,26 +1,150 @@
 //! Each statement leaves a catalogue in order: each law is the contract of a function that does nothing. A statement that
 //! is refused changes nothing.
-ghost use Rattle.std.specs.Prelude.{◌≡◌, Bool, true, Option};
-ghost use Rattle.cat_model.specs.ObjectEffects.{create_schema, owner_to, change_grants, comment_on};
-ghost use Rattle.cat_model.specs.RoleEffects.{create_role, alter_role, grant_role, create_database};
+ghost use Rattle.std.specs.Prelude.{◌≡◌, ℤ, Bool, true, false, List, Option, Some, None};
+ghost use Rattle.cat_model.specs.CopyEffect.{copy_rows};
+ghost use Rattle.cat_model.specs.Effects.{effect};
 ghost use Rattle.cat_model.specs.Grants.{granted, revoked};
+ghost use Rattle.cat_model.specs.KeyEffects.{add_primary, add_unique, add_foreign, add_check, create_index, create_unique_index};
+ghost use Rattle.cat_model.specs.ObjectEffects.{create_schema, owner_to, change_grants, comment_on};
+ghost use Rattle.cat_model.specs.RelationEffects.{create_table, set_default, create_sequence, owned_by, set_value, create_view, replace_view};
+ghost use Rattle.cat_model.specs.RoleEffects.{create_role, alter_role, grant_role, create_database};
 ghost use Rattle.cat_model.specs.Trees.{next};
+ghost use Rattle.cat_model.specs.TypeEffects.{create_enum, create_domain, add_domain_check};
 ghost use Rattle.cat_model.specs.Values.{Bytes, Named};
+ghost use Rattle.cat_model.specs.declared.constraint.ConstraintKind.TheVariants as kinds;
 ghost use Rattle.cat_model.specs.declared.grant.Commented.{Commented};
 ghost use Rattle.cat_model.specs.declared.grant.Granted.{Granted};
 ghost use Rattle.cat_model.specs.declared.grant.Grantee.{Grantee};
 ghost use Rattle.cat_model.specs.declared.grant.Owned.{Owned};
 ghost use Rattle.cat_model.specs.declared.grant.Rights.{Rights};
 ghost use Rattle.cat_model.specs.declared.key.Key.TheVariants as key;
+ghost use Rattle.cat_model.specs.declared.object.QName.{QName};
+ghost use Rattle.cat_model.specs.declared.stmt.Stmt.{Stmt};
+ghost use Rattle.cat_model.specs.declared.table.CheckDef.{CheckDef};
+ghost use Rattle.cat_model.specs.declared.table.ColumnDef.{ColumnDef};
 ghost use Rattle.cat_model.specs.declared.table.RoleChanges.{RoleChanges};
+ghost use Rattle.cat_model.specs.declared.type_name.TypeName.{TypeName};
+ghost use Rattle.cat_model.specs.declared.value.Sequence.{Sequence};
 ghost use Rattle.cat_sound.specs.Asked.{Asked};
+ghost use Rattle.cat_sound.specs.Fit.{IsFit, AreFitColumns, AreFitChecks};
+ghost use Rattle.cat_sound.specs.Itself.{IsDefault, check_of};
 ghost use Rattle.cat_sound.specs.Rights.{is_within, rights_on};
 ghost use Rattle.cat_sound.specs.Sound.{IsMet, IsSound};
 ghost use Rattle.cat_sound.specs.Texts.{Texts};
 
+/// Every statement that is fit leaves a catalogue in order that was in order, where the boot role is there.
+pub fn statements_keep()
+    ensures { (texts : Texts) (boot : Bytes) (s : Stmt) (named : Named) → IsSound texts named → IsFit texts s → IsMet named (key.Role boot, Asked.there) → IsSound texts (next (effect boot s) named) }
+{}
+
 /// CREATE SCHEMA, where the boot role is there.
 pub fn create_schema_keeps()
     ensures { (texts : Texts) (named : Named) (boot name : Bytes) → IsSound texts named → IsMet named (key.Role boot, Asked.there) → IsSound texts (next (create_schema boot name) named) }
+{}
+
+/// CREATE TYPE .. AS ENUM, where the boot role is there.
+pub fn create_enum_keeps()
+    ensures { (texts : Texts) (named : Named) (boot : Bytes) (q : QName) (labels : List Bytes) → IsSound texts named → IsMet named (key.Role boot, Asked.there) → IsSound texts (next (create_enum boot q labels) named) }
+{}
+
+/// CREATE DOMAIN of a base, a default and checks whose texts are good.
+pub fn create_domain_keeps()
+    ensures { (texts : Texts) (named : Named) (boot : Bytes) (q : QName) (base : TypeName) (not_null : Bool) (expression : Option Bytes) (checks : List CheckDef) → IsSound texts named → IsMet named (key.Role boot, Asked.there) → texts.type base ≡ true → IsDefault texts expression → AreFitChecks texts checks → IsSound texts (next (create_domain boot q base not_null expression checks) named) }
+{}
+
+/// ALTER DOMAIN .. ADD CONSTRAINT of a check whose text is good.
+pub fn add_domain_check_keeps()
+    ensures { (texts : Texts) (named : Named) (q : QName) (name text : Bytes) → IsSound texts named → texts.constraint (check_of text) ≡ true → IsSound texts (next (add_domain_check q name text) named) }
+{}
+
+/// CREATE TABLE of columns and checks whose texts are good.
+pub fn create_table_keeps()
+    ensures { (texts : Texts) (named : Named) (boot : Bytes) (q : QName) (columns : List ColumnDef) (checks : List CheckDef) → IsSound texts named → IsMet named (key.Role boot, Asked.there) → AreFitColumns texts columns → AreFitChecks texts checks → IsSound texts (next (create_table boot q columns checks) named) }
+{}
+
+/// ALTER TABLE .. SET DEFAULT of an expression.
+pub fn set_default_keeps()
+    ensures { (texts : Texts) (named : Named) (q : QName) (column text : Bytes) → IsSound texts named → texts.expression text ≡ true → IsSound texts (next (set_default q column text) named) }
+{}
+
+/// CREATE SEQUENCE, where the boot role is there.
+pub fn create_sequence_keeps()
+    ensures { (texts : Texts) (named : Named) (boot : Bytes) (q : QName) (s : Sequence) → IsSound texts named → IsMet named (key.Role boot, Asked.there) → IsSound texts (next (create_sequence boot q s) named) }
+{}
+
+/// ALTER SEQUENCE .. OWNED BY.
+pub fn owned_by_keeps()
+    ensures { (texts : Texts) (named : Named) (q table : QName) (column : Bytes) → IsSound texts named → IsSound texts (next (owned_by q table column) named) }
+{}
+
+/// SELECT pg_catalog.setval.
+pub fn set_value_keeps()
+    ensures { (texts : Texts) (named : Named) (q : QName) (n : ℤ) (called : Bool) → IsSound texts named → IsSound texts (next (set_value q n called) named) }
+{}
+
+/// CREATE VIEW of a body that is good.
+pub fn create_view_keeps()
+    ensures { (texts : Texts) (named : Named) (boot : Bytes) (q : QName) (body : Bytes) → IsSound texts named → IsMet named (key.Role boot, Asked.there) → texts.body body ≡ true → IsSound texts (next (create_view boot q body) named) }
+{}
+
+/// CREATE OR REPLACE VIEW of a body that is good.
+pub fn replace_view_keeps()
+    ensures { (texts : Texts) (named : Named) (q : QName) (body : Bytes) → IsSound texts named → texts.body body ≡ true → IsSound texts (next (replace_view q body) named) }
+{}
+
+/// ADD PRIMARY KEY of a text that is good.
+pub fn add_primary_keeps()
+    ensures { (texts : Texts) (named : Named) (q : QName) (name : Bytes) (names : List Bytes) (rest : Bytes) → IsSound texts named → texts.constraint (record { kind = kinds.Primary; columns = names; parent = None; text = rest }) ≡ true → IsSound texts (next (add_primary q name names rest) named) }
+{}
+
+/// ADD UNIQUE of a text that is good.
+pub fn add_unique_keeps()
+    ensures { (texts : Texts) (named : Named) (q : QName) (name : Bytes) (names : List Bytes) (rest : Bytes) → IsSound texts named → texts.constraint (record { kind = kinds.Unique; columns = names; parent = None; text = rest }) ≡ true → IsSound texts (next (add_unique q name names rest) named) }
+{}
+
+/// ADD FOREIGN KEY of a text that is good.
+pub fn add_foreign_keeps()
+    ensures { (texts : Texts) (named : Named) (q : QName) (name : Bytes) (names : List Bytes) (parent : QName) (parent_names : List Bytes) (rest : Bytes) → IsSound texts named → texts.constraint (record { kind = kinds.Foreign; columns = names; parent = Some (parent, parent_names); text = rest }) ≡ true → IsSound texts (next (add_foreign q name names parent parent_names rest) named) }
+{}
+
+/// ADD CHECK of a text that is good.
+pub fn add_check_keeps()
+    ensures { (texts : Texts) (named : Named) (q : QName) (name text : Bytes) → IsSound texts named → texts.constraint (check_of text) ≡ true → IsSound texts (next (add_check q name text) named) }
+{}
+
+/// CREATE INDEX of a text that is good.
+pub fn create_index_keeps()
+    ensures { (texts : Texts) (named : Named) (q : QName) (name method rest : Bytes) → IsSound texts named → texts.index q name (record { method = method; unique = false; text = rest }) ≡ true → IsSound texts (next (create_index q name method rest) named) }
+{}
+
+/// CREATE UNIQUE INDEX of a text that is good.
+pub fn create_unique_index_keeps()
+    ensures { (texts : Texts) (named : Named) (q : QName) (name method rest : Bytes) → IsSound texts named → texts.index q name (record { method = method; unique = true; text = rest }) ≡ true → IsSound texts (next (create_unique_index q name method rest) named) }
+{}
+
+/// COPY.
+pub fn copy_keeps()
+    ensures { (texts : Texts) (named : Named) (q : QName) (names : List Bytes) (rows : Bytes) → IsSound texts named → IsSound texts (next (copy_rows q names rows) named) }
+{}
+
+/// GRANT of rights that there are on the kind of object.
+pub fn grant_keeps()
+    ensures { (texts : Texts) (named : Named) (what : Granted) (rights : Rights) (who : Grantee) (option : Bool) → IsSound texts named → is_within rights (rights_on what) ≡ true → IsSound texts (next (change_grants what who (granted rights option)) named) }
+{}
+
+/// REVOKE of any rights.
+pub fn revoke_keeps()
+    ensures { (texts : Texts) (named : Named) (what : Granted) (rights : Rights) (who : Grantee) → IsSound texts named → IsSound texts (next (change_grants what who (revoked rights)) named) }
+{}
+
+/// COMMENT, also of none.
+pub fn comment_keeps()
+    ensures { (texts : Texts) (named : Named) (what : Commented) (text : Option Bytes) → IsSound texts named → IsSound texts (next (comment_on what text) named) }
+{}
+
+/// OWNER TO.
+pub fn owner_to_keeps()
+    ensures { (texts : Texts) (named : Named) (what : Owned) (role : Bytes) → IsSound texts named → IsSound texts (next (owner_to what role) named) }
 {}
 
 /// CREATE ROLE.
@@ -41,24 +165,4 @@ pub fn grant_role_keeps()
 /// CREATE DATABASE, where the boot role is there.
 pub fn create_database_keeps()
     ensures { (texts : Texts) (named : Named) (boot name : Bytes) → IsSound texts named → IsMet named (key.Role boot, Asked.there) → IsSound texts (next (create_database boot name) named) }
-{}
-
-/// OWNER TO.
-pub fn owner_to_keeps()
-    ensures { (texts : Texts) (named : Named) (what : Owned) (role : Bytes) → IsSound texts named → IsSound texts (next (owner_to what role) named) }
-{}
-
-/// COMMENT, also of none.
-pub fn comment_keeps()
-    ensures { (texts : Texts) (named : Named) (what : Commented) (text : Option Bytes) → IsSound texts named → IsSound texts (next (comment_on what text) named) }
-{}
-
-/// GRANT of rights that there are on the kind of object.
-pub fn grant_keeps()
-    ensures { (texts : Texts) (named : Named) (what : Granted) (rights : Rights) (who : Grantee) (option : Bool) → IsSound texts named → is_within rights (rights_on what) ≡ true → IsSound texts (next (change_grants what who (granted rights option)) named) }
-{}
-
-/// REVOKE of any rights.
-pub fn revoke_keeps()
-    ensures { (texts : Texts) (named : Named) (what : Granted) (rights : Rights) (who : Grantee) → IsSound texts named → IsSound texts (next (change_grants what who (revoked rights)) named) }
 {}

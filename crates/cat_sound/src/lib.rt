@@ -4,6 +4,10 @@
 mod laws;
 
 pub use laws::{
-    alter_role_keeps, comment_keeps, create_database_keeps, create_role_keeps, create_schema_keeps,
-    grant_keeps, grant_role_keeps, owner_to_keeps, revoke_keeps,
+    add_check_keeps, add_domain_check_keeps, add_foreign_keeps, add_primary_keeps,
+    add_unique_keeps, alter_role_keeps, comment_keeps, copy_keeps, create_database_keeps,
+    create_domain_keeps, create_enum_keeps, create_index_keeps, create_role_keeps,
+    create_schema_keeps, create_sequence_keeps, create_table_keeps, create_unique_index_keeps,
+    create_view_keeps, grant_keeps, grant_role_keeps, owned_by_keeps, owner_to_keeps,
+    replace_view_keeps, revoke_keeps, set_default_keeps, set_value_keeps, statements_keep,
 };

@@ -1,0 +1,5 @@
+use Rattle.cat_sound.proofs.KeyStatements.{add_primary-keeps}
+use Rattle.cat_sound.proofs.laws.add_primary_keeps.Goals as goal
+
+pub returns : goal.returns
+returns c = λ texts named q name names rest sound good. (add_primary-keeps texts named sound q name names rest good).is

@@ -1,0 +1,5 @@
+use Rattle.cat_sound.proofs.Indexes.{create_unique_index-keeps}
+use Rattle.cat_sound.proofs.laws.create_unique_index_keeps.Goals as goal
+
+pub returns : goal.returns
+returns c = λ texts named q name method rest sound good. (create_unique_index-keeps texts named sound q name method rest good).is
