@@ -26,6 +26,7 @@ use Rattle.cat_model.specs.References.{is_system, expression_references, view_re
 use Rattle.cat_model.specs.TypeEffects.{default_references}
 use Rattle.cat_sound.specs.Asked.{Asked}
 use Rattle.cat_sound.specs.Asks.{Ask, asks, all_there, made_asks, type_asks, domain_asks, own_type_asks, column_asks, relation_asks, parent_asks, kind_asks, object_key, holder_asks, comment_asks}
+use Rattle.cat_sound.specs.Sound.{is_comment}
 use Rattle.cat_sound.proofs.Lists.{all-append, all-flat, of_each}
 
 -- ---- references
@@ -77,10 +78,6 @@ default_named None = tt
 default_named (Some text) = expression_named text
 
 -- ---- all that is asked
-
-abbrev pub is_comment : Key → Bool
-is_comment (key.Comment o) = true
-is_comment _ = false
 
 abbrev pub is_other : Asked → Bool
 is_other (Asked.other_owner role) = true

@@ -1,7 +1,8 @@
 -- What stands at a key after changes, and what that means for what is asked.
 use Rattle.std.proofs.Common.{◌≡◌, ◌⊎◌, ℕ, Bool, true, false, cond, ◌||◌, ◌==◌, List, [], ◌∷◌, ◌++◌, Option, Some, None, is_some, refl, ap, sym, subst, ◌∙◌, inl, inr, true≢false, arith}
 use Rattle.std.specs.FinMap.{get}
-use Rattle.std.specs.List.{list_any, AllByRecursion}
+use Rattle.std.specs.List.{list_any, list_all, AllByRecursion}
+use Rattle.std.specs.Cmp.{first_so, second_so}
 use Rattle.cat_model.specs.declared.key.Key.{Key}
 use Rattle.cat_model.specs.Keys.{key_eq, key_kind}
 use Rattle.cat_model.specs.KeyLaws.{key_eq-same}
@@ -11,7 +12,7 @@ use Rattle.cat_model.specs.Trees.{Change, changed}
 use Rattle.model_laws.proofs.Changes.{value_after, get-changed}
 use Rattle.cat_sound.specs.Asked.{Asked, Meets, Passes}
 use Rattle.cat_sound.specs.Asks.{Ask}
-use Rattle.cat_sound.specs.Sound.{IsMet}
+use Rattle.cat_sound.specs.Sound.{is_comment, IsMet}
 use Rattle.cat_sound.proofs.Lists.{IsIn, of_member}
 
 -- whether one of the changes is at a key
@@ -89,6 +90,31 @@ there_left cs named all k met = by (settled_in cs named k)
     by : Settled cs k (get named k) (get (changed cs named) k) → IsMet (changed cs named) (k, Asked.there)
     by (inl same) = subst (λ (o : Option Value). Passes o Asked.there) (sym same.1) met
     by (inr (c, among, at, put)) = subst (λ (o : Option Value). Passes o Asked.there) (sym put) (some c.1 (of_member (λ c. is_some c.1 ≡ true) cs all c among))
+
+-- changes that take out nothing but comments
+abbrev pub is_kept : Change → Bool
+is_kept c = is_comment c.0 || is_some c.1
+
+abbrev pub are_kept : List Change → Bool
+are_kept cs = list_all is_kept cs
+
+kept_among : (cs : List Change) → are_kept cs ≡ true → (c : Change) → IsIn c cs → is_kept c ≡ true
+kept_among [] kept c among = elim among [ ]
+kept_among (d ∷ cs) kept c (inl same) = subst (λ (x : Change). is_kept x ≡ true) same (first_so (is_kept d) (are_kept cs) kept)
+kept_among (d ∷ cs) kept c (inr later) = kept_among cs (second_so (is_kept d) (are_kept cs) kept) c later
+
+-- and so what is there stays there
+pub kept_there : (cs : List Change) (named : Named) → are_kept cs ≡ true → (k : Key) → is_comment k ≡ false → IsMet named (k, Asked.there) → IsMet (changed cs named) (k, Asked.there)
+kept_there cs named kept k apart met = by (settled_in cs named k)
+  where
+    some : (comment : Bool) (o : Option Value) → comment ≡ false → comment || is_some o ≡ true → Passes o Asked.there
+    some comment (Some v) e h = tt
+    some true None e h = cc
+    some false None e h = cc
+
+    by : Settled cs k (get named k) (get (changed cs named) k) → IsMet (changed cs named) (k, Asked.there)
+    by (inl same) = subst (λ (o : Option Value). Passes o Asked.there) (sym same.1) met
+    by (inr (c, among, at, put)) = subst (λ (o : Option Value). Passes o Asked.there) (sym put) (some (is_comment c.0) c.1 (ap is_comment at ∙ apart) (kept_among cs kept c among))
 
 -- what stands at a key is there
 pub there_is : (named : Named) (k : Key) (v : Value) → get named k ≡ Some v → IsMet named (k, Asked.there)

@@ -55,7 +55,7 @@ module _ (texts : Texts) (named : Named) (sound : IsSound texts named) where
     rows_kept : (rows : List Row) → list_all (is_row columns) rows ≡ true → Keeps texts named (sets ((key.Rows q, Some (value.Rows rows)) ∷ []))
     rows_kept rows fit =
         let cs : List Change = (key.Rows q, Some (value.Rows rows)) ∷ [] in
-        keeps_sets (keeps_aside texts named cs sound (refl, tt) (
+        keeps_sets refl (keeps_aside texts named cs sound (refl, tt) (
           record {
             new = record { own = tt; others = (left cs named (key.Rel q, Asked.holds rows) refl (meets_is named (key.Rel q) (Asked.holds rows) (value.Table columns) is fit), tt) };
             answers = sorted_answers texts named cs (key.Rows q) (value.Rows rows) sound.each (λ old own. alike_rows old rows own);

@@ -92,4 +92,4 @@ module _ (texts : Texts) (named : Named) (sound : IsSound texts named) where
       keeps_domain sound q (λ d is.
       keeps_check sound (not (contains_key d.checks name)) (cause.Exists (key.UserType q)) (λ new.
       keeps_needs_each sound (expression_references text) (λ refs.
-      keeps_sets (check_kept q d is name text good refs))))
+      keeps_sets refl (check_kept q d is name text good refs))))

@@ -110,7 +110,7 @@ module _ (texts : Texts) (named : Named) (sound : IsSound texts named) where
           | inl tied ↦ new_holder name (sym (equal_of holder_cmp-IsAntisymmetric (ROLE name) holder (holder_cmp (ROLE name) holder) refl tied))
           | inr was ↦ holders name i was
         ] in
-        keeps_sets (keeps_aside texts named cs sound (refl, tt) (
+        keeps_sets refl (keeps_aside texts named cs sound (refl, tt) (
           record {
             new = record {
               own = (before.own.0, (changes holder).items grants before.own.1);
@@ -132,7 +132,7 @@ module _ (texts : Texts) (named : Named) (sound : IsSound texts named) where
     grants_or_same : (object : Value) → get named (object_key o) ≡ Some object → rights_of object ≡ Some (rights_on what) → ((name : Bytes) → who ≡ grantee.Role name → IsMet named (key.Role name, Asked.there)) → (owner : Option Value) → get named (key.Owner o) ≡ owner → (v : Option Value) → get named (key.Acl o) ≡ v → Keeps texts named (sets (grants_changed o (change (holder_of (owner_in owner) who)) v))
     grants_or_same object at rights roles owner owner_is (Some (value.Grants grants)) is = changed_kept object at rights roles owner owner_is grants is
     grants_or_same object at rights roles owner owner_is (Some v) is = elim (sound.each (key.Acl o) v is).own [ ]
-    grants_or_same object at rights roles owner owner_is None is = keeps_sets sound
+    grants_or_same object at rights roles owner owner_is None is = keeps_sets refl sound
 
     change_grants-keeps : Keeps texts named (change_grants what who change)
     change_grants-keeps =

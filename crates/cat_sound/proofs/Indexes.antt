@@ -80,7 +80,7 @@ module _ (texts : Texts) (named : Named) (sound : IsSound texts named) where
       let others : columns_there parent_columns parent_names && length names == length parent_names ≡ true = second_so (columns_there columns names) (columns_there parent_columns parent_names && length names == length parent_names) fits in
       let there : columns_there parent_columns parent_names ≡ true = first_so (columns_there parent_columns parent_names) (length names == length parent_names) others in
       let as_many : (length names == length parent_names) ≡ true = second_so (columns_there parent_columns parent_names) (length names == length parent_names) others in
-      keeps_sets (constraint_kept q name c none refl refl
+      keeps_sets refl (constraint_kept q name c none refl refl
       (λ p ns same.
       let pair : ◌≡◌ {A = QName × List Bytes} (parent, parent_names) (p, ns) = cc in
       subst (λ (t : QName × List Bytes). HasKey named t.0 t.1) pair (has_key_of named parent parent_names e more (entries_are ∙ first)))
@@ -92,7 +92,7 @@ module _ (texts : Texts) (named : Named) (sound : IsSound texts named) where
       keeps_table sound q (λ columns is.
       keeps_free sound (key.Con q name) (λ none.
       keeps_needs_each sound (expression_references text) (λ refs.
-      keeps_sets (constraint_kept q name (check_of text) none refl refl
+      keeps_sets refl (constraint_kept q name (check_of text) none refl refl
       (λ p ns same. cc)
       columns is good (refl, refl) refl
       (refs_left (one q name (check_of text) none refl refl) named (refl, tt) (expression_references text) refs)))))
@@ -135,7 +135,7 @@ module _ (texts : Texts) (named : Named) (sound : IsSound texts named) where
       keeps_table sound q (λ columns is.
       keeps_free sound (key.Rel (index_path q name)) (λ no_relation.
       keeps_free sound (key.Index q name) (λ none.
-      keeps_sets (index_kept q name (record { method = method; unique = false; text = rest }) none no_relation columns is good refl))))
+      keeps_sets refl (index_kept q name (record { method = method; unique = false; text = rest }) none no_relation columns is good refl))))
 
   unique_keeps : (q : QName) (name : Bytes) (columns : List Column) (names : Option (List Bytes)) {tree : Tree} → (columns_there columns (names_or_none names) ≡ true → Keeps texts named tree) → Keeps texts named (unique_rows q name columns names tree)
   unique_keeps q name columns None step = step refl
@@ -151,4 +151,4 @@ module _ (texts : Texts) (named : Named) (sound : IsSound texts named) where
       keeps_free sound (key.Rel (index_path q name)) (λ no_relation.
       keeps_free sound (key.Index q name) (λ none.
       unique_keeps q name columns (unique_on i) (λ have.
-      keeps_sets (index_kept q name i none no_relation columns is good have)))))
+      keeps_sets refl (index_kept q name i none no_relation columns is good have)))))

@@ -92,7 +92,7 @@ module _ (texts : Texts) (named : Named) (sound : IsSound texts named) where
       keeps_look (key.Rows q) (λ rows rows_are.
       keeps_null sound (null_in 1 columns names (rows_in rows))
       (keeps_repeated sound name (repeated columns names (rows_in rows))
-      (keeps_sets
+      (keeps_sets refl
       (key_kept q name (record { kind = kinds.Primary; columns = names; parent = None; text = rest }) refl refl none no_relation
       (record {
         at = key.Con q name;
@@ -109,7 +109,7 @@ module _ (texts : Texts) (named : Named) (sound : IsSound texts named) where
       keeps_check sound (columns_there columns names) cause.WrongColumns (λ have.
       keeps_look (key.Rows q) (λ rows rows_are.
       keeps_repeated sound name (repeated columns names (rows_in rows))
-      (keeps_sets
+      (keeps_sets refl
       (key_kept q name (record { kind = kinds.Unique; columns = names; parent = None; text = rest }) refl refl none no_relation
       (no_primary named _ (refl, (refl, tt)))
       columns is good refl refl have)))))))

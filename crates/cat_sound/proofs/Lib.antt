@@ -31,3 +31,6 @@ pub mod CopiedRows
 pub mod Copies
 pub mod ColumnSteps
 pub mod Tables
+pub mod Statements
+pub mod Opening
+pub mod Refuted

@@ -53,3 +53,7 @@ module _ {A : Type 0} (P : A → Type 0) where
 pub tested-append : {A : Type 0} (p : A → Bool) (xs ys : List A) → list_all p xs ≡ true → list_all p ys ≡ true → list_all p (xs ++ ys) ≡ true
 tested-append p [] ys all others = others
 tested-append p (x ∷ xs) ys all others = rw (first_so (p x) (list_all p xs) all, tested-append p xs ys (second_so (p x) (list_all p xs) all) others) refl
+
+pub of_tested : {A : Type 0} (p : A → Bool) (xs : List A) → AllByRecursion (λ x. p x ≡ true) xs → list_all p xs ≡ true
+of_tested p [] all = refl
+of_tested p (x ∷ xs) all = rw (all.0, of_tested p xs all.1) refl

@@ -38,7 +38,8 @@ module _ {K X : Type 0} {R : K → K → Ordering} (total : IsTotalOrder R) (exa
       inl (λ i. (sym same i, values i))
   found_in k q w v es false tied e later = inr (later e)
 
-  find-in : (es : List (K × X)) (q : K) (v : X) → find R q es ≡ Some v → IsIn (q, v) es
+  -- what is found is an entry
+  pub find-in : (es : List (K × X)) (q : K) (v : X) → find R q es ≡ Some v → IsIn (q, v) es
   find-in [] q v e = cc
   find-in (x ∷ es) q v e = found_in x.0 q x.1 v es (eq_by_cmp R q x.0) refl e (find-in es q v)
 

@@ -64,7 +64,7 @@ module _ (texts : Texts) (named : Named) (sound : IsSound texts named) where
         with_owner = with_owner;
         role = left cs named (key.Role boot, Asked.there) refl boot_there;
       } in
-      keeps_sets (keeps_aside texts named cs sound (refl, (refl, (refl, tt))) (
+      keeps_sets refl (keeps_aside texts named cs sound (refl, (refl, (refl, tt))) (
         record {
           new = record { own = not_true (is_system name) own; others = (with_owner, (with_grants, tt)) };
           answers = new_answers named cs (key.Schema name, Some value.Schema) none;
@@ -101,7 +101,7 @@ module _ (texts : Texts) (named : Named) (sound : IsSound texts named) where
 
   comment_kept : (o : Object) (text : Option Bytes) → has_comment o ≡ true → AllByRecursion (IsMet named) (comment_asks o) → Keeps texts named (sets (comment_set o text))
   comment_kept o text own met =
-      keeps_sets (keeps_aside texts named (comment_set o text) sound (refl, tt) (comment_good o text own (comment_left o text met), tt))
+      keeps_sets refl (keeps_aside texts named (comment_set o text) sound (refl, tt) (comment_good o text own (comment_left o text met), tt))
 
   pub comment_on-keeps : (what : Commented) (text : Option Bytes) → Keeps texts named (comment_on what text)
   comment_on-keeps (commented.Schema name) text = keeps_needs sound (key.Schema name) (λ v is. comment_kept (object.Schema name) text refl (there_is named (key.Schema name) v is, tt))

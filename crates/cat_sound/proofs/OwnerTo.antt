@@ -142,7 +142,7 @@ module _ (texts : Texts) (named : Named) (sound : IsSound texts named) where
   without_grants o role own one two none =
       let cs : List Change = (key.Owner o, Some (value.Owner role)) ∷ [] in
       let apart : is_touched cs (object_key o) ≡ false = rw (apart_owner o) refl in
-      keeps_sets (keeps_aside texts named cs sound (refl, tt)
+      keeps_sets refl (keeps_aside texts named cs sound (refl, tt)
       (owner_good o role cs own (left cs named (key.Role role, Asked.there) refl one) (left cs named (object_key o, Asked.ownable) (untouched_value cs (object_key o) _ apart) two) (λ u untouched is. none u is), tt))
 
   -- and with the grants
@@ -154,7 +154,7 @@ module _ (texts : Texts) (named : Named) (sound : IsSound texts named) where
       let before = sound.each (key.Acl o) (value.Grants grants) is in
       let holders : AreHolders named o grants = met_holders named o grants before.others.1.1 in
       let role_there : (name : Bytes) → IsMet named (key.Role name, Asked.there) → IsMet (changed cs named) (key.Role name, Asked.there) = λ name met. left cs named (key.Role name, Asked.there) refl met in
-      keeps_sets (keeps_aside texts named cs sound (refl, (refl, tt)) (
+      keeps_sets refl (keeps_aside texts named cs sound (refl, (refl, tt)) (
         owner_good o role cs own (role_there role one) (left cs named (object_key o, Asked.ownable) (untouched_value cs (object_key o) _ apart) two) (λ u untouched at. absurd (true≢false (sym touched ∙ untouched))),
         (
           record {

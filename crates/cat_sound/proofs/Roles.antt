@@ -30,7 +30,7 @@ module _ (texts : Texts) (named : Named) (sound : IsSound texts named) where
       keeps_free sound (key.Role name) (λ none.
       keeps_check sound _ _ (λ apart.
       let cs : List Change = (key.Role name, Some (value.Role new_role)) ∷ [] in
-      keeps_sets (keeps_aside texts named cs sound (refl, tt)
+      keeps_sets refl (keeps_aside texts named cs sound (refl, tt)
       (record { new = record { own = not_true _ apart; others = tt }; answers = new_answers named cs (key.Role name, Some (value.Role new_role)) none }, tt))))
 
   -- all roles meet the same
@@ -42,7 +42,7 @@ module _ (texts : Texts) (named : Named) (sound : IsSound texts named) where
   alter_role-keeps name changes =
       keeps_role sound name (λ r is.
       let cs : List Change = (key.Role name, Some (value.Role (role_changed changes r))) ∷ [] in
-      keeps_sets (keeps_aside texts named cs sound (refl, tt) (
+      keeps_sets refl (keeps_aside texts named cs sound (refl, tt) (
         record {
           new = record { own = (sound.each (key.Role name) (value.Role r) is).own; others = tt };
           answers = alike_answers named cs (key.Role name) (value.Role r) (value.Role (role_changed changes r)) is (alike_roles r (role_changed changes r));
@@ -73,8 +73,8 @@ module _ (texts : Texts) (named : Named) (sound : IsSound texts named) where
       by grantor r (there_is named (key.Role role) v one) (there_is named (key.Role member) (value.Role r) two)))
     where
       by : (grantor : Option Bytes) (r : Role) → IsMet named (key.Role role, Asked.there) → IsMet named (key.Role member, Asked.there) → Keeps texts named (needs_grantor grantor (sets ((key.Member role member (unwrap_or grantor boot), Some (value.Member (record { admin = admin; inherit = unwrap_or inherit r.inherit; «set» = may_set }))) ∷ [])))
-      by None r one two = keeps_sets (member_kept boot role member boot _ one two boot_there)
-      by (Some name) r one two = keeps_needs sound (key.Role name) (λ v three. keeps_sets (member_kept boot role member name _ one two (there_is named (key.Role name) v three)))
+      by None r one two = keeps_sets refl (member_kept boot role member boot _ one two boot_there)
+      by (Some name) r one two = keeps_needs sound (key.Role name) (λ v three. keeps_sets refl (member_kept boot role member name _ one two (there_is named (key.Role name) v three)))
 
   pub create_database-keeps : (boot name : Bytes) → IsMet named (key.Role boot, Asked.there) → Keeps texts named (create_database boot name)
   create_database-keeps boot name boot_there =
@@ -82,7 +82,7 @@ module _ (texts : Texts) (named : Named) (sound : IsSound texts named) where
       let o = object.Database name in
       let cs : List Change = (key.Database name, Some (value.Database encoding.Utf8)) ∷ (key.Owner o, Some (value.Owner boot)) ∷ [] in
       let no_owner : get named (key.Owner o) ≡ None = none_without texts named sound.each (key.Owner o) (key.Database name) refl none in
-      keeps_sets (keeps_aside texts named cs sound (refl, (refl, tt)) (
+      keeps_sets refl (keeps_aside texts named cs sound (refl, (refl, tt)) (
         record {
           new = record { own = tt; others = (now cs named (key.Owner o, Asked.there) (value.Owner boot) (rw key_eq_self refl) tt, tt) };
           answers = new_answers named cs (key.Database name, Some (value.Database encoding.Utf8)) none;

@@ -65,7 +65,7 @@ module _ (texts : Texts) (named : Named) (sound : IsSound texts named) where
         with_owner = with_owner;
         role = left cs named (key.Role boot, Asked.there) refl boot_there;
       } in
-      keeps_sets (keeps_aside texts named cs sound (refl, (refl, (refl, (refl, tt)))) (
+      keeps_sets refl (keeps_aside texts named cs sound (refl, (refl, (refl, (refl, tt)))) (
         record {
           new = record {
             own = fits;
@@ -95,7 +95,7 @@ module _ (texts : Texts) (named : Named) (sound : IsSound texts named) where
       keeps_sequence sound q (λ s is.
       keeps_check sound (within s.min s.max n) cause.OutOfRange (λ fits.
       let cs : List Change = (key.SeqVal q, Some (value.SequenceValue n called)) ∷ [] in
-      keeps_sets (keeps_aside texts named cs sound (refl, tt) (
+      keeps_sets refl (keeps_aside texts named cs sound (refl, tt) (
         record {
           new = record { own = tt; others = (left cs named (key.Rel q, Asked.counts n) refl (meets_is named (key.Rel q) (Asked.counts n) (value.Sequence s) is fits), tt) };
           answers = sorted_answers texts named cs (key.SeqVal q) (value.SequenceValue n called) sound.each (λ old own. alike_numbers old n called own);
@@ -114,7 +114,7 @@ module _ (texts : Texts) (named : Named) (sound : IsSound texts named) where
       keeps_table sound table (λ columns table_is.
       keeps_check sound (column_there columns column) cause.WrongColumns (λ e.
       let cs : List Change = (key.OwnedBy q, Some (value.OwnedBy table column)) ∷ [] in
-      keeps_sets (keeps_aside texts named cs sound (refl, tt) (
+      keeps_sets refl (keeps_aside texts named cs sound (refl, tt) (
         record {
           new = record {
             own = tt;
@@ -139,7 +139,7 @@ module _ (texts : Texts) (named : Named) (sound : IsSound texts named) where
       keeps_check sound (column_there columns column) cause.WrongColumns (λ e.
       keeps_needs_each sound (expression_references text) (λ refs.
       let cs : List Change = (key.Default q column, Some (value.DefaultText text)) ∷ [] in
-      keeps_sets (keeps_aside texts named cs sound (refl, tt) (
+      keeps_sets refl (keeps_aside texts named cs sound (refl, tt) (
         record {
           new = record {
             own = good;
@@ -165,7 +165,7 @@ module _ (texts : Texts) (named : Named) (sound : IsSound texts named) where
       keeps_kind sound is_view (key.Rel q) (λ v is kind.
       keeps_needs_each sound (view_references body) (λ refs.
       let cs : List Change = (key.Body q, Some (value.Body body)) ∷ [] in
-      keeps_sets (keeps_aside texts named cs sound (refl, tt) (
+      keeps_sets refl (keeps_aside texts named cs sound (refl, tt) (
         record {
           new = record { own = good; others = (left cs named (key.Rel q, Asked.a_view) refl (meets_is named (key.Rel q) Asked.a_view v is kind), refs_left cs named (refl, tt) (view_references body) refs) };
           answers = sorted_answers texts named cs (key.Body q) (value.Body body) sound.each (λ old own. alike_bodies old body own);
@@ -200,7 +200,7 @@ module _ (texts : Texts) (named : Named) (sound : IsSound texts named) where
         role = left cs named (key.Role boot, Asked.there) refl boot_there;
       } in
       let view_there : IsMet (changed cs named) (key.Rel q, Asked.there) = now cs named (key.Rel q, Asked.there) value.View (rw key_eq_self refl) tt in
-      keeps_sets (keeps_aside texts named cs sound (refl, (refl, (refl, (refl, tt)))) (
+      keeps_sets refl (keeps_aside texts named cs sound (refl, (refl, (refl, (refl, tt)))) (
         record {
           new = record {
             own = tt;

@@ -31,11 +31,11 @@ use Rattle.cat_sound.specs.Beside.{is_primary_at}
 use Rattle.cat_sound.specs.Fit.{IsFitColumn, AreFitColumns, AreFitChecks}
 use Rattle.cat_sound.specs.Sound.{IsMet, IsSound}
 use Rattle.model_laws.proofs.Changes.{value_after, get-changed, key_eq_self}
-use Rattle.cat_sound.proofs.Changes.{AreNew, there_is, meets_is, new_left, value_after-append, untouched_value, other_untouched}
+use Rattle.cat_sound.proofs.Changes.{AreNew, is_kept, are_kept, there_is, meets_is, new_left, value_after-append, untouched_value, other_untouched}
 use Rattle.cat_sound.proofs.Checks.{there_each}
 use Rattle.cat_sound.proofs.ColumnSteps.{AreResolved, keeps_columns, names_same, count_same, columns_typed, columns_met, columns_defined}
 use Rattle.cat_sound.proofs.Keeping.{IsGood, new_answers}
-use Rattle.cat_sound.proofs.Lists.{IsIn, of_member, of_each, all-append, all-flat, all-mapped, all-weaker}
+use Rattle.cat_sound.proofs.Lists.{IsIn, of_member, of_each, all-append, all-flat, all-mapped, all-weaker, of_tested}
 use Rattle.cat_sound.proofs.Made.{IsNewObject, made_good}
 use Rattle.cat_sound.proofs.Needed.{needed, none_without}
 use Rattle.cat_sound.proofs.NewGrants.{owner_first}
@@ -139,6 +139,9 @@ module _ (texts : Texts) (named : Named) (sound : IsSound texts named) where
     refs_there : (keys : List Key) → AreThere named (but (key.Rel q) keys) → AreThere later keys
     refs_there = but_left named later (key.Rel q) table_there (λ j. new_left all_set named fresh (j, Asked.there))
 
+    all_kept : are_kept all_set ≡ true
+    all_kept = of_tested is_kept (parts_set q cs checks) (parts_each (λ (c : Change). is_kept c ≡ true) q cs checks (λ c text among is. refl) (λ c among. refl))
+
     shared : AreShared named all_set
     shared = (
       tt,
@@ -230,7 +233,7 @@ module _ (texts : Texts) (named : Named) (sound : IsSound texts named) where
       let apart : distinct (map (λ c. c.name) cs) && distinct (map (λ c. c.name) checks) ≡ true = second_so (nat_le (length cs) 1600) (distinct (map (λ c. c.name) cs) && distinct (map (λ c. c.name) checks)) fits in
       keeps_columns sound q cs (λ columns resolved.
       keeps_needs_each sound (but (key.Rel q) (check_references checks)) (λ check_refs.
-      keeps_sets (table_kept boot q boot_there none cs checks columns resolved fit_columns fit_checks check_refs
+      keeps_sets (all_kept boot q boot_there none cs checks columns) (table_kept boot q boot_there none cs checks columns resolved fit_columns fit_checks check_refs
       (first_so (nat_le (length cs) 1600) (distinct (map (λ c. c.name) cs) && distinct (map (λ c. c.name) checks)) fits)
       (first_so (distinct (map (λ c. c.name) cs)) (distinct (map (λ c. c.name) checks)) apart)
       schema schema_is))))))

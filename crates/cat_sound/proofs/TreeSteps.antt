@@ -22,25 +22,27 @@ use Rattle.cat_model.specs.KeyEffects.{refuse_repeated, refuse_null, refuse_orph
 use Rattle.cat_sound.specs.Texts.{Texts}
 use Rattle.cat_sound.specs.Asked.{Asked, Passes}
 use Rattle.cat_sound.specs.Asks.{all_there}
-use Rattle.cat_sound.specs.Sound.{IsMet, IsSound}
+use Rattle.cat_sound.specs.Sound.{is_comment, IsMet, IsSound}
+use Rattle.cat_sound.proofs.Changes.{are_kept, kept_there}
 
--- what the tree leaves is in order; a record, so that its type tells the tree
+-- What the tree leaves is in order, and what was there is there but comments. A record, so that its type tells the tree.
 pub record Keeps (texts : Texts) (named : Named) (tree : Tree) : Type 0 where
   pub is : IsSound texts (next tree named)
+  pub stays : (k : Key) → is_comment k ≡ false → IsMet named (k, Asked.there) → IsMet (next tree named) (k, Asked.there)
 
 module _ {texts : Texts} {named : Named} where
-  pub keeps_sets : {cs : List Change} → IsSound texts (changed cs named) → Keeps texts named (sets cs)
-  keeps_sets sound = record { is = sound }
+  pub keeps_sets : {cs : List Change} → are_kept cs ≡ true → IsSound texts (changed cs named) → Keeps texts named (sets cs)
+  keeps_sets {cs} kept sound = record { is = sound; stays = λ k apart met. kept_there cs named kept k apart met }
 
   pub keeps_look : (k : Key) {then_do : Option Value → Tree} → ((o : Option Value) → get named k ≡ o → Keeps texts named (then_do o)) → Keeps texts named (look k then_do)
-  keeps_look k step = record { is = (step (get named k) refl).is }
+  keeps_look k step = record { is = (step (get named k) refl).is; stays = (step (get named k) refl).stays }
 
   pub keeps_scan : (c : Class) {then_do : List (Key × Value) → Tree} → ((es : List (Key × Value)) → entries (class_of named c) ≡ es → Keeps texts named (then_do es)) → Keeps texts named (scan c then_do)
-  keeps_scan c step = record { is = (step (entries (class_of named c)) refl).is }
+  keeps_scan c step = record { is = (step (entries (class_of named c)) refl).is; stays = (step (entries (class_of named c)) refl).stays }
 
 module _ {texts : Texts} {named : Named} (sound : IsSound texts named) where
   pub keeps_refuse : (because : Cause) → Keeps texts named (refuse because)
-  keeps_refuse because = record { is = sound }
+  keeps_refuse because = record { is = sound; stays = λ k apart met. met }
 
   pub keeps_check : (holds : Bool) (because : Cause) {tree : Tree} → (holds ≡ true → Keeps texts named tree) → Keeps texts named (check holds because tree)
   keeps_check true because step = step refl

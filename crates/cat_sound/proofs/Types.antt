@@ -152,7 +152,7 @@ module _ (texts : Texts) (named : Named) (sound : IsSound texts named) where
       keeps_needs sound (key.Schema q.schema) (λ schema schema_is.
       keeps_free sound (key.UserType q) (λ none.
       keeps_check sound (distinct labels) (cause.Exists (key.UserType q)) (λ apart.
-      keeps_sets (enum_kept boot q boot_there none labels schema schema_is apart))))
+      keeps_sets refl (enum_kept boot q boot_there none labels schema schema_is apart))))
 
   pub create_domain-keeps : (boot : Bytes) (q : QName) (base : TypeName) (not_null : Bool) (default : Option Bytes) (checks : List CheckDef) → IsMet named (key.Role boot, Asked.there) → texts.type base ≡ true → IsDefault texts default → AreFitChecks texts checks → Keeps texts named (create_domain boot q base not_null default checks)
   create_domain-keeps boot q base not_null default checks boot_there typed good fit =
@@ -162,4 +162,4 @@ module _ (texts : Texts) (named : Named) (sound : IsSound texts named) where
       keeps_type sound base (λ end comes.
       keeps_needs_each sound (default_references default) (λ refs.
       keeps_needs_each sound (but (key.UserType q) (check_references checks)) (λ check_refs.
-      keeps_sets (domain_kept boot q boot_there none base not_null default checks end schema schema_is typed good fit comes refs check_refs)))))))
+      keeps_sets refl (domain_kept boot q boot_there none base not_null default checks end schema schema_is typed good fit comes refs check_refs)))))))

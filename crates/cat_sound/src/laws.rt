@@ -1,5 +1,6 @@
 //! Each statement leaves a catalogue in order: each law is the contract of a function that does nothing. A statement that
 //! is refused changes nothing.
+ghost use Rattle.std.specs.List.{AllByRecursion};
 ghost use Rattle.std.specs.Prelude.{◌≡◌, ℤ, Bool, true, false, List, Option, Some, None};
 ghost use Rattle.cat_model.specs.CopyEffect.{copy_rows};
 ghost use Rattle.cat_model.specs.Effects.{effect};
@@ -17,6 +18,7 @@ ghost use Rattle.cat_model.specs.declared.grant.Granted.{Granted};
 ghost use Rattle.cat_model.specs.declared.grant.Grantee.{Grantee};
 ghost use Rattle.cat_model.specs.declared.grant.Owned.{Owned};
 ghost use Rattle.cat_model.specs.declared.grant.Rights.{Rights};
+ghost use Rattle.cat_model.specs.declared.key.Key.{Key};
 ghost use Rattle.cat_model.specs.declared.key.Key.TheVariants as key;
 ghost use Rattle.cat_model.specs.declared.object.QName.{QName};
 ghost use Rattle.cat_model.specs.declared.stmt.Stmt.{Stmt};
@@ -25,16 +27,27 @@ ghost use Rattle.cat_model.specs.declared.table.ColumnDef.{ColumnDef};
 ghost use Rattle.cat_model.specs.declared.table.RoleChanges.{RoleChanges};
 ghost use Rattle.cat_model.specs.declared.type_name.TypeName.{TypeName};
 ghost use Rattle.cat_model.specs.declared.value.Sequence.{Sequence};
+ghost use Rattle.model_laws.specs.Examples.{catalogue_after};
 ghost use Rattle.cat_sound.specs.Asked.{Asked};
 ghost use Rattle.cat_sound.specs.Fit.{IsFit, AreFitColumns, AreFitChecks};
 ghost use Rattle.cat_sound.specs.Itself.{IsDefault, check_of};
 ghost use Rattle.cat_sound.specs.Rights.{is_within, rights_on};
-ghost use Rattle.cat_sound.specs.Sound.{IsMet, IsSound};
+ghost use Rattle.cat_sound.specs.Sound.{is_comment, IsMet, IsSound};
 ghost use Rattle.cat_sound.specs.Texts.{Texts};
 
 /// Every statement that is fit leaves a catalogue in order that was in order, where the boot role is there.
 pub fn statements_keep()
     ensures { (texts : Texts) (boot : Bytes) (s : Stmt) (named : Named) → IsSound texts named → IsFit texts s → IsMet named (key.Role boot, Asked.there) → IsSound texts (next (effect boot s) named) }
+{}
+
+/// Whatever is there stays there behind a statement that is fit, but for comments: the boot role too, and the databases.
+pub fn statements_leave_what_is_there()
+    ensures { (texts : Texts) (boot : Bytes) (s : Stmt) (named : Named) (k : Key) → IsSound texts named → IsFit texts s → IsMet named (key.Role boot, Asked.there) → is_comment k ≡ false → IsMet named (k, Asked.there) → IsMet (next (effect boot s) named) (k, Asked.there) }
+{}
+
+/// So a run of fit statements leaves a catalogue in order.
+pub fn runs_keep()
+    ensures { (texts : Texts) (boot : Bytes) (ss : List Stmt) (named : Named) → IsSound texts named → AllByRecursion (IsFit texts) ss → IsMet named (key.Role boot, Asked.there) → IsSound texts (catalogue_after boot ss named) }
 {}
 
 /// CREATE SCHEMA, where the boot role is there.
