@@ -2,24 +2,25 @@
 use Rattle.std.proofs.Common.{◌≡◌, Option, Ok, ap, subst, ◌∙◌, Result, inl, inr}
 use Rattle.dump_ports.specs.Tree.{Tree}
 use Rattle.cat_model.specs.Values.{Bytes, Named}
-use Rattle.exports.specs.Exports.{Exported, export_of}
+use Rattle.exports.specs.Exports.{Exported}
+use Rattle.openings.specs.Openings.{opened_folder, export_named}
 use Rattle.tool_words.specs.declared.outcome.Outcome.{Outcome}
 use Rattle.tool_words.specs.declared.outcome.Outcome.TheVariants.{Done, Usage, ReadFault, WriteFault, Missing, BadExport, BadScript, OutOfProfile, TooLarge, Differs, Memory}
 use Rattle.tool_words.specs.Answers.{◌>>=◌}
-use Rattle.dump_tools.specs.Due.{Plan, Compares, export_named, second_due, compare_due, IsCarriedOut, WasDue, IsUnequal, IsAnswerDue}
+use Rattle.dump_tools.specs.Due.{Plan, Compares, second_due, compare_due, IsCarriedOut, WasDue, IsUnequal, IsAnswerDue}
 
 -- the second folder was read
-pub second_read : (one : Exported) (second : Bytes) (tree : Tree) (other : Exported) → export_of second tree ≡ Ok other → second_due one second tree ≡ Ok (Compares (export_named one) (export_named other))
+pub second_read : (one : Exported) (second : Bytes) (tree : Tree) (other : Exported) → opened_folder second tree ≡ Ok other → second_due one second tree ≡ Ok (Compares (export_named one) (export_named other))
 unfolding second_due
 second_read one second tree other e = ap (λ (r : Result Exported Outcome). r >>= λ other. Ok (Compares (export_named one) (export_named other))) e
 
 -- the first folder was read
-pub first_read : (first second : Bytes) (tree : Tree) (one : Exported) → export_of first tree ≡ Ok one → compare_due first second tree ≡ second_due one second tree
+pub first_read : (first second : Bytes) (tree : Tree) (one : Exported) → opened_folder first tree ≡ Ok one → compare_due first second tree ≡ second_due one second tree
 unfolding compare_due
 first_read first second tree one e = ap (λ (r : Result Exported Outcome). r >>= λ one. second_due one second tree) e
 
 -- the plan that was due of the second folder was carried out
-pub first_done : (first second : Bytes) (tree : Tree) (one : Exported) (start between after : Option Tree) (printed told : Option Bytes) → export_of first tree ≡ Ok one → between ≡ start → WasDue (second_due one second tree) between after printed printed told told → WasDue (compare_due first second tree) start after printed printed told told
+pub first_done : (first second : Bytes) (tree : Tree) (one : Exported) (start between after : Option Tree) (printed told : Option Bytes) → opened_folder first tree ≡ Ok one → between ≡ start → WasDue (second_due one second tree) between after printed printed told told → WasDue (compare_due first second tree) start after printed printed told told
 first_done first second tree one start between after printed told e k w = record {
   plan = w.plan;
   is_due = first_read first second tree one e ∙ w.is_due;
@@ -37,5 +38,5 @@ unequal_due (BadExport file line kind) a b due e u = elim u [ ]
 unequal_due (BadScript fault) a b due e u = elim u [ ]
 unequal_due (OutOfProfile what) a b due e u = elim u [ ]
 unequal_due (TooLarge what most) a b due e u = elim u [ ]
-unequal_due (Differs key) a b due e u = inr (record { a = a; b = b; is_due = e; least = u })
+unequal_due (Differs key) a b due e u = inr (inl (record { a = a; b = b; is_due = e; least = u }))
 unequal_due Memory a b due e u = inl tt

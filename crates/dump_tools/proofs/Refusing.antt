@@ -40,13 +40,13 @@ use Rattle.schema_folders.specs.Texts.{within, file_of}
 use Rattle.cat_names.specs.Naming.{boot as boot_role}
 use Rattle.cat_load.specs.declared.meeting.LoadFault.{LoadFault}
 use Rattle.cat_load.specs.Loads.{rows_fault}
-use Rattle.openings.specs.Openings.{meet, opened}
+use Rattle.openings.specs.Openings.{meet, opened, opened_folder}
 use Rattle.cat_rows.specs.Catalogues.{rows_in}
 use Rattle.schema_folders.specs.Folder.{is_bare, schemas_of, opening_in, opening_of, or_unbuilt}
 use Rattle.tool_words.specs.Outcomes.{fault_outcome}
 use Rattle.exports.specs.Cells.{catalogue_with}
 use Rattle.exports.specs.Exports.{Exported, told, well_formed, have_rows, export_with, export_of}
-use Rattle.dump_tools.specs.Due.{script_limit, input_of, source_of, text_due, psql_due, database, dump_row, counted, dump_due, second_due, compare_due, asked_due, due}
+use Rattle.dump_tools.specs.Due.{script_limit, input_of, source_of, scripted, script_read, schemas_for, runs_as, plan_with, plan_for, text_due, psql_due, database, dump_row, counted, dump_due, second_due, compare_due, asked_due, due}
 
 same : (A B : Type 0) (o : Outcome) → ◌≡◌ {A = Result B Outcome} (Err o) (Err Done) → ◌≡◌ {A = Result A Outcome} (Err o) (Err Done)
 same A B o e = ap Err (inner B o e)
@@ -131,6 +131,10 @@ meet_never (Some fault) e = cc
 opened_never : (export : Exported) → opened export ≡ Err Done → ⊥
 opened_never export e = bind_never (meet (rows_fault export.cat export.rows)) _ (meet_never (rows_fault export.cat export.rows)) (λ done h. ok_never _ h) e
 
+folder_never : (folder : Bytes) (tree : Tree) → opened_folder folder tree ≡ Err Done → ⊥
+unfolding opened_folder
+folder_never folder tree e = bind_never (export_of folder tree) opened (export_never folder tree) opened_never e
+
 runs_never : (folder : Bytes) (statements : List Located) (export : Exported) (boot : Option Bytes) → runs_as folder statements export boot ≡ Err Done → ⊥
 runs_never folder statements export None e = cc
 runs_never folder statements export (Some role) e = cc
@@ -178,12 +182,12 @@ dump_never folder moment tree e =
 
 second_never : (one : Exported) (second : Bytes) (tree : Tree) → second_due one second tree ≡ Err Done → ⊥
 unfolding second_due
-second_never one second tree e = bind_never (export_of second tree) _ (export_never second tree) (λ other h. ok_never _ h) e
+second_never one second tree e = bind_never (opened_folder second tree) _ (folder_never second tree) (λ other h. ok_never _ h) e
 
 compare_never : (first second : Bytes) (tree : Tree) → compare_due first second tree ≡ Err Done → ⊥
 unfolding compare_due
 compare_never first second tree e =
-    bind_never (export_of first tree) (λ one. second_due one second tree) (export_never first tree) (λ one h. second_never one second tree h) e
+    bind_never (opened_folder first tree) (λ one. second_due one second tree) (folder_never first tree) (λ one h. second_never one second tree h) e
 
 asked_never : (asked : Asked) (moment : Moment) (tree : Tree) (input : Bytes) → asked_due asked moment tree input ≡ Err Done → ⊥
 asked_never (Psql folder script) moment tree input e = psql_never folder script tree input e

@@ -11,9 +11,9 @@ use Rattle.tool_words.specs.Words.{teller_of}
 use Rattle.tool_words.specs.Answers.{IsRefusal, IsTold}
 use Rattle.tool_words.specs.Lines.{Appends, AppendsPart}
 use Rattle.tool_words.specs.Messages.{outcome_line}
-use Rattle.dump_tools.specs.Due.{Plan, IsAnswerDue, IsDifference, Counts, NoneRose, Counted, due}
+use Rattle.dump_tools.specs.Due.{Plan, IsAnswerDue, IsDifference, IsToRun, IsUnmade, Counts, NoneRose, Counted, due}
 use Rattle.dump_tools.specs.Outputs.{World, world, Tells}
-use Rattle.dump_tools.specs.Runs.{told_run, MayCome, HasCut, IsEarly, HasEndedEarly, read_by, Ended, Answered}
+use Rattle.dump_tools.specs.Runs.{told_run, IsUnmadeAnswer, MayCome, HasCut, IsEarly, HasEndedEarly, read_by, Ended, Answered}
 use Rattle.dump_tools.proofs.Taking.{Begun, alone, behind_ended, behind_cut}
 use Rattle.dump_tools.proofs.Putting.{told_part, told_whole}
 use Rattle.dump_tools.proofs.Counting.{none_early}

@@ -16,7 +16,7 @@ use Rattle.cat_names.specs.Naming.{boot as boot_role}
 use Rattle.cat_model.specs.declared.words.What.TheVariants.{Unbuilt}
 use Rattle.ddl_read.specs.declared.fault.DdlFault.{DdlFault}
 use Rattle.ddl_read.specs.Reading.{statements_of}
-use Rattle.openings.specs.Openings.{opened, export_named}
+use Rattle.openings.specs.Openings.{opened, opened_folder, export_named}
 use Rattle.saved_folders.specs.Folders.{Texts, folder_saved as folder_stored}
 use Rattle.saved_folders.specs.Exports.{ReadsAs}
 use Rattle.cat_same.specs.Verdicts.{IsLeastDifference}
@@ -153,13 +153,13 @@ dump_due folder moment tree = do
 -- once the first is read: the second folder
 unfoldable pub second_due : Exported → Bytes → Tree → Result Plan Outcome
 second_due one second tree = do
-  other ← export_of second tree
+  other ← opened_folder second tree
   Ok (Compares (export_named one) (export_named other))
 
--- pg_catcmp: the two folders are read, whole
+-- pg_catcmp: the two folders are taken in, whole
 unfoldable pub compare_due : Bytes → Bytes → Tree → Result Plan Outcome
 compare_due first second tree = do
-  one ← export_of first tree
+  one ← opened_folder first tree
   second_due one second tree
 
 abbrev pub asked_due : Asked → Moment → Tree → Bytes → Result Plan Outcome

@@ -10,7 +10,8 @@ ghost use Rattle.tool_words.specs.Lines.{Appends, AppendsPart};
 ghost use Rattle.tool_words.specs.Words.{is_input, reads_input};
 ghost use Rattle.tool_words.specs.Messages.{outcome_line};
 ghost use Rattle.schema_folders.specs.Statements.{are_taken};
-ghost use Rattle.dump_tools.specs.Due.{Prints, plan_of, text_due, psql_due, dump_due, export_named, second_due, compare_due, IsUnequal, due, IsAnswerDue, IsCarriedOut, WasDue, counts, NoneRose, Counted, CountsStep, CountsWrites};
+ghost use Rattle.openings.specs.Openings.{export_named};
+ghost use Rattle.dump_tools.specs.Due.{Prints, dump_due, second_due, compare_due, IsUnequal, due, IsAnswerDue, WasDue, counts, NoneRose, Counted, CountsStep};
 ghost use Rattle.dump_tools.specs.Inputs.{where_read, TellsLeft};
 ghost use Rattle.dump_tools.specs.Outputs.{world};
 ghost use Rattle.dump_tools.specs.Runs.{read_by, StepTakes, HasCut, Ended, Answered};
@@ -18,10 +19,10 @@ ghost use Rattle.dump_tools.specs.Runs.{read_by, StepTakes, HasCut, Ended, Answe
 use crate::dumping::dump_text;
 use crate::psql::psql;
 use cat_model::Key;
-use cat_same::{Verdict, same};
+use cat_same::{Verdict, compare_maps};
 use copy_text::Text;
 use dump_ports::{Failed, Files, Gate, Moment, Sink, Source};
-use exports::{Export, read_export};
+use openings::{Opening, read_opening};
 use schema_folders::read_folder;
 use std::alloc::{AllocError, Global};
 use tool_words::{Asked, Difference, Outcome, Teller, read_asked, tell, teller_of, write_bytes};
@@ -91,7 +92,7 @@ fn pg_catcmp<F: Files>(
     ensures read_count { CountsRead result (F.read_faults files.old) (F.read_faults files.new) }
     ensures write_count { F.write_faults files.new ≡ F.write_faults files.old }
 {
-    let one = read_export(alloc, files, first)?;
+    let one = read_opening(alloc, files, first)?;
     compare_second(alloc, files, &one, second)
 }
 
@@ -100,7 +101,7 @@ fn pg_catcmp<F: Files>(
 fn compare_second<F: Files>(
     alloc: Global,
     files: &mut F,
-    one: &Export,
+    one: &Opening,
     second: &Text,
 ) -> Result<(), Outcome>
     ensures done { OnOk result ((tree : Tree) (printed told : Option (List ℕ)) → F.tree files.old ≡ Some tree → WasDue (second_due one.now second.now tree) (F.tree files.old) (F.tree files.new) printed printed told told) }
@@ -109,17 +110,17 @@ fn compare_second<F: Files>(
     ensures read_count { CountsRead result (F.read_faults files.old) (F.read_faults files.new) }
     ensures write_count { F.write_faults files.new ≡ F.write_faults files.old }
 {
-    let other = read_export(alloc, files, second)?;
+    let other = read_opening(alloc, files, second)?;
     compare_both(alloc, one, &other)
 }
 
-/// Compares two exports, and tells the least key at which they differ.
-fn compare_both(alloc: Global, one: &Export, other: &Export) -> Result<(), Outcome>
+/// Compares two openings, and tells the least key at which they differ.
+fn compare_both(alloc: Global, one: &Opening, other: &Opening) -> Result<(), Outcome>
     ensures done { OnOk result (export_named one.now ≡ export_named other.now) }
     ensures unequal { IfErr result (λ outcome. IsUnequal outcome (export_named one.now) (export_named other.now)) }
     ensures count { (n : ℕ) → CountsRead result n n }
 {
-    let verdict = compare(alloc, one, other)?;
+    let verdict = compare(one, other)?;
     told_verdict(alloc, verdict)
 }
 
@@ -146,17 +147,11 @@ fn differs_at(alloc: Global, key: Key) -> Outcome
     }
 }
 
-/// Compares what two exports stand for by names.
-fn compare(alloc: Global, one: &Export, other: &Export) -> Result<Verdict, AllocError>
+/// Compares what two openings stand for by names.
+fn compare(one: &Opening, other: &Opening) -> Result<Verdict, AllocError>
     ensures { IfOk result (λ verdict. IsVerdict (export_named one.now) (export_named other.now) verdict) }
 {
-    same(
-        alloc,
-        one.catalogue(),
-        one.rows(),
-        other.catalogue(),
-        other.rows(),
-    )
+    compare_maps(one.named(), other.named())
 }
 
 /// Does what the words ask for.

@@ -8,6 +8,7 @@ ghost use Rattle.script_runs.specs.Writing.{IsUnwritten, StandFor};
 
 use crate::texts::named_texts;
 use cat_engine::Engine;
+use cat_rows::Catalogue;
 use copy_text::Name;
 use ddl_read::Located;
 use eng_steps::ApplyError;
@@ -73,6 +74,22 @@ fn reported(
     Ok(report)
 }
 
+// The same with the texts of what they leave.
+fn run_on(
+    alloc: Global,
+    engine: &mut Engine,
+    opening: &Catalogue,
+    statements: &[Located],
+) -> Result<ScriptRun, Outcome>
+    ensures stands { IfOk result (λ run. StandFor (catalogue_after engine.old.boot statements.now engine.old.named) run.texts) }
+    ensures reported { IfOk result (λ run. run.report.items ≡ report (refusals engine.old.boot statements.now engine.old.named)) }
+    ensures unwritten { IfErr result IsUnwritten }
+{
+    let report = reported(alloc, engine, statements)?;
+    let texts = named_texts(alloc, engine.named(), opening)?;
+    Ok(ScriptRun { texts, report })
+}
+
 /// Runs the statements of a script on an opening, in order: a statement that is refused changes nothing, and the next one
 /// is tried. What they leave becomes the texts of a folder. `boot` owns what is created.
 ///
@@ -92,7 +109,5 @@ pub fn run_opening(
 {
     let (export, named) = opening.into_parts();
     let mut engine = Engine::new(alloc, named, boot);
-    let report = reported(alloc, &mut engine, statements)?;
-    let texts = named_texts(alloc, engine.named(), export.catalogue().rows())?;
-    Ok(ScriptRun { texts, report })
+    run_on(alloc, &mut engine, export.catalogue().rows(), statements)
 }

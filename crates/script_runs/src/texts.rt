@@ -5,7 +5,7 @@ ghost use Rattle.openings.specs.Openings.{export_named};
 ghost use Rattle.saved_folders.specs.Exports.{ReadsAs};
 ghost use Rattle.script_runs.specs.Writing.{IsUnwritten, StandFor};
 
-use cat_export::{Exported, export_named};
+use cat_export::export_named;
 use cat_model::What;
 use cat_names::DataSet;
 use cat_rows::Catalogue;
@@ -38,6 +38,7 @@ fn texts_of(alloc: Global, cat: &Catalogue, rows: &DataSet) -> Result<ExportText
 }
 
 // Whether the export of the texts stands for the catalogue.
+#[tactic(auto, unfolding(openings::specs::Openings::export_named))]
 fn stands(alloc: Global, texts: &ExportTexts, named: &NamedMap) -> Result<bool, AllocError>
     ensures { IfOk result (λ same. IsTrue same → export_named texts.now.export ≡ named.now) }
 {
@@ -57,19 +58,37 @@ fn check_standing(alloc: Global, texts: &ExportTexts, named: &NamedMap) -> Resul
     }
 }
 
-// The texts of an export, where it stands for the catalogue.
+// The texts, where their export stands for the catalogue.
+fn standing_texts(
+    alloc: Global,
+    texts: ExportTexts,
+    named: &NamedMap,
+) -> Result<ExportTexts, Outcome>
+    requires { ReadsAs texts.texts texts.export }
+    ensures stand { IfOk result (StandFor named.now) }
+    ensures unwritten { IfErr result IsUnwritten }
+{
+    match check_standing(alloc, &texts, named) {
+        Ok(()) => Ok(texts),
+        Err(outcome) => {
+            drop(texts);
+            Err(outcome)
+        }
+    }
+}
+
+// The texts of a catalogue and the rows of its tables, where their export stands for the catalogue by names.
 fn checked_texts(
     alloc: Global,
-    export: Exported,
+    cat: &Catalogue,
+    rows: &DataSet,
     named: &NamedMap,
 ) -> Result<ExportTexts, Outcome>
     ensures stand { IfOk result (StandFor named.now) }
     ensures unwritten { IfErr result IsUnwritten }
 {
-    let Exported { catalogue, rows } = export;
-    let texts = texts_of(alloc, &catalogue, &rows)?;
-    check_standing(alloc, &texts, named)?;
-    Ok(texts)
+    let texts = texts_of(alloc, cat, rows)?;
+    standing_texts(alloc, texts, named)
 }
 
 /// The texts of a folder that is read as an export which stands for a catalogue by names, where the catalogue began as
@@ -88,5 +107,5 @@ pub(crate) fn named_texts(
     ensures unwritten { IfErr result IsUnwritten }
 {
     let export = export_named(alloc, named, opening)?;
-    checked_texts(alloc, export, named)
+    checked_texts(alloc, &export.catalogue, &export.rows, named)
 }

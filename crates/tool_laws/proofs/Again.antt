@@ -18,7 +18,9 @@ use Rattle.tool_words.specs.declared.outcome.Outcome.{Outcome}
 use Rattle.tool_words.specs.declared.outcome.Outcome.TheVariants.{Done}
 use Rattle.tool_words.specs.declared.words.Teller.{Teller}
 use Rattle.tool_words.specs.Answers.{◌>>=◌}
-use Rattle.dump_tools.specs.Due.{Plan, Application, Comes, export_named, compare_due}
+use Rattle.openings.specs.Openings.{opened_folder, export_named}
+use Rattle.dump_tools.specs.Due.{Plan, Application, Comes, compare_due}
+use Rattle.tool_laws.proofs.Planning.{taken_in}
 use Rattle.dump_tools.specs.Runs.{Run, run_of, IsCompared, MayCome}
 use Rattle.dump_tools.proofs.Comparing.{first_read, second_read}
 use Rattle.tool_laws.specs.Opening.{AreSchemas}
@@ -55,7 +57,7 @@ comes_public plan text comes public =
 -- what a folder of schemas stands for
 pub record Meant (folder : Bytes) (tree : Tree) (rows : List SchemaRow) : Type 0 where
   pub export : Exported
-  pub read : export_of folder tree ≡ Ok export
+  pub read : opened_folder folder tree ≡ Ok export
   pub means : export_named export ≡ named rows
 
 pub meant : (folder : Bytes) (tree : Tree) (rows : List SchemaRow) → opening_of folder tree ≡ Ok rows → Meant folder tree rows
@@ -64,7 +66,7 @@ meant folder tree rows e =
     let export = bind_ok (export_of folder tree) (λ export. opening_in export.cat) rows e in
     record {
       export = export.0;
-      read = export.1;
+      read = taken_in folder tree export.0 rows export.1 (opening_is export.0.cat rows export.2);
       means = ap (λ (cat : Catalogue). catalogue_named cat (rows_by_oid export.0.rows)) (opening_is export.0.cat rows export.2) ∙ same_names rows (rows_by_oid export.0.rows);
     }
 

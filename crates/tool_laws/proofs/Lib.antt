@@ -1,6 +1,7 @@
 pub mod Remade
 pub mod RoundTrips
 pub mod Opened
+pub mod Planning
 pub mod Formed
 pub mod Whole
 pub mod Written

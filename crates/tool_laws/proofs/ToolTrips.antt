@@ -12,7 +12,7 @@ use Rattle.tool_words.specs.declared.words.ScriptSource.{ScriptSource}
 use Rattle.tool_words.specs.Words.{is_input}
 use Rattle.tool_words.specs.declared.outcome.Outcome.{Outcome}
 use Rattle.tool_words.specs.Answers.{◌>>=◌}
-use Rattle.dump_tools.specs.Due.{Plan, Application, Applies, Prints, source_of, counted, script_due, dump_due, text_due, psql_due, database, dump_row, report_of}
+use Rattle.dump_tools.specs.Due.{Plan, Application, Applies, Prints, source_of, counted, script_due, dump_due, psql_due, database, dump_row, report_of}
 use Rattle.dump_tools.specs.Inputs.{where_read, HasTaken}
 use Rattle.dump_tools.specs.Outputs.{World, world, Output, all_performed}
 use Rattle.dump_tools.specs.Runs.{Run, run_of, IsApplied, MayCome, Begins, MayRun}
@@ -24,9 +24,9 @@ use Rattle.tool_words.specs.Messages.{report}
 use Rattle.schema_folders.specs.Naming.{boot, named}
 use Rattle.tool_laws.specs.RoundTrip.{CanBeMade, Remakes, public_alone, GoesBack, MakesSame, Restores}
 use Rattle.schema_folders.specs.Run.{catalogue_after, refusals}
-use Rattle.schema_folders.specs.Statements.{script_of}
 use Rattle.tool_laws.specs.Opening.{WereRead}
 use Rattle.tool_laws.proofs.Written.{OpenLaw}
+use Rattle.tool_laws.proofs.Planning.{planned}
 
 -- the script of schemas makes them
 abbrev pub ScriptLaw : Type 0
@@ -46,10 +46,6 @@ remakes : ScriptLaw → (source : Bytes) (moment : Moment) (first : Tree) (rows 
 remakes law source moment first rows target script second input read back =
     subst (λ (text : Bytes). Remakes text rows) (dumped source moment first rows back.text back.opened back.dumped)
     (law moment rows (record { names = read.named; distinct = read.schemas.names; users = read.schemas.users }))
-
-planned : (target : Bytes) (script : ScriptSource) (second : Tree) (input : Bytes) (text : Bytes) (statements : List Located) (rows : List SchemaRow) → source_of script second input ≡ Ok text → script_of text ≡ Ok statements → opening_of target second ≡ Ok rows → psql_due target script second input ≡ Ok (Applies (record { folder = target; statements = statements; rows = rows }))
-unfolding psql_due text_due
-planned target script second input text statements rows passed reads opened = rw (passed, reads, opened) refl
 
 pub makes_same : ScriptLaw → OpenLaw → (source : Bytes) (moment : Moment) (first : Tree) (rows : List SchemaRow) (target : Bytes) (script : ScriptSource) (second : Tree) (input : Bytes) → GoesBack source moment first rows target script second input → MakesSame (psql_due target script second input) rows
 makes_same law opened source moment first rows target script second input back =

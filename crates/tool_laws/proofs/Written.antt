@@ -15,12 +15,14 @@ use Rattle.cat_model.specs.References.{is_system}
 use Rattle.cat_model.specs.Values.{Bytes}
 use Rattle.cat_names.specs.Lookups.{is_no_oid}
 use Rattle.schema_folders.specs.declared.schemas.SchemaRow.{SchemaRow}
-use Rattle.schema_folders.specs.Folder.{opening_of, cells_of_row}
+use Rattle.schema_folders.specs.Folder.{opening_in, opening_of, cells_of_row}
 use Rattle.schema_folders.specs.Run.{IsUsers}
-use Rattle.schema_folders.specs.Statements.{script_of}
+use Rattle.exports.specs.Exports.{Exported, export_of}
+use Rattle.tool_words.specs.Answers.{◌>>=◌}
 use Rattle.tool_words.specs.declared.words.ScriptSource.{ScriptSource}
 use Rattle.tool_words.specs.declared.outcome.Outcome.{Outcome}
-use Rattle.dump_tools.specs.Due.{Plan, Application, Applies, Comes, source_of, text_due, psql_due}
+use Rattle.dump_tools.specs.Due.{Plan, Application, Applies, Comes, source_of, script_read, plan_for, text_due, psql_due}
+use Rattle.tool_laws.proofs.Planning.{planned_rows}
 use Rattle.tool_laws.specs.Opening.{AreSchemas, WereRead}
 use Rattle.tool_laws.proofs.Opened.{bind_ok}
 
@@ -72,12 +74,9 @@ OpenLaw = (folder : Bytes) (tree : Tree) (rows : List SchemaRow) → opening_of 
 
 -- the rows of a plan of psql were read
 pub plan_read : OpenLaw → (folder : Bytes) (script : ScriptSource) (tree : Tree) (input : Bytes) (plan : Application) → psql_due folder script tree input ≡ Ok (Applies plan) → WereRead plan.rows
-unfolding psql_due text_due
+unfolding psql_due text_due opening_of
 plan_read opened folder script tree input plan e =
     let text = bind_ok (source_of script tree input) _ (Applies plan) e in
-    let statements = bind_ok (script_of text.0) _ (Applies plan) text.2 in
-    let rows = bind_ok (opening_of folder tree) (λ rows. Ok (Applies (record { folder = folder; statements = statements.0; rows = rows }))) (Applies plan) statements.2 in
-    subst WereRead (inner (record { folder = folder; statements = statements.0; rows = rows.0 }) rows.2) (opened folder tree rows.0 rows.1)
-  where
-    inner : (p : Application) → ◌≡◌ {A = Result Plan Outcome} (Ok (Applies p)) (Ok (Applies plan)) → p.rows ≡ plan.rows
-    inner p e = let same : p ≡ plan = cc in ap (λ (q : Application). q.rows) same
+    let statements = bind_ok (script_read text.0) _ (Applies plan) text.2 in
+    let export = bind_ok (export_of folder tree) (λ export. plan_for folder statements.0 export) (Applies plan) statements.2 in
+    opened folder tree plan.rows (ap (λ (r : Result Exported Outcome). r >>= λ export. opening_in export.cat) export.1 ∙ planned_rows folder statements.0 export.0 plan export.2)

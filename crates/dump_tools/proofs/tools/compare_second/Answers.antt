@@ -1,6 +1,7 @@
+use Rattle.openings.specs.Openings.{export_named}
 use Rattle.std.proofs.Common.{refl}
 use Rattle.std.proofs.lemmas.Result.{IfOk-weaker, IfErr-weaker}
-use Rattle.dump_tools.specs.Due.{Compares, export_named}
+use Rattle.dump_tools.specs.Due.{Compares}
 use Rattle.dump_tools.proofs.Comparing.{second_read, unequal_due}
 use Rattle.dump_tools.proofs.tools.compare_second.Goals as goal
 
