@@ -230,14 +230,14 @@ each_same f g e (x ∷ xs) =
     ∙ ap (λ r. g x >>= λ y. r >>= λ ys. Ok (y ∷ ys)) (each_same f g e xs)
 
 -- what the step for the first gave, and those for the others
-record Both {A B : Type 0} (step : A → Result B FolderFault) (x : A) (xs : List A) (ys : List B) : Type 0 where
+pub record Both {A B : Type 0} (step : A → Result B FolderFault) (x : A) (xs : List A) (ys : List B) : Type 0 where
   pub first : B
   pub more : List B
   pub gave : step x ≡ Ok first
   pub went_on : each_of step xs ≡ Ok more
   pub are : first ∷ more ≡ ys
 
-first_step : {A B : Type 0} (step : A → Result B FolderFault) (x : A) (xs : List A) (ys : List B) → each_of step (x ∷ xs) ≡ Ok ys → Both step x xs ys
+pub first_step : {A B : Type 0} (step : A → Result B FolderFault) (x : A) (xs : List A) (ys : List B) → each_of step (x ∷ xs) ≡ Ok ys → Both step x xs ys
 unfolding each_of
 first_step step x xs ys is =
     let one = bind_ok (step x) (λ y. each_of step xs >>= λ l. Ok (y ∷ l)) ys is in
@@ -271,7 +271,7 @@ abbrev pub rows_written : (cat : Catalogue) → ((table : SysTable) → TableFou
 rows_written cat found = map (λ table. (found table).is.rows) all_tables
 
 module _ (folder : Bytes) (tree : Tree) (cat : Catalogue) (rows : TextsByOid) (found : (table : SysTable) → TableFound cat table) (holds : HoldsTexts folder tree cat rows (λ table. (found table).text)) where
-  table_reads : (table : SysTable) (t : TextOfTable) → text_of folder tree table ≡ Ok t → rows_of t ≡ Ok (found table).is.rows
+  pub table_reads : (table : SysTable) (t : TextOfTable) → text_of folder tree table ≡ Ok t → rows_of t ≡ Ok (found table).is.rows
   unfolding text_of file_text
   table_reads table t is =
       let read = bind_ok (file_text TableFile folder tree (Table table)) (λ bytes. Ok (record { table = table; text = bytes })) t is in

@@ -99,7 +99,7 @@ get_kept : (cat : Catalogue) (rows : TextsByOid) (q : ℕ) → get (rows_kept ca
 get_kept cat rows q = get-from_entries nat_cmp_total (map (entry rows) (table_oids cat)) q ∙ find_entry rows (table_oids cat) q
 
 -- the texts kept are those put
-text_kept : (cat : Catalogue) (rows : TextsByOid) (oid : ℕ) → has_oid (table_oids cat) oid ≡ true → text_of (rows_kept cat rows) oid ≡ text_of rows oid
+pub text_kept : (cat : Catalogue) (rows : TextsByOid) (oid : ℕ) → has_oid (table_oids cat) oid ≡ true → text_of (rows_kept cat rows) oid ≡ text_of rows oid
 text_kept cat rows oid has =
     ap (λ (o : Option Bytes). unwrap_or o []) (get_kept cat rows oid ∙ ap (λ (b : Bool). cond {A = Option Bytes} b (Some (text_of rows oid)) None) has)
 
@@ -142,6 +142,26 @@ tables_behind folder tree export is = by (catalogue_of folder tree) refl is
 abbrev pub AreHeld : Type 0
 AreHeld = (folder : Bytes) (used : ℕ) (cat : Catalogue) (tree : Tree) (rows : TextsByOid) → data_of folder used cat tree ≡ Ok rows → HoldsRows folder used cat tree rows
 
+-- the rows of the data files are those that were put
+pub rows_are : AreHeld → (cat : Catalogue) (rows : TextsByOid) (text : SysTable → Bytes) (folder : Bytes) (tree : Tree) → HoldsTexts folder tree cat rows text
+    → (used : ℕ) (read : Catalogue) → table_oids read ≡ table_oids cat → (its : TextsByOid) → data_of folder used read tree ≡ Ok its → its ≡ rows_kept cat rows
+rows_are held cat rows text folder tree holds used read oids its is =
+    same_map nat_cmp_total nat_cmp-IsAntisymmetric its (rows_kept cat rows) (λ q.
+    (held folder used read tree its is).texts q
+    ∙ ap (λ (l : List ℕ). cond {A = Option Bytes} (has_oid l q) (Some (bytes_at tree (file_of folder (Data q)))) None) oids
+    ∙ by q (has_oid (table_oids cat) q) refl
+    ∙ sym (get_kept cat rows q))
+  where
+    by : (q : ℕ) (b : Bool) → has_oid (table_oids cat) q ≡ b
+        → cond {A = Option Bytes} (has_oid (table_oids cat) q) (Some (bytes_at tree (file_of folder (Data q)))) None ≡ cond {A = Option Bytes} (has_oid (table_oids cat) q) (Some (text_of rows q)) None
+    by q true has =
+        ap (λ (b : Bool). cond {A = Option Bytes} b (Some (bytes_at tree (file_of folder (Data q)))) None) has
+        ∙ ap (λ (o : Option Bytes). Some (unwrap_or o [])) (holds.put q has)
+        ∙ ap (λ (b : Bool). cond {A = Option Bytes} b (Some (text_of rows q)) None) (sym has)
+    by q false has =
+        ap (λ (b : Bool). cond {A = Option Bytes} b (Some (bytes_at tree (file_of folder (Data q)))) None) has
+        ∙ ap (λ (b : Bool). cond {A = Option Bytes} b (Some (text_of rows q)) None) (sym has)
+
 pub reordered : OneOrder → CanBeWritten → AreHeld → (cat : Catalogue) (rows : TextsByOid) (texts : Texts) (folder : Bytes) (tree : Tree) (export : Exported) → AreTexts cat rows texts
     → export_of folder (folder_saved folder texts tree) ≡ Ok export → IsReordered cat rows export
 reordered one can held cat rows texts folder tree export are is =
@@ -150,25 +170,9 @@ reordered one can held cat rows texts folder tree export are is =
     let holds = saved_holds one can cat rows texts are folder tree in
     let behind = tables_behind folder after export is in
     let tables : behind.0 ≡ rows_written cat found = tables_read folder after cat rows found holds behind.0 behind.1 in
-    let read : Catalogue = catalogue_with behind.0 in
     let same : export.cat ≡ catalogue_with (rows_written cat found) = its_catalogue folder (bytes_of folder after) (catalogue_with behind.0) after export behind.2 ∙ ap catalogue_with tables in
     let oids : table_oids (catalogue_with behind.0) ≡ table_oids cat = ap (λ l. table_oids (catalogue_with l)) tables ∙ oids_stay cat found in
-    let its_rows = held folder (bytes_of folder after) (catalogue_with behind.0) after export.rows (whole folder (bytes_of folder after) (catalogue_with behind.0) after export behind.2).1 in
     record {
       order = λ table. subst (IsInOrder table (rows_in table cat)) (sym (ap (rows_in table) same ∙ rows_read cat found table)) (found table).is.written.order;
-      texts = same_map nat_cmp_total nat_cmp-IsAntisymmetric export.rows (rows_kept cat rows) (λ q.
-          its_rows.texts q
-          ∙ ap (λ (l : List ℕ). cond {A = Option Bytes} (has_oid l q) (Some (bytes_at after (file_of folder (Data q)))) None) oids
-          ∙ by folder after holds q (has_oid (table_oids cat) q) refl
-          ∙ sym (get_kept cat rows q));
+      texts = rows_are held cat rows (λ table. (found table).text) folder after holds (bytes_of folder after) (catalogue_with behind.0) oids export.rows (whole folder (bytes_of folder after) (catalogue_with behind.0) after export behind.2).1;
     }
-  where
-    by : (folder : Bytes) (after : Tree) → HoldsTexts folder after cat rows (λ table. (found_text cat rows texts are table).text) → (q : ℕ) (b : Bool) → has_oid (table_oids cat) q ≡ b
-        → cond {A = Option Bytes} (has_oid (table_oids cat) q) (Some (bytes_at after (file_of folder (Data q)))) None ≡ cond {A = Option Bytes} (has_oid (table_oids cat) q) (Some (text_of rows q)) None
-    by folder after holds q true has =
-        ap (λ (b : Bool). cond {A = Option Bytes} b (Some (bytes_at after (file_of folder (Data q)))) None) has
-        ∙ ap (λ (o : Option Bytes). Some (unwrap_or o [])) (holds.put q has)
-        ∙ ap (λ (b : Bool). cond {A = Option Bytes} b (Some (text_of rows q)) None) (sym has)
-    by folder after holds q false has =
-        ap (λ (b : Bool). cond {A = Option Bytes} b (Some (bytes_at after (file_of folder (Data q)))) None) has
-        ∙ ap (λ (b : Bool). cond {A = Option Bytes} b (Some (text_of rows q)) None) (sym has)

@@ -5,4 +5,6 @@ pub mod Oids
 pub mod Holding
 pub mod Alike
 pub mod Kept
+pub mod Limits
+pub mod InOrder
 pub mod Made

@@ -1,5 +1,5 @@
 -- What a folder that was written is read as.
-use Rattle.std.specs.Prelude.{◌≡◌, map, Ok}
+use Rattle.std.specs.Prelude.{◌≡◌, map, Result, Ok, Err}
 use Rattle.std.specs.FinMap.{from_entries}
 use Rattle.dump_ports.specs.Tree.{Tree}
 use Rattle.cat_rows.specs.declared.table.SysTable.{SysTable}
@@ -12,7 +12,7 @@ use Rattle.table_rows.specs.Tables.{table_oids}
 use Rattle.table_rows.specs.Values.{text_of}
 use Rattle.exports.specs.Exports.{Exported, export_of}
 use Rattle.tool_words.specs.declared.outcome.Outcome.{Outcome}
-use Rattle.tool_words.specs.declared.outcome.Outcome.TheVariants.{ReadFault, WriteFault}
+use Rattle.tool_words.specs.declared.outcome.Outcome.TheVariants.{ReadFault, WriteFault, TooLarge}
 use Rattle.saved_folders.specs.Folders.{Texts, folder_saved}
 
 -- an export, and the texts of its folder
@@ -38,3 +38,15 @@ abbrev pub IsCallFree : Outcome → Type 0
 IsCallFree ReadFault = ⊥
 IsCallFree WriteFault = ⊥
 IsCallFree outcome = Unit {0}
+
+-- ---- catalogues in order
+
+-- the rows of each table stand in its order
+abbrev pub StandsInOrder : Catalogue → Type 0
+StandsInOrder cat = (table : SysTable) → IsInOrder table (rows_in table cat) (rows_in table cat)
+
+-- this export is read, or the refusal is that of a limit
+abbrev pub IsReadWithinLimits : Exported → Result Exported Outcome → Type 0
+IsReadWithinLimits export (Ok read) = read ≡ export
+IsReadWithinLimits export (Err (TooLarge limit n)) = Unit {0}
+IsReadWithinLimits export (Err outcome) = ⊥
