@@ -11,6 +11,7 @@ use std::alloc::AllocError;
 const BOOT_ROLE: u32 = 10;
 
 // The name of the first role of an oid.
+#[tactic(auto, unfolding(cat_names::specs::Lookups::role_name))]
 fn role_name(roles: &[AuthidRow], oid: u32) -> Result<Option<Name>, AllocError>
     ensures { IfOk result (λ name. name ≡ role_name roles.now oid) }
 {

@@ -1,5 +1,8 @@
 //! A script run on an opening.
-ghost use Rattle.std.specs.Prelude.{◌≡◌, ◌++◌, [], Some, IfErr, IfOk, OnOk};
+ghost use Rattle.std.specs.Prelude.{◌≡◌, ◌++◌, [], Some, Result, IfErr, IfOk, OnOk};
+ghost use Rattle.cat_model.specs.declared.cause.Cause.{Cause as TheCause};
+ghost use Rattle.cat_model.specs.Values.{Named};
+ghost use Rattle.eng_steps.specs.Outcomes.{IsRefusal};
 ghost use Rattle.cat_names.specs.Naming.{boot};
 ghost use Rattle.tool_words.specs.Messages.{report};
 ghost use Rattle.schema_folders.specs.Run.{said, next, noted, catalogue_after, refusals};
@@ -18,6 +21,17 @@ use saved_folders::ExportTexts;
 use std::alloc::{AllocError, Global};
 use tool_words::Outcome;
 
+// Appends the line of a statement that was refused.
+fn tell_refusal(at: usize, error: &ApplyError, out: &mut Vec<u8>) -> Result<(), AllocError>
+    ensures told { OnOk result ((said : Result Named TheCause) → IsRefusal error.now said → out.new.items ≡ out.old.items ++ report (noted at said)) }
+    ensures refused { OnOk result ((said : Result Named TheCause) (named : Named) → IsRefusal error.now said → next named said ≡ named) }
+{
+    match error {
+        ApplyError::Refused(cause) => write_refusal(at, cause, out),
+        ApplyError::Memory => Err(AllocError),
+    }
+}
+
 // Carries a statement out, and appends its line to the report where it is refused.
 fn run_statement(
     engine: &mut Engine,
@@ -30,8 +44,11 @@ fn run_statement(
 {
     match engine.apply(&located.stmt) {
         Ok(()) => Ok(()),
-        Err(ApplyError::Refused(cause)) => write_refusal(located.start, &cause, out),
-        Err(ApplyError::Memory) => Err(AllocError),
+        Err(error) => {
+            let told = tell_refusal(located.start, &error, out);
+            drop(error);
+            told
+        }
     }
 }
 

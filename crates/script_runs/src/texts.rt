@@ -8,20 +8,21 @@ ghost use Rattle.script_runs.specs.Writing.{IsUnwritten, StandFor};
 use cat_export::export_named;
 use cat_model::What;
 use cat_names::DataSet;
-use cat_rows::Catalogue;
 use cat_naming::catalogue_map;
+use cat_rows::Catalogue;
 use eng_map::NamedMap;
 use same_maps::same_maps;
 use saved_folders::{ExportTexts, make_texts};
 use std::alloc::{AllocError, Global};
 use tool_words::Outcome;
 
-// The answer where no texts were made.
-fn unwritten(outcome: Outcome) -> Outcome
+// The answer where making the texts answered this.
+fn unwritten(outcome: &Outcome) -> Outcome
     ensures { IsUnwritten result }
 {
     match outcome {
-        Outcome::TooLarge(..) | Outcome::Memory => outcome,
+        Outcome::TooLarge(limit, most) => Outcome::TooLarge(*limit, *most),
+        Outcome::Memory => Outcome::Memory,
         _ => Outcome::OutOfProfile(What::Unbuilt),
     }
 }
@@ -33,7 +34,11 @@ fn texts_of(alloc: Global, cat: &Catalogue, rows: &DataSet) -> Result<ExportText
 {
     match make_texts(alloc, cat, rows) {
         Ok(texts) => Ok(texts),
-        Err(outcome) => Err(unwritten(outcome)),
+        Err(outcome) => {
+            let answer = unwritten(&outcome);
+            drop(outcome);
+            Err(answer)
+        }
     }
 }
 
