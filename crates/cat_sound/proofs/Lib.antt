@@ -34,3 +34,5 @@ pub mod Tables
 pub mod Statements
 pub mod Opening
 pub mod Refuted
+pub mod Followed
+pub mod Owners

@@ -5,5 +5,6 @@ pub mod Asks
 pub mod Itself
 pub mod Beside
 pub mod Sound
+pub mod Ends
 pub mod Fit
 pub mod Examples

@@ -1,9 +1,11 @@
 //! When a catalogue by names can stand for rows, said in names, and that statements leave it so.
 #![tactic(auto)]
 
+mod consequences;
 mod examples;
 mod laws;
 
+pub use consequences::{ends_are_what_chains_give, indexes_have_one_owner};
 pub use examples::{
     an_empty_cluster_is_sound, what_does_not_fit_its_table_is_not_sound,
     what_is_wrong_as_a_whole_is_not_sound, what_lacks_a_role_or_schema_is_not_sound,
