@@ -50,32 +50,32 @@ pub fn runs_keep()
     ensures { (texts : Texts) (boot : Bytes) (ss : List Stmt) (named : Named) → IsSound texts named → AllByRecursion (IsFit texts) ss → IsMet named (key.Role boot, Asked.there) → IsSound texts (catalogue_after boot ss named) }
 {}
 
-/// CREATE SCHEMA, where the boot role is there.
+/// CREATE SCHEMA leaves a sound catalogue sound, where the boot role is there.
 pub fn create_schema_keeps()
     ensures { (texts : Texts) (named : Named) (boot name : Bytes) → IsSound texts named → IsMet named (key.Role boot, Asked.there) → IsSound texts (next (create_schema boot name) named) }
 {}
 
-/// CREATE TYPE .. AS ENUM, where the boot role is there.
+/// CREATE TYPE .. AS ENUM leaves it so, where the boot role is there.
 pub fn create_enum_keeps()
     ensures { (texts : Texts) (named : Named) (boot : Bytes) (q : QName) (labels : List Bytes) → IsSound texts named → IsMet named (key.Role boot, Asked.there) → IsSound texts (next (create_enum boot q labels) named) }
 {}
 
-/// CREATE DOMAIN of a base, a default and checks whose texts are good.
+/// CREATE DOMAIN, where the boot role is there, and the texts of the base, the default and the checks are good.
 pub fn create_domain_keeps()
     ensures { (texts : Texts) (named : Named) (boot : Bytes) (q : QName) (base : TypeName) (not_null : Bool) (expression : Option Bytes) (checks : List CheckDef) → IsSound texts named → IsMet named (key.Role boot, Asked.there) → texts.type base ≡ true → IsDefault texts expression → AreFitChecks texts checks → IsSound texts (next (create_domain boot q base not_null expression checks) named) }
 {}
 
-/// ALTER DOMAIN .. ADD CONSTRAINT of a check whose text is good.
+/// ALTER DOMAIN .. ADD CONSTRAINT, where the text of the check is good.
 pub fn add_domain_check_keeps()
     ensures { (texts : Texts) (named : Named) (q : QName) (name text : Bytes) → IsSound texts named → texts.constraint (check_of text) ≡ true → IsSound texts (next (add_domain_check q name text) named) }
 {}
 
-/// CREATE TABLE of columns and checks whose texts are good.
+/// CREATE TABLE, where the boot role is there, and the texts of the columns' types and defaults and of the checks are good.
 pub fn create_table_keeps()
     ensures { (texts : Texts) (named : Named) (boot : Bytes) (q : QName) (columns : List ColumnDef) (checks : List CheckDef) → IsSound texts named → IsMet named (key.Role boot, Asked.there) → AreFitColumns texts columns → AreFitChecks texts checks → IsSound texts (next (create_table boot q columns checks) named) }
 {}
 
-/// ALTER TABLE .. SET DEFAULT of an expression.
+/// ALTER TABLE .. SET DEFAULT, where the text is an expression.
 pub fn set_default_keeps()
     ensures { (texts : Texts) (named : Named) (q : QName) (column text : Bytes) → IsSound texts named → texts.expression text ≡ true → IsSound texts (next (set_default q column text) named) }
 {}
@@ -85,57 +85,57 @@ pub fn create_sequence_keeps()
     ensures { (texts : Texts) (named : Named) (boot : Bytes) (q : QName) (s : Sequence) → IsSound texts named → IsMet named (key.Role boot, Asked.there) → IsSound texts (next (create_sequence boot q s) named) }
 {}
 
-/// ALTER SEQUENCE .. OWNED BY.
+/// ALTER SEQUENCE .. OWNED BY, of any column: one that isn't there is refused.
 pub fn owned_by_keeps()
     ensures { (texts : Texts) (named : Named) (q table : QName) (column : Bytes) → IsSound texts named → IsSound texts (next (owned_by q table column) named) }
 {}
 
-/// SELECT pg_catalog.setval.
+/// SELECT pg_catalog.setval, of any number: one beyond the bounds is refused.
 pub fn set_value_keeps()
     ensures { (texts : Texts) (named : Named) (q : QName) (n : ℤ) (called : Bool) → IsSound texts named → IsSound texts (next (set_value q n called) named) }
 {}
 
-/// CREATE VIEW of a body that is good.
+/// CREATE VIEW, where the boot role is there and the body is good.
 pub fn create_view_keeps()
     ensures { (texts : Texts) (named : Named) (boot : Bytes) (q : QName) (body : Bytes) → IsSound texts named → IsMet named (key.Role boot, Asked.there) → texts.body body ≡ true → IsSound texts (next (create_view boot q body) named) }
 {}
 
-/// CREATE OR REPLACE VIEW of a body that is good.
+/// CREATE OR REPLACE VIEW, where the body is good.
 pub fn replace_view_keeps()
     ensures { (texts : Texts) (named : Named) (q : QName) (body : Bytes) → IsSound texts named → texts.body body ≡ true → IsSound texts (next (replace_view q body) named) }
 {}
 
-/// ADD PRIMARY KEY of a text that is good.
+/// ALTER TABLE .. ADD PRIMARY KEY, where its text is good.
 pub fn add_primary_keeps()
     ensures { (texts : Texts) (named : Named) (q : QName) (name : Bytes) (names : List Bytes) (rest : Bytes) → IsSound texts named → texts.constraint (record { kind = kinds.Primary; columns = names; parent = None; text = rest }) ≡ true → IsSound texts (next (add_primary q name names rest) named) }
 {}
 
-/// ADD UNIQUE of a text that is good.
+/// ALTER TABLE .. ADD UNIQUE, where its text is good.
 pub fn add_unique_keeps()
     ensures { (texts : Texts) (named : Named) (q : QName) (name : Bytes) (names : List Bytes) (rest : Bytes) → IsSound texts named → texts.constraint (record { kind = kinds.Unique; columns = names; parent = None; text = rest }) ≡ true → IsSound texts (next (add_unique q name names rest) named) }
 {}
 
-/// ADD FOREIGN KEY of a text that is good.
+/// ALTER TABLE .. ADD FOREIGN KEY, where its text is good.
 pub fn add_foreign_keeps()
     ensures { (texts : Texts) (named : Named) (q : QName) (name : Bytes) (names : List Bytes) (parent : QName) (parent_names : List Bytes) (rest : Bytes) → IsSound texts named → texts.constraint (record { kind = kinds.Foreign; columns = names; parent = Some (parent, parent_names); text = rest }) ≡ true → IsSound texts (next (add_foreign q name names parent parent_names rest) named) }
 {}
 
-/// ADD CHECK of a text that is good.
+/// ALTER TABLE .. ADD CHECK, where its text is good.
 pub fn add_check_keeps()
     ensures { (texts : Texts) (named : Named) (q : QName) (name text : Bytes) → IsSound texts named → texts.constraint (check_of text) ≡ true → IsSound texts (next (add_check q name text) named) }
 {}
 
-/// CREATE INDEX of a text that is good.
+/// CREATE INDEX, where its text is good.
 pub fn create_index_keeps()
     ensures { (texts : Texts) (named : Named) (q : QName) (name method rest : Bytes) → IsSound texts named → texts.index q name (record { method = method; unique = false; text = rest }) ≡ true → IsSound texts (next (create_index q name method rest) named) }
 {}
 
-/// CREATE UNIQUE INDEX of a text that is good.
+/// CREATE UNIQUE INDEX, where its text is good.
 pub fn create_unique_index_keeps()
     ensures { (texts : Texts) (named : Named) (q : QName) (name method rest : Bytes) → IsSound texts named → texts.index q name (record { method = method; unique = true; text = rest }) ≡ true → IsSound texts (next (create_unique_index q name method rest) named) }
 {}
 
-/// COPY.
+/// COPY, of any text: the rows that it adds have a field for each column.
 pub fn copy_keeps()
     ensures { (texts : Texts) (named : Named) (q : QName) (names : List Bytes) (rows : Bytes) → IsSound texts named → IsSound texts (next (copy_rows q names rows) named) }
 {}
@@ -155,17 +155,17 @@ pub fn comment_keeps()
     ensures { (texts : Texts) (named : Named) (what : Commented) (text : Option Bytes) → IsSound texts named → IsSound texts (next (comment_on what text) named) }
 {}
 
-/// OWNER TO.
+/// OWNER TO, of any object that can have an owner.
 pub fn owner_to_keeps()
     ensures { (texts : Texts) (named : Named) (what : Owned) (role : Bytes) → IsSound texts named → IsSound texts (next (owner_to what role) named) }
 {}
 
-/// CREATE ROLE.
+/// CREATE ROLE; `public` is refused.
 pub fn create_role_keeps()
     ensures { (texts : Texts) (named : Named) (name : Bytes) → IsSound texts named → IsSound texts (next (create_role name) named) }
 {}
 
-/// ALTER ROLE.
+/// ALTER ROLE, of any attributes.
 pub fn alter_role_keeps()
     ensures { (texts : Texts) (named : Named) (name : Bytes) (changes : RoleChanges) → IsSound texts named → IsSound texts (next (alter_role name changes) named) }
 {}
