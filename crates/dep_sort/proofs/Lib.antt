@@ -1,7 +1,7 @@
 mod Depending
 mod Distinct
 mod Dues
-mod InOrder
+pub mod InOrder
 mod Keeping
 mod Left
 mod Looping

@@ -1,0 +1,3 @@
+mod Found
+mod Ordered
+pub mod Seen
