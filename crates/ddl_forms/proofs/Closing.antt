@@ -1,8 +1,8 @@
--- A part ends with a token: how parts that are put together do.
-use Rattle.std.proofs.Common.{◌≡◌, Bool, true, false, not, cond, ◌&&◌, List, [], ◌∷◌, ◌++◌, Result, Ok, Err, refl, ap, ◌∙◌, ◌⊎◌, inl, inr}
+-- A part ends with a token, and no such token stands before the last.
+use Rattle.std.proofs.Common.{◌≡◌, Bool, true, false, not, cond, ◌&&◌, List, [], ◌∷◌, ◌++◌, Result, Ok, Err, refl}
 use Rattle.std.proofs.lemmas.Bool.{and_parts}
 use Rattle.ddl_parts.specs.Lexemes.{Lexeme}
-use Rattle.ddl_parts.specs.Parts.{Part, mark, seen, choose, ◌then◌, ◌▸◌, ◌◂◌}
+use Rattle.ddl_parts.specs.Parts.{Part}
 
 -- ---- the last token
 
@@ -28,28 +28,6 @@ passes_by b = cond b (Ok tt) (Err false)
 pub passed : (v : Unit {0}) (b : Bool) → passes_by b ≡ Ok v → b ≡ true
 passed v true e = refl
 passed v false e = absurd cc
-
-pub mark_closes : (test : Lexeme → Bool) → Closes test (mark test)
-mark_closes test v ts spells = ap (ends_with test) spells.1 ∙ passed v (test spells.0) spells.2
-
-pub then_closes : {A B : Type 0} (test : Lexeme → Bool) (p : Part A) (q : Part B) → Closes test q → Closes test (p then q)
-then_closes test p q closes v ts spells = ap (ends_with test) spells.2 ∙ ends_append test spells.0 spells.1 (closes v.1 spells.1 spells.4)
-
-pub seen_closes : {A B : Type 0} (test : Lexeme → Bool) (f : A → B) (p : Part A) → Closes test p → Closes test (seen f p)
-seen_closes test f p closes w ts spells = closes spells.0 ts spells.2
-
-pub choose_closes : {A : Type 0} (test which : Lexeme → Bool) (p q : Part A) → Closes test p → Closes test q → Closes test (choose which p q)
-choose_closes {A} test which p q a b v ts spells = by_part spells
-  where
-    by_part : p.Spells v ts ⊎ q.Spells v ts → ends_with test ts ≡ true
-    by_part (inl h) = a v ts h
-    by_part (inr h) = b v ts h
-
-pub lead_closes : {A : Type 0} (test which : Lexeme → Bool) (p : Part A) → Closes test p → Closes test (which ▸ p)
-lead_closes test which p closes = seen_closes test (λ x. x.1) (mark which then p) (then_closes test (mark which) p closes)
-
-pub end_closes : {A : Type 0} (test : Lexeme → Bool) (p : Part A) → Closes test (p ◂ test)
-end_closes test p = seen_closes test (λ x. x.0) (p then mark test) (then_closes test p (mark test) (mark_closes test))
 
 -- ---- no semicolon before the last token
 

@@ -14,13 +14,18 @@ use Rattle.ddl_parts.specs.declared.runs.Spot.{Spot}
 use Rattle.ddl_parts.specs.declared.runs.Spot.TheVariants.{First, FirstNot, LaterNot, Inside, Closed as Shut}
 use Rattle.ddl_parts.specs.Lexemes.{Lexeme, spelled, source, is_word, is_sign}
 use Rattle.ddl_parts.specs.Parts.{run, Runs}
-use Rattle.ddl_parts.specs.Expressions.{Nest, nested, nest_step, nest_done, ends_run, behind_kind, behind_not, behind_null, behind_other, is_inside, moved, step_by, default_text, default_and_null, are_not_null, without_not_null}
+use Rattle.ddl_parts.specs.Expressions.{Nest, nested, nest_step, nest_done, ends_run, behind_kind, behind_not, behind_null, behind_other, is_inside, moved, step_by, default_and_null, are_not_null, without_not_null}
 use Rattle.ddl_parts.proofs.Leads.{words_apart}
-use Rattle.ddl_forms.specs.Texts.{IsDefaultText}
+use Rattle.ddl_forms.specs.Texts.{semicolon, IsDefaultText}
 use Rattle.ddl_forms.proofs.Standing.{Stood, placed}
-use Rattle.ddl_forms.proofs.Kept.{AllCame, came_front}
-use Rattle.ddl_forms.proofs.Tokens.{Gap, space, word_token, a_word}
-use Rattle.ddl_forms.proofs.RunTexts.{AllPlain, IsSafe, not_some, run_none, run-append, placed-append, run_kept, run_read, safe_word}
+use Rattle.ddl_forms.proofs.Kept.{AllCame, came_front, spelled-append}
+use Rattle.ddl_forms.proofs.Tokens.{space, word_token, a_word}
+use Rattle.ddl_write.specs.Paths.{only_if}
+use Rattle.ddl_forms.proofs.RunTexts.{AllPlain, not_some, run_none, run-append, placed-append, plain_last, run_kept, run_read}
+use Rattle.ddl_forms.proofs.Behind.{Words, Safe, admits, admitted}
+use Rattle.ddl_forms.proofs.Putting.{Follows, IsPut, same_text}
+use Rattle.ddl_forms.proofs.Written.{Written, leaf_as, pieces_as, run_put}
+use Rattle.ddl_forms.proofs.Closing.{only_last}
 use Rattle.ddl_forms.proofs.Expressions.{nested_plain}
 
 -- ---- steps of the two machines of defaults
@@ -232,25 +237,16 @@ no_nulls (t ∷ u ∷ ts) runs = let h = two_at_least t u ts in subst (λ (us : 
 -- ---- a default's text
 
 -- the words NOT NULL
-abbrev pub not_null : List Lexeme
+abbrev not_null : List Lexeme
 not_null = word_token (32 ∷ []) (codes "NOT") ∷ word_token (32 ∷ []) (codes "NULL") ∷ []
 
-pub not_null_safe : (others : List Lexeme) → IsSafe (not_null ++ others)
-not_null_safe others after e = refl
-
-pub not_null_plain : AllPlain not_null
+not_null_plain : AllPlain not_null
 unfolding is_sign
 not_null_plain = (record { ends = refl; line = λ e. absurd cc }, (record { ends = refl; line = λ e. absurd cc }, tt))
 
-pub not_null_stood : (others : List Lexeme) → Stood others → IsSafe others → Stood (not_null ++ others)
+not_null_stood : (others : List Lexeme) → Stood others → admits Words (spelled others) ≡ true → Stood (not_null ++ others)
 unfolding in_word begins_word is_digit is_utf8 chars encode
-not_null_stood others stood safe = (
-  a_word (32 ∷ []) (codes "NOT") 32 _ space (refl, refl) refl refl refl,
-  (
-    safe_word (32 ∷ []) (codes "NULL") others space (refl, refl) refl safe,
-    stood,
-  ),
-)
+not_null_stood others stood e = (a_word (codes "NOT") (spelled (word_token (32 ∷ []) (codes "NULL") ∷ others)) space (refl, refl) refl refl, (a_word (codes "NULL") (spelled others) space (refl, refl) refl e, stood))
 
 nulls_taken : (spot : Spot) (bs : List Bracket) (at : ℕ) → nest_done (nest bs spot) ≡ true → is_shut spot ≡ false → run (nested true true) (Some (nest bs spot)) (placed at not_null) ≡ Some (nest [] Shut)
 unfolding nest_step nest_done ends_run is_word is_sign is_keyword_of
@@ -281,16 +277,6 @@ placed_nulls : (at : ℕ) → are_not_null (placed at not_null) ≡ true
 unfolding is_word is_keyword_of
 placed_nulls at = refl
 
--- tokens for a default behind a gap, before others
-pub record IsDefaultKept (g v : List ℕ) (others : List Lexeme) : Type 0 where
-  pub tokens : List Lexeme
-  pub bytes : spelled tokens ≡ g ++ v
-  pub stood : Stood (tokens ++ others)
-  pub plain : AllPlain tokens
-  pub spells : (at : ℕ) → default_text.Spells v (placed at tokens)
-  pub alone : (at : ℕ) → default_and_null.Spells (v, false) (placed at tokens)
-  pub with_null : (at : ℕ) → default_and_null.Spells (v, true) (placed at (tokens ++ not_null))
-
 alone_spells : (v : List ℕ) (ts : List Lexeme) → source ts ≡ v → Runs (nested true false) ts → default_and_null.Spells (v, false) ts
 unfolding default_and_null
 alone_spells v ts whole r =
@@ -302,29 +288,25 @@ unfolding default_and_null
 null_spells v ts at whole r =
     (ts ++ placed at not_null, sym (with_nulls ts _ _ (placed_nulls at) ∙ ap (λ (x : List ℕ). (x, true)) whole), (refl, runs_with_null ts at r))
 
-pub default_kept : (g v : List ℕ) (others : List Lexeme) → Gap g → IsDefaultText v → Stood others → IsSafe others → IsDefaultKept g v others
-unfolding default_text
-default_kept g v others gap h stood safe =
-    let k = run_kept (nested true false) (nested_plain true false) g v others gap h stood safe in
+abbrev pub null_words : List ℕ
+null_words = codes " NOT NULL"
+
+pub default_put : (v : List ℕ) (b : Bool) (others : List Lexeme) → IsDefaultText v → Follows others → admits Safe (spelled others) ≡ true → IsPut default_and_null (v, b) ((32 ∷ []) ++ (v ++ only_if b null_words)) others
+default_put v false others is follows e =
+    same_text (32 ∷ v) (32 ∷ (v ++ [])) (ap (λ (x : List ℕ). 32 ∷ x) (sym (append-nil v)))
+    (run_put (nested_plain true false) default_and_null (v, false) v others space is (λ ts runs whole same. alone_spells v ts whole runs) follows e)
+default_put v true others is follows e =
+    let stood = not_null_stood others follows.stood (admitted Words Safe (spelled others) refl e) in
+    let k = run_kept (nested true false) (nested_plain true false) (32 ∷ []) v (not_null ++ others) space is stood refl in
     record {
-      tokens = k.tokens;
-      bytes = k.bytes;
-      stood = k.stood;
-      plain = k.plain;
-      spells = λ at. (placed at k.tokens, sym (k.whole at), (refl, k.runs at));
-      alone = λ at. alone_spells v (placed at k.tokens) (k.whole at) (k.runs at);
-      with_null = λ at.
-          subst (default_and_null.Spells (v, true)) (sym (placed-append at k.tokens not_null))
-          (null_spells v (placed at k.tokens) (at + length (spelled k.tokens)) (k.whole at) (k.runs at));
+      tokens = k.tokens ++ not_null;
+      bytes = spelled-append k.tokens not_null ∙ ap (λ (x : List ℕ). x ++ spelled not_null) k.bytes;
+      stood = subst Stood (sym (append_assoc k.tokens not_null others)) k.stood;
+      spells = λ at. subst (default_and_null.Spells (v, true)) (sym (placed-append at k.tokens not_null)) (null_spells v (placed at k.tokens) (at + length (spelled k.tokens)) (k.whole at) (k.runs at));
+      last = ap (only_last semicolon) (append_assoc k.tokens not_null others) ∙ plain_last k.tokens (not_null ++ others) k.plain (plain_last not_null others not_null_plain follows.last);
     }
 
 -- ---- a default that was read
-
--- what tokens of a text spell is a default's text
-pub default_is_read : (v : List ℕ) (ts : List Lexeme) (r : List ℕ) → AllCame ts r → default_text.Spells v ts → IsDefaultText v
-unfolding default_text
-default_is_read v ts r came spells =
-    subst IsDefaultText (ap source (sym spells.2.0) ∙ sym spells.1) (run_read (nested true false) (nested_plain true false) ts r came spells.2.1).text
 
 -- a step on which NOT NULL is complete
 record Completes (s x : Nest) (t : Lexeme) : Type 0 where
@@ -519,3 +501,9 @@ default_and_null_is_read x ts r came spells =
     let front = came_front d.front d.behind r (subst (λ (us : List Lexeme). AllCame us r) d.parts came) in
     let text = (run_read (nested true false) (nested_plain true false) d.front (spelled d.behind ++ r) front d.runs).text in
     subst IsDefaultText (sym (ap (λ (y : List ℕ × Bool). y.0) spells.1 ∙ ap (λ (us : List Lexeme). (without_not_null us).0) spells.2.0 ∙ d.text)) text
+
+-- a default, and whether NOT NULL stands behind it
+abbrev pub default_and_null_as : Written default_and_null
+default_and_null_as =
+    pieces_as (leaf_as (λ x. IsDefaultText x.0) (λ x. IsDefaultText x.0) (32 ∷ []) (λ x is. x.0 ++ only_if x.1 null_words) Safe (λ x is others. default_put x.0 x.1 others is) default_and_null_is_read)
+    (λ x is. (32 ∷ []) ∷ x.0 ∷ only_if x.1 null_words ∷ []) (λ x is. ap (λ (y : List ℕ). 32 ∷ y) (append_assoc x.0 (only_if x.1 null_words) []))

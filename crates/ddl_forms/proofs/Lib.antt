@@ -1,12 +1,12 @@
 pub mod Closing
 pub mod Standing
-pub mod Tokens
+pub mod Behind
 pub mod Kept
+pub mod Tokens
 pub mod RunTexts
+pub mod Putting
+pub mod Written
 pub mod Expressions
 pub mod Types
 pub mod Defaults
-pub mod Putting
-pub mod Yielding
 pub mod Numbers
-pub mod Written

@@ -1,5 +1,5 @@
 -- Whole numbers as they are written, in tokens that stand; and that what is read has 64 bits.
-use Rattle.std.proofs.Common.{◌≡◌, ℕ, zero, suc, ◌+◌, ◌<◌, ◌^◌, ℤ, pos, negsuc, Bool, true, false, cond, ◌&&◌, List, [], ◌∷◌, ◌++◌, length, append_assoc, Option, Some, None, Ok, refl, sym, ap, subst, ◌∙◌, arith, inl, inr, option_and_then}
+use Rattle.std.proofs.Common.{◌≡◌, ℕ, zero, suc, ◌+◌, ◌<◌, ◌^◌, ℤ, pos, negsuc, Bool, true, false, cond, ◌&&◌, List, [], ◌∷◌, ◌++◌, length, append_assoc, append-nil, Option, Some, None, Ok, refl, sym, ap, subst, ◌∙◌, arith, ◌⊎◌, inl, inr, option_and_then}
 use Rattle.std.specs.Prelude.{◌==◌, nat_lt}
 use Rattle.std.specs.List.{list_all}
 use Rattle.std.specs.Char.{digit_value}
@@ -18,14 +18,16 @@ use Rattle.sql_lex.specs.declared.token.TokenKind.TheVariants.{Number, Sign}
 use Rattle.sql_lex.proofs.WriteLaws.{spelling_is_read}
 use Rattle.ddl_parts.specs.Lexemes.{Lexeme, spelled, is_sign}
 use Rattle.ddl_parts.specs.Leaves.{number_first}
-use Rattle.ddl_parts.specs.Parts.{mark, seen, ◌▸◌}
-use Rattle.ddl_numbers.specs.Numbers.{count, count_value, counted, digits_below, opposite, whole_number}
+use Rattle.ddl_parts.specs.Parts.{mark, seen, ◌then◌, ◌▸◌}
+use Rattle.ddl_numbers.specs.Numbers.{count, count_first, count_value, counted, digits_below, opposite, whole_number}
 use Rattle.ddl_forms.specs.Texts.{is_int, IsInt}
-use Rattle.ddl_forms.proofs.Standing.{is_safe_byte, Stands}
+use Rattle.ddl_forms.proofs.Standing.{Stands}
 use Rattle.ddl_forms.proofs.Kept.{safe_ends, spelled-append}
 use Rattle.ddl_forms.proofs.Tokens.{Gap, none, Begun, gap_stands, sign_token}
-use Rattle.ddl_forms.proofs.Putting.{begins_by, safe_behind, Follows, IsPut, behind, put_as, one_put, same_text, lead_put}
-use Rattle.ddl_forms.proofs.Yielding.{Yields, choose_yields, seen_yields, lead_yields}
+use Rattle.ddl_forms.proofs.Behind.{Safe, admits}
+use Rattle.ddl_forms.proofs.RunTexts.{safe_behind}
+use Rattle.ddl_forms.proofs.Putting.{Follows, IsPut, followed, put_as, one_put, same_text, then_put, Yields}
+use Rattle.ddl_forms.proofs.Written.{Written, leaf_as}
 
 -- ---- digits
 
@@ -58,7 +60,7 @@ digit_no_minus c small = let h = digit_from_value c small in grind (arith, nat_t
 abbrev count_token : List ℕ → ℕ → Lexeme
 count_token g n = record { gap = g; kind = Number; word = decimal n; start = 0 }
 
-count_put : (n limit : ℕ) (g : List ℕ) (others : List Lexeme) → n < 2 ^ 64 → n < limit → Gap g → Follows others → begins_by is_safe_byte (spelled others) ≡ true → IsPut (count limit) n (g ++ decimal n) others
+count_put : (n limit : ℕ) (g : List ℕ) (others : List Lexeme) → n < 2 ^ 64 → n < limit → Gap g → Follows others → admits Safe (spelled others) ≡ true → IsPut (count limit) n (g ++ decimal n) others
 unfolding count_value digits_below is_sign
 count_put n limit g others wide small gap follows e =
     let numeral = decimal_is_IsNumeral n wide in
@@ -95,23 +97,23 @@ behind_digits : (ds : List ℕ) (rest : List ℕ) → DigitFirst ds → DigitFir
 behind_digits ds rest f = record { first = f.first; rest = f.rest ++ rest; bytes = ap (λ (x : List ℕ). x ++ rest) f.bytes; digit = f.digit }
 
 -- a number behind a gap, before what is safe
-pub number_put : (z : ℤ) (g : List ℕ) (others : List Lexeme) → is_int z ≡ true → Gap g → Follows others → begins_by is_safe_byte (spelled others) ≡ true → IsPut whole_number z (g ++ signed_decimal z) others
+pub number_put : {g : List ℕ} (gap : Gap g) (z : ℤ) (others : List Lexeme) → is_int z ≡ true → Follows others → admits Safe (spelled others) ≡ true → IsPut whole_number z (g ++ signed_decimal z) others
 unfolding whole_number
-number_put (pos n) g others is gap follows e =
+number_put {g} gap (pos n) others is follows e =
     let small : n < 2 ^ 63 = ltb-true n (2 ^ 63) is in
-    let k = count_put n (2 ^ 63) g others (omega arith) small gap follows e in
-    put_as (count (2 ^ 63)) whole_number n (pos n) (g ++ decimal n) others k (λ ts h. inr (n, refl, h))
-number_put (negsuc n) g others is gap follows e =
+    put_as (count (2 ^ 63)) whole_number n (pos n) (g ++ decimal n) others (count_put n (2 ^ 63) g others (omega arith) small gap follows e) (λ ts h. inr (n, refl, h))
+number_put {g} gap (negsuc n) others is follows e =
     let small : n < 2 ^ 63 = ltb-true n (2 ^ 63) is in
     let wide : suc n < 2 ^ 64 = omega arith in
-    let k = count_put (suc n) (2 ^ 63 + 1) [] others wide (omega arith) none follows e in
+    let ds = decimal (suc n) in
+    let k = same_text ds (ds ++ []) (sym (append-nil ds)) (count_put (suc n) (2 ^ 63 + 1) [] others wide (omega arith) none follows e) in
     let numeral = decimal_is_IsNumeral (suc n) wide in
-    let f = behind_digits (decimal (suc n)) (spelled others) (digit_first (decimal (suc n)) numeral.0.0 numeral.0.1) in
-    let bytes : decimal (suc n) ++ spelled others ≡ spelled (k.tokens ++ others) = ap (λ (x : List ℕ). x ++ spelled others) (sym k.bytes) ∙ sym (spelled-append k.tokens others) in
-    let minus = minus_put g (k.tokens ++ others) (subst DigitFirst bytes f) gap (behind k) in
-    let both = lead_put (is_sign 45) (count (2 ^ 63 + 1)) (suc n) (g ++ 45 ∷ []) (decimal (suc n)) others k minus in
-    let whole = same_text ((g ++ 45 ∷ []) ++ decimal (suc n)) (g ++ (45 ∷ decimal (suc n))) (append_assoc g (45 ∷ []) (decimal (suc n))) both in
-    put_as (is_sign 45 ▸ count (2 ^ 63 + 1)) whole_number (suc n) (negsuc n) (g ++ (45 ∷ decimal (suc n))) others whole (λ ts h. inl (suc n, refl, h))
+    let f = behind_digits (ds ++ []) (spelled others) (behind_digits ds [] (digit_first ds numeral.0.0 numeral.0.1)) in
+    let bytes : (ds ++ []) ++ spelled others ≡ spelled (k.tokens ++ others) = ap (λ (x : List ℕ). x ++ spelled others) (sym k.bytes) ∙ sym (spelled-append k.tokens others) in
+    let minus = same_text (g ++ 45 ∷ []) ((g ++ 45 ∷ []) ++ []) (sym (append-nil (g ++ 45 ∷ []))) (minus_put g (k.tokens ++ others) (subst DigitFirst bytes f) gap (followed k)) in
+    let both = then_put (mark (is_sign 45)) (count (2 ^ 63 + 1)) tt (suc n) ((g ++ 45 ∷ []) ∷ []) (ds ∷ []) others k minus in
+    let whole = same_text ((g ++ 45 ∷ []) ++ (ds ++ [])) (g ++ (45 ∷ ds)) (append_assoc g (45 ∷ []) (ds ++ []) ∙ ap (λ (x : List ℕ). g ++ (45 ∷ x)) (append-nil ds)) both in
+    put_as (mark (is_sign 45) then count (2 ^ 63 + 1)) whole_number (tt, suc n) (negsuc n) (g ++ (45 ∷ ds)) others whole (λ ts h. inl (suc n, refl, ((tt, suc n), refl, h)))
 
 -- ---- what is read
 
@@ -122,24 +124,36 @@ pub opposite_is : (n : ℕ) → n < 2 ^ 63 + 1 → IsInt (opposite n)
 opposite_is zero small = lt-ltb 0 (2 ^ 63) (omega arith)
 opposite_is (suc n) small = lt-ltb n (2 ^ 63) (omega arith)
 
-below_by : (limit n d : ℕ) (a b : Bool) → nat_lt d limit ≡ b → counted (cond (a && b) (Some d) None) ≡ Ok n → n < limit
-below_by limit n d true true is e = let same : d ≡ n = cc in subst (λ (x : ℕ). x < limit) same (ltb-true d limit is)
-below_by limit n d true false is e = absurd cc
-below_by limit n d false true is e = absurd cc
-below_by limit n d false false is e = absurd cc
+abbrev pub IsBelow : ℕ → Option ℕ → Type 0
+IsBelow limit None = Unit {0}
+IsBelow limit (Some n) = n < limit
 
-count_yields : (limit : ℕ) → Yields (λ n. n < limit) (count limit)
-unfolding count_value digits_below
-count_yields limit n ts r came spells = by (number_first (spells.0 ∷ [])) spells.2
+pub count_below : (limit : ℕ) (ts : List Lexeme) → IsBelow limit (count_first limit ts)
+unfolding digits_below
+count_below limit ts = by_word (number_first ts)
   where
-    by : (o : Option (List ℕ)) → counted (option_and_then (digits_below limit) o) ≡ Ok n → n < limit
-    by None e = absurd cc
-    by (Some w) e = below_by limit n (digits_value 10 w) (list_all is_digit w) (nat_lt (digits_value 10 w) limit) refl e
+    by : (word : List ℕ) (a b : Bool) → nat_lt (digits_value 10 word) limit ≡ b → IsBelow limit (cond (a && b) (Some (digits_value 10 word)) None)
+    by word true true e = ltb-true (digits_value 10 word) limit e
+    by word true false e = tt
+    by word false b e = tt
 
-pub whole_number_yields : Yields IsInt whole_number
-unfolding whole_number
-whole_number_yields =
-    choose_yields IsInt (is_sign 45) (seen opposite (is_sign 45 ▸ count (2 ^ 63 + 1))) (seen pos (count (2 ^ 63)))
-    (seen_yields IsInt opposite (is_sign 45 ▸ count (2 ^ 63 + 1))
-    (λ n ts r came spells. opposite_is n (lead_yields (λ n. n < 2 ^ 63 + 1) (is_sign 45) (count (2 ^ 63 + 1)) (count_yields (2 ^ 63 + 1)) n ts r came spells)))
-    (seen_yields IsInt pos (count (2 ^ 63)) (λ n ts r came spells. positive_is n (count_yields (2 ^ 63) n ts r came spells)))
+    by_word : (o : Option (List ℕ)) → IsBelow limit (option_and_then (digits_below limit) o)
+    by_word None = tt
+    by_word (Some word) = by word (list_all is_digit word) (nat_lt (digits_value 10 word) limit) refl
+
+counted_below : (limit n : ℕ) (o : Option ℕ) → IsBelow limit o → counted o ≡ Ok n → n < limit
+counted_below limit n None is e = absurd cc
+counted_below limit n (Some m) is e = let same : m ≡ n = cc in subst (λ (x : ℕ). x < limit) same is
+
+pub number_made : Yields IsInt whole_number
+unfolding whole_number count_value
+number_made z ts r came spells = by spells
+  where
+    by : (seen opposite (is_sign 45 ▸ count (2 ^ 63 + 1))).Spells z ts ⊎ (seen pos (count (2 ^ 63))).Spells z ts → IsInt z
+    by (inl h) =
+        let d = h.2.2.4 in
+        subst IsInt (sym (h.1 ∙ ap opposite h.2.1)) (opposite_is h.2.0.1 (counted_below (2 ^ 63 + 1) h.2.0.1 (count_first (2 ^ 63 + 1) (d.0 ∷ [])) (count_below (2 ^ 63 + 1) (d.0 ∷ [])) d.2))
+    by (inr h) = subst IsInt (sym h.1) (positive_is h.0 (counted_below (2 ^ 63) h.0 (count_first (2 ^ 63) (h.2.0 ∷ [])) (count_below (2 ^ 63) (h.2.0 ∷ [])) h.2.2))
+
+abbrev pub number_as : {g : List ℕ} → Gap g → Written whole_number
+number_as {g} gap = leaf_as IsInt IsInt g (λ z is. signed_decimal z) Safe (λ z is others. number_put gap z others is) number_made

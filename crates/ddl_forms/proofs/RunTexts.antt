@@ -1,22 +1,16 @@
 -- The text of a run of a machine is written with the tokens that it has: behind a gap and before other tokens, and what
 -- was read of a text is such a text.
-use Rattle.std.proofs.Common.{◌≡◌, ℕ, ◌+◌, ◌-◌, ◌≤◌, Bool, true, false, not, cond, ◌&&◌, List, [], ◌∷◌, ◌++◌, length, length-append, append-nil, take, drop, Option, Some, None, refl, sym, ap, subst, ◌∙◌, arith, inl, inr, option_and_then}
+use Rattle.std.proofs.Common.{◌≡◌, ℕ, ◌+◌, ◌-◌, ◌≤◌, Bool, true, false, not, List, [], ◌∷◌, ◌++◌, length, length-append, append-nil, take, drop, Option, Some, None, refl, sym, ap, subst, ◌∙◌, arith, inl, inr, option_and_then, eqb-true}
 use Rattle.std.proofs.Math.Seq.{drop-length}
 use Rattle.std.proofs.lemmas.Bool.{and_parts, and_from}
 use Rattle.std.proofs.lemmas.Bool.Decides.{nat_tests}
 use Rattle.sql_lex.specs.declared.token.TokenKind.{TokenKind}
 use Rattle.sql_lex.specs.declared.token.TokenKind.TheVariants.{Word, QuotedName, Literal, Number, Sign, MetaLine}
 use Rattle.sql_lex.specs.Bytes.{is_blank, is_sign as is_sign_byte, marks_escapes}
-use Rattle.sql_lex.specs.Spelling.{Spells, IsWord, AreDigits}
-use Rattle.sql_lex.specs.Reserved.{is_reserved}
-use Rattle.sql_lex.specs.Written.{is_bare, written_name}
-use Rattle.sql_lex.specs.ReadBack.{written_kind}
-use Rattle.sql_lex.proofs.WriteLaws.{name_is_read, spelling_is_read}
-use Rattle.copy_text.specs.Texts.{IsName}
-use Rattle.std.specs.Str.{is_utf8}
+use Rattle.sql_lex.specs.Spelling.{Spells, AreDigits}
 use Rattle.sql_lex.proofs.PieceLaws.{quoted_is, word_free, digit_free}
 use Rattle.ddl_parts.specs.declared.pieces.Piece.{Piece}
-use Rattle.ddl_parts.specs.Lexemes.{Lexeme, spelled, source, is_sign, start_of}
+use Rattle.ddl_parts.specs.Lexemes.{Lexeme, spelled, source, is_sign, is_sign_kind, start_of}
 use Rattle.ddl_parts.specs.Parts.{Machine, run, Runs}
 use Rattle.ddl_parts.specs.Pieces.{lexeme_of, lexemes}
 use Rattle.ddl_parts.specs.Collecting.{collected}
@@ -24,8 +18,8 @@ use Rattle.ddl_forms.specs.Texts.{semicolon}
 use Rattle.ddl_forms.specs.Texts.{IsRunText}
 use Rattle.ddl_forms.proofs.Closing.{only_last}
 use Rattle.ddl_forms.proofs.Standing.{is_safe, Stands, Stood, placed, NoSemicolon, collects_all}
-use Rattle.ddl_forms.proofs.Kept.{AllCame, NoLine, safe_ends, have_come, whole_text, stands_again, all_stand_again, spelled-append}
-use Rattle.ddl_forms.proofs.Tokens.{word_token, name_token, Gap, none as none_before, Begun, gap_stands, begun_some, word_begun, name_begun}
+use Rattle.ddl_forms.proofs.Kept.{AllCame, NoLine, have_come, whole_text, stands_again, all_stand_again, spelled-append}
+use Rattle.ddl_forms.proofs.Tokens.{Gap, none as none_before, Begun, gap_stands, begun_some}
 
 -- ---- machines
 
@@ -39,6 +33,27 @@ pub record IsPlainMachine (m : Machine) : Type 0 where
 
 pub not_some : {A : Type 0} (x : A) (o : Option A) → o ≡ Some x → o ≡ None → ⊥
 not_some x o e f = absurd (cc (e, f))
+
+abbrev bare : TokenKind → List ℕ → Lexeme
+bare kind word = record { gap = []; kind = kind; word = word; start = 0 }
+
+sign_kind : (b : ℕ) (k : TokenKind) → is_sign_kind b k ≡ true → k ≡ Sign b
+sign_kind b (Sign c) e = ap Sign (sym (eqb-true b c e))
+sign_kind b Word e = absurd cc
+sign_kind b x e = absurd cc
+
+-- a machine that goes by kinds and words is plain where it takes neither such token
+pub plain_by : (m : Machine) → ((s : m.State) (gap : List ℕ) (start : ℕ) (t : Lexeme) → m.step s (record { gap = gap; kind = t.kind; word = t.word; start = start }) ≡ m.step s t) → ((s : m.State) (word : List ℕ) → m.step s (record { gap = []; kind = Sign 59; word = word; start = 0 }) ≡ None)
+    → ((s : m.State) (word : List ℕ) → m.step s (record { gap = []; kind = MetaLine; word = word; start = 0 }) ≡ None) → m.done m.start ≡ false → IsPlainMachine m
+unfolding is_sign
+plain_by m same sign line begins = record { ends = λ s x t e. ends s x t (is_sign_kind 59 t.kind) refl e; line = λ s x t e is. refused s x t MetaLine is (line s t.word) e; same = same; begins = begins }
+  where
+    refused : (s x : m.State) (t : Lexeme) (k : TokenKind) → t.kind ≡ k → m.step s (bare k t.word) ≡ None → m.step s t ≡ Some x → ⊥
+    refused s x t k is none e = not_some x (m.step s t) e (sym (same s [] 0 t) ∙ ap (λ (k : TokenKind). m.step s (bare k t.word)) is ∙ none)
+
+    ends : (s x : m.State) (t : Lexeme) (b : Bool) → is_sign_kind 59 t.kind ≡ b → m.step s t ≡ Some x → is_sign_kind 59 t.kind ≡ false
+    ends s x t false is e = is
+    ends s x t true is e = absurd (refused s x t (Sign 59) (sign_kind 59 t.kind is) (sign s t.word) e)
 
 pub run_none : (m : Machine) (ts : List Lexeme) → run m None ts ≡ None
 run_none m [] = refl
@@ -163,31 +178,12 @@ token_begun MetaLine word line h = absurd (line refl)
 abbrev pub IsSafe : List Lexeme → Type 0
 IsSafe others = (after : List ℕ) → is_safe after ≡ true → is_safe (spelled others ++ after) ≡ true
 
-pub name_no_line : (n : List ℕ) → written_kind n ≡ MetaLine → ⊥
-unfolding written_kind
-name_no_line n = by (is_bare n && not (is_reserved n))
+pub safe_behind : (others : List Lexeme) → is_safe (spelled others) ≡ true → IsSafe others
+safe_behind others e after safe = by (spelled others) e
   where
-    by : (b : Bool) → cond b Word QuotedName ≡ MetaLine → ⊥
-    by true e = absurd cc
-    by false e = absurd cc
-
--- a written name before what is safe
-pub safe_name : (g n : List ℕ) (others : List Lexeme) → Gap g → IsName n → IsSafe others → Stands (name_token g n) (spelled others)
-safe_name g n others gap is safe = record {
-  gap = gap_stands g (written_name n) (spelled others) gap (name_begun n);
-  token = λ front after e. (name_is_read front n (spelled others ++ after) is.utf8 (safe_ends (written_kind n) (written_name n) (spelled others ++ after) (name_no_line n) (safe after e))).0;
-  some = begun_some (written_name n) (name_begun n);
-}
-
--- a word before what is safe
-pub safe_word : (g w : List ℕ) (others : List Lexeme) → Gap g → IsWord w → is_utf8 w ≡ true → IsSafe others → Stands (word_token g w) (spelled others)
-safe_word g w others gap word utf8 safe =
-    let first = word_begun w word in
-    record {
-      gap = gap_stands g w (spelled others) gap first;
-      token = λ front after e. spelling_is_read front w (spelled others ++ after) Word word (safe_ends Word w (spelled others ++ after) (λ f. absurd cc) (safe after e)) utf8 (λ f. absurd cc);
-      some = begun_some w first;
-    }
+    by : (bytes : List ℕ) → is_safe bytes ≡ true → is_safe (bytes ++ after) ≡ true
+    by [] e = safe
+    by (b ∷ rest) e = e
 
 -- ---- a run's text
 
@@ -227,13 +223,13 @@ first_gap m h g v (p ∷ ps) others gap first runs came whole same stood safe =
     let none : (lexeme_of v p).gap ≡ [] = ap (λ n. take n (drop p.from v)) (let e : p.token.start - p.from ≡ 0 = omega arith in e) in
     kept_by m h g v (lexeme_of v p) (lexemes v ps) others [] gap (whole ∙ ap (λ (x : List ℕ). x ++ ((lexeme_of v p).word ++ spelled (lexemes v ps))) none) runs came same stood safe
 
-pub run_kept : (m : Machine) → IsPlainMachine m → (g v : List ℕ) (others : List Lexeme) → Gap g → IsRunText m v → Stood others → IsSafe others → IsRunKept m g v others
+pub run_kept : (m : Machine) → IsPlainMachine m → (g v : List ℕ) (others : List Lexeme) → Gap g → IsRunText m v → Stood others → is_safe (spelled others) ≡ true → IsRunKept m g v others
 run_kept m plain g v others gap h stood safe =
     let c = collected v 0 in
     let none : drop c.end v ≡ [] = ap (λ n. drop n v) h.last ∙ drop-length v in
     let low : 0 ≤ length v = omega arith in
     let whole : v ≡ spelled (lexemes v c.pieces) = whole_text v 0 low ∙ ap (λ (x : List ℕ). spelled (lexemes v c.pieces) ++ x) none ∙ append-nil (spelled (lexemes v c.pieces)) in
-    first_gap m plain g v c.pieces others gap h.first h.runs (subst (AllCame (lexemes v c.pieces)) none (have_come v 0 low)) whole refl stood safe
+    first_gap m plain g v c.pieces others gap h.first h.runs (subst (AllCame (lexemes v c.pieces)) none (have_come v 0 low)) whole refl stood (safe_behind others safe)
 
 -- ---- a run that was read
 

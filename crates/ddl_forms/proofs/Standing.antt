@@ -94,6 +94,7 @@ NoSemicolon (t ∷ ts) = (semicolon t ≡ false) × NoSemicolon ts
 pub record IsCollected (text : List ℕ) (at : ℕ) (ts : List Lexeme) (c : Collected) : Type 0 where
   pub tokens : lexemes text c.pieces ≡ placed at ts
   pub end : c.end ≡ at + length (spelled ts)
+  pub fault : c.fault ≡ None
 
 abbrev piece : ℕ → Lexeme → Piece
 piece at t = record { from = at; token = record { kind = t.kind; start = at + length t.gap; end = at + length t.gap + length t.word } }
@@ -124,6 +125,7 @@ are_collected (suc n) text front (t ∷ []) after e s safe last ends le =
     subst (λ c. IsCollected text (length front) (t ∷ []) c) (sym is) (record {
       tokens = ap (λ (l : Lexeme). l ∷ []) next.same;
       end = let z = sizes t [] in omega arith;
+      fault = refl;
     })
 are_collected (suc n) text front (t ∷ u ∷ ts) after e s safe last ends le =
     let more = u ∷ ts in
@@ -140,6 +142,7 @@ are_collected (suc n) text front (t ∷ u ∷ ts) after e s safe last ends le =
     subst (λ c. IsCollected text (length front) (t ∷ more) c) (sym is) (record {
       tokens = ap (λ (l : Lexeme). l ∷ lexemes text (collected_within n text (length front + length t.gap + length t.word)).pieces) next.same ∙ ap (λ (ls : List Lexeme). lexeme t.gap t.kind t.word (length front + length t.gap) ∷ ls) behind.tokens;
       end = let z = sizes t more in behind.end ∙ (let k : length front + length t.gap + length t.word + length (spelled more) ≡ length front + length (spelled (t ∷ more)) = omega arith in k);
+      fault = behind.fault;
     })
 
 -- no text has more tokens than bytes
@@ -159,7 +162,7 @@ pub are_all_collected : (n : ℕ) (text front : List ℕ) (ts : List Lexeme) →
 unfolding collected_within is_sign
 are_all_collected n text front [] e s plain le =
     let at_end : next_token_of text (length front) ≡ Ok None = next_at_end text (length front) (ap length (sym (e ∙ append-nil front))) in
-    subst (λ c. IsCollected text (length front) [] c) (sym (ap (collected_by (collected_within n text) (length front)) at_end)) (record { tokens = refl; end = let z : length front ≡ length front + 0 = omega arith in z })
+    subst (λ c. IsCollected text (length front) [] c) (sym (ap (collected_by (collected_within n text) (length front)) at_end)) (record { tokens = refl; end = let z : length front ≡ length front + 0 = omega arith in z; fault = refl })
 are_all_collected zero text front (t ∷ ts) e s plain le = absurd (omega arith)
 are_all_collected (suc n) text front (t ∷ ts) e s plain le =
     let whole : text ≡ front ++ (t.gap ++ (t.word ++ (spelled ts ++ []))) = e ∙ ap (λ (x : List ℕ). front ++ (t.gap ++ (t.word ++ x))) (sym (append-nil (spelled ts))) in
@@ -172,6 +175,7 @@ are_all_collected (suc n) text front (t ∷ ts) e s plain le =
     subst (λ c. IsCollected text (length front) (t ∷ ts) c) (sym is) (record {
       tokens = ap (λ (l : Lexeme). l ∷ lexemes text (collected_within (suc n) text (length front + length t.gap + length t.word)).pieces) next.same ∙ ap (λ (ls : List Lexeme). lexeme t.gap t.kind t.word (length front + length t.gap) ∷ ls) behind.tokens;
       end = let z = sizes t ts in behind.end ∙ (let k : length front + length t.gap + length t.word + length (spelled ts) ≡ length front + length (spelled (t ∷ ts)) = omega arith in k);
+      fault = behind.fault;
     })
 
 pub collects_all : (text : List ℕ) (ts : List Lexeme) → text ≡ spelled ts → Stood ts → NoSemicolon ts → IsCollected text 0 ts (collected text 0)

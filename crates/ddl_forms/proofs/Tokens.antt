@@ -1,29 +1,31 @@
 -- The tokens of which written statements are made, and that each stands wherever it is put.
-use Rattle.std.proofs.Common.{◌≡◌, ◌≢◌, ℕ, ◌+◌, ◌<◌, Bool, true, false, not, cond, ◌&&◌, List, [], ◌∷◌, ◌++◌, length, Some, Ok, Err, refl, sym, ap, subst, ◌∙◌, arith, inl, inr}
+use Rattle.std.proofs.Common.{◌≡◌, ◌≢◌, ℕ, ◌+◌, ◌<◌, Bool, true, false, not, cond, ◌&&◌, List, [], ◌∷◌, ◌++◌, length, Option, Some, None, Result, Ok, Err, ◌||◌, ◌⊎◌, refl, sym, ap, subst, ◌∙◌, arith, inl, inr}
 use Rattle.std.specs.Prelude.{◌==◌, nat_lt, All}
 use Rattle.std.specs.List.{list_all, list_any, AllByRecursion as ByRecursion}
 use Rattle.std.specs.Str.{is_utf8, IsUtf8, chars, str_to_ascii_lowercase, str_eq_ignore_ascii_case}
 use Rattle.std.proofs.lemmas.Slice.Eq.{bytes_eq-Decides}
 use Rattle.std.proofs.Math.Utf8.{encode}
-use Rattle.std.proofs.lemmas.Bool.{cases_Bool, and_parts, ne_eqb}
+use Rattle.std.proofs.lemmas.Bool.{cases_Bool, and_parts, or_parts, not-true, ne_eqb}
 use Rattle.std.proofs.lemmas.Bool.Decides.{nat_tests}
-use Rattle.std.proofs.lemmas.List.Elements.{recursion_from_All}
-use Rattle.std.proofs.lemmas.Str.{is_utf8-from_IsUtf8}
+use Rattle.std.proofs.lemmas.List.Elements.{recursion_from_All, All-from_recursion}
+use Rattle.std.proofs.lemmas.Str.{is_utf8-from_IsUtf8, IsUtf8-from_is_utf8}
 use Rattle.sql_lex.specs.declared.token.TokenKind.{TokenKind}
-use Rattle.sql_lex.specs.declared.token.TokenKind.TheVariants.{Word, Literal, Sign}
-use Rattle.sql_lex.specs.Bytes.{is_blank, is_digit, begins_word, in_word, is_sign, marks_escapes, next_is}
+use Rattle.sql_lex.specs.declared.token.TokenKind.TheVariants.{Word, QuotedName, Literal, Sign}
+use Rattle.sql_lex.specs.Bytes.{is_blank, is_digit, begins_word, in_word, is_sign, next_is}
 use Rattle.sql_lex.specs.Next.{next_token_of}
 use Rattle.sql_lex.specs.Spelling.{IsWord, goes_on}
 use Rattle.sql_lex.specs.Meaning.{name_of, literal_of, is_keyword_of}
 use Rattle.sql_lex.specs.Reserved.{is_reserved}
 use Rattle.sql_lex.specs.Written.{begins_bare, in_bare, is_bare, quoted, written_name, written_literal}
-use Rattle.sql_lex.specs.ReadBack.{written_kind}
+use Rattle.sql_lex.specs.ReadBack.{IsTokenAt, written_kind}
 use Rattle.sql_lex.proofs.PieceLaws.{word_free}
 use Rattle.sql_lex.proofs.WriteLaws.{spelling_is_read, gap_is_passed, name_is_read, literal_is_read}
 use Rattle.copy_text.specs.Texts.{IsName}
-use Rattle.ddl_parts.specs.Lexemes.{Lexeme, is_sign_kind}
+use Rattle.ddl_parts.specs.Lexemes.{Lexeme, is_word, is_sign_kind}
 use Rattle.ddl_parts.specs.Leaves.{name_in, name_value, text_in, literal_value}
-use Rattle.ddl_forms.proofs.Standing.{GapStands, TokenStands, Stands}
+use Rattle.ddl_forms.proofs.Standing.{is_safe, GapStands, Stands}
+use Rattle.ddl_forms.proofs.Behind.{Words, parts_words, admits}
+use Rattle.ddl_forms.proofs.Kept.{safe_ends}
 
 -- ---- the tokens
 
@@ -50,37 +52,36 @@ gap_blank g c rest some blank utf8 none front after safe = gap_is_passed front g
 
 -- ---- tokens
 
-pub word_stands : (w : List ℕ) (c : ℕ) (rest : List ℕ) → IsWord w → is_utf8 w ≡ true → in_word c ≡ false → (c == 39) ≡ false → TokenStands Word w (c ∷ rest)
+and_false : (x : Bool) → (x && false) ≡ false
+and_false true = refl
+and_false false = refl
+
+no_word : (b : ℕ) → parts_words b ≡ true → in_word b ≡ false
+unfolding in_word begins_word is_digit
+no_word b e = grind (arith, nat_tests)
+
+no_quotes : (b : ℕ) → parts_words b ≡ true → (b == 34) ≡ false
+no_quotes b e = grind (arith, nat_tests)
+
+no_quote : (b : ℕ) → parts_words b ≡ true → (b == 39) ≡ false
+no_quote b e = grind (arith, nat_tests)
+
+abbrev is_spoken : TokenKind → Bool
+is_spoken Word = true
+is_spoken QuotedName = true
+is_spoken Literal = true
+is_spoken _ = false
+
+-- nothing that parts words goes on with a word, a name or a literal
+spoken_ends : (kind : TokenKind) (word rest after : List ℕ) → is_spoken kind ≡ true → admits Words rest ≡ true → is_safe after ≡ true → goes_on kind word (rest ++ after) ≡ false
 unfolding goes_on next_is
-word_stands w c rest word utf8 ends quote front after safe =
-    spelling_is_read front w (c ∷ (rest ++ after)) Word word (rw (ends, quote) (and_false (length w == 1 && next_is marks_escapes w))) utf8 (λ e. absurd cc)
-  where
-    and_false : (x : Bool) → (x && false) ≡ false
-    and_false true = refl
-    and_false false = refl
-
-pub sign_stands : (b : ℕ) (behind : List ℕ) → is_sign b ≡ true → is_utf8 (b ∷ []) ≡ true → (b == 45) ≡ false → (b == 47) ≡ false → TokenStands (Sign b) (b ∷ []) behind
-unfolding goes_on
-sign_stands b behind sign utf8 minus slash front after safe = spelling_is_read front (b ∷ []) (behind ++ after) (Sign b) (sign, refl) (rw (minus, slash) refl) utf8 (λ e. absurd cc)
-
-name_ends : (n : List ℕ) (c : ℕ) (rest : List ℕ) → in_word c ≡ false → (c == 34) ≡ false → (c == 39) ≡ false → goes_on (written_kind n) (written_name n) (c ∷ rest) ≡ false
-unfolding written_kind goes_on next_is
-name_ends n c rest ends quote mark =
-    elim (cases_Bool (is_bare n && not (is_reserved n))) [
-      | inl is ↦ rw (is, ends, mark) (and_false _)
-      | inr isnt ↦ rw (isnt, quote) refl
-    ]
-  where
-    and_false : (x : Bool) → (x && false) ≡ false
-    and_false true = refl
-    and_false false = refl
-
-pub name_stands : (n : List ℕ) (c : ℕ) (rest : List ℕ) → IsUtf8 n → in_word c ≡ false → (c == 34) ≡ false → (c == 39) ≡ false → TokenStands (written_kind n) (written_name n) (c ∷ rest)
-name_stands n c rest utf8 ends quote mark front after safe = (name_is_read front n (c ∷ (rest ++ after)) utf8 (name_ends n c (rest ++ after) ends quote mark)).0
-
-pub literal_stands : (t : List ℕ) (c : ℕ) (rest : List ℕ) → IsUtf8 t → (c == 39) ≡ false → TokenStands Literal (written_literal t) (c ∷ rest)
-unfolding goes_on next_is
-literal_stands t c rest utf8 quote front after safe = (literal_is_read front t (c ∷ (rest ++ after)) utf8 quote).0
+spoken_ends Word word [] after is e safe = safe_ends Word word after (λ f. absurd cc) safe
+spoken_ends QuotedName word [] after is e safe = safe_ends QuotedName word after (λ f. absurd cc) safe
+spoken_ends Literal word [] after is e safe = safe_ends Literal word after (λ f. absurd cc) safe
+spoken_ends Word word (b ∷ rest) after is e safe = rw (no_word b e, no_quote b e) (and_false _)
+spoken_ends QuotedName word (b ∷ rest) after is e safe = no_quotes b e
+spoken_ends Literal word (b ∷ rest) after is e safe = no_quote b e
+spoken_ends kind word rest after is e safe = absurd cc
 
 -- ---- what names and literals begin with
 
@@ -161,36 +162,45 @@ word_begun (b ∷ rest) h = record { first = b; rest = rest; bytes = refl; solid
     word_solid : (b : ℕ) → begins_word b ≡ true → is_blank b ≡ false
     word_solid b e = word_free b e
 
-sign_solid : (b : ℕ) → is_blank b ≡ false → Begun (b ∷ [])
-sign_solid b e = record { first = b; rest = []; bytes = refl; solid = e }
-
-pub a_word : (g w : List ℕ) (c : ℕ) (rest : List ℕ) → Gap g → IsWord w → is_utf8 w ≡ true → in_word c ≡ false → (c == 39) ≡ false → Stands (word_token g w) (c ∷ rest)
-a_word g w c rest gap word utf8 ends quote = record {
-  gap = gap_stands g w (c ∷ rest) gap (word_begun w word);
-  token = word_stands w c rest word utf8 ends quote;
-  some = begun_some w (word_begun w word);
+-- what is read of a word before what doesn't go on with it stands before what parts words
+spoken_stands : {g : List ℕ} (kind : TokenKind) (word rest : List ℕ) → is_spoken kind ≡ true → Gap g → Begun word → admits Words rest ≡ true → ((front after : List ℕ) → goes_on kind word after ≡ false → IsTokenAt (front ++ (word ++ after)) (length front) kind word)
+    → Stands (record { gap = g; kind = kind; word = word; start = 0 }) rest
+spoken_stands {g} kind word rest is gap begun e reads = record {
+  gap = gap_stands g word rest gap begun;
+  token = λ front after safe. reads front (rest ++ after) (spoken_ends kind word rest after is e safe);
+  some = begun_some word begun;
 }
 
-pub a_sign : (g : List ℕ) (b : ℕ) (behind : List ℕ) → Gap g → is_sign b ≡ true → is_blank b ≡ false → is_utf8 (b ∷ []) ≡ true → (b == 45) ≡ false → (b == 47) ≡ false → Stands (sign_token g b) behind
-a_sign g b behind gap sign solid utf8 minus slash = record {
-  gap = gap_stands g (b ∷ []) behind gap (sign_solid b solid);
-  token = sign_stands b behind sign utf8 minus slash;
-  some = omega arith;
-}
+pub a_word : {g : List ℕ} (w rest : List ℕ) → Gap g → IsWord w → is_utf8 w ≡ true → admits Words rest ≡ true → Stands (word_token g w) rest
+a_word w rest gap word utf8 e = spoken_stands Word w rest refl gap (word_begun w word) e (λ front after ends. spelling_is_read front w after Word word ends utf8 (λ f. absurd cc))
 
-pub a_name : (g n : List ℕ) (c : ℕ) (rest : List ℕ) → Gap g → IsUtf8 n → in_word c ≡ false → (c == 34) ≡ false → (c == 39) ≡ false → Stands (name_token g n) (c ∷ rest)
-a_name g n c rest gap utf8 ends quote mark = record {
-  gap = gap_stands g (written_name n) (c ∷ rest) gap (name_begun n);
-  token = name_stands n c rest utf8 ends quote mark;
-  some = begun_some (written_name n) (name_begun n);
-}
+kind_spoken : (n : List ℕ) → is_spoken (written_kind n) ≡ true
+unfolding written_kind
+kind_spoken n = elim (cases_Bool (is_bare n && not (is_reserved n))) [ inl is ↦ rw is refl | inr isnt ↦ rw isnt refl ]
 
-pub a_literal : (g t : List ℕ) (c : ℕ) (rest : List ℕ) → Gap g → IsUtf8 t → (c == 39) ≡ false → Stands (literal_token g t) (c ∷ rest)
-a_literal g t c rest gap utf8 quote = record {
-  gap = gap_stands g (written_literal t) (c ∷ rest) gap (literal_begun t);
-  token = literal_stands t c rest utf8 quote;
-  some = begun_some (written_literal t) (literal_begun t);
-}
+pub a_name : {g : List ℕ} (n rest : List ℕ) → Gap g → IsUtf8 n → admits Words rest ≡ true → Stands (name_token g n) rest
+a_name n rest gap utf8 e = spoken_stands (written_kind n) (written_name n) rest (kind_spoken n) gap (name_begun n) e (λ front after ends. (name_is_read front n after utf8 ends).0)
+
+pub a_literal : {g : List ℕ} (t rest : List ℕ) → Gap g → IsUtf8 t → admits Words rest ≡ true → Stands (literal_token g t) rest
+a_literal t rest gap utf8 e = spoken_stands Literal (written_literal t) rest refl gap (literal_begun t) e (λ front after ends. (literal_is_read front t after utf8 ends).0)
+
+-- a sign with which nothing goes on
+unfoldable pub is_single : ℕ → Bool
+unfolding is_sign is_blank is_utf8 chars encode
+is_single b = is_sign b && (is_utf8 (b ∷ []) && not (is_blank b || (b == 45 || b == 47)))
+
+pub a_sign : {g : List ℕ} (b : ℕ) (rest : List ℕ) → Gap g → is_single b ≡ true → Stands (sign_token g b) rest
+unfolding is_single goes_on
+a_sign {g} b rest gap e =
+    let sign = and_parts (is_sign b) (is_utf8 (b ∷ []) && not (is_blank b || (b == 45 || b == 47))) e in
+    let utf8 = and_parts (is_utf8 (b ∷ [])) (not (is_blank b || (b == 45 || b == 47))) sign.1 in
+    let solid = or_parts (is_blank b) (b == 45 || b == 47) (not-true (is_blank b || (b == 45 || b == 47)) utf8.1) in
+    let dashes = or_parts (b == 45) (b == 47) solid.1 in
+    record {
+      gap = gap_stands g (b ∷ []) rest gap (record { first = b; rest = []; bytes = refl; solid = solid.0 });
+      token = λ front after safe. spelling_is_read front (b ∷ []) (rest ++ after) (Sign b) (sign.0, refl) (rw (dashes.0, dashes.1) refl) utf8.0 (λ f. absurd cc);
+      some = omega arith;
+    }
 
 -- ---- what names and literals mean
 
@@ -212,21 +222,17 @@ named bytes h =
     let short : nat_lt 63 (length bytes) ≡ false = let s = h.short in grind (arith, nat_tests) in
     rw (some, no_zeros bytes h.no_zero, short, is_utf8-from_IsUtf8 bytes h.utf8) refl
 
-in_10 : in_word 10 ≡ false
-unfolding in_word begins_word is_digit
-in_10 = refl
-
 -- what the written name means, whatever stands before it
 pub name_means : (n : List ℕ) → IsName n → (t : Lexeme) → t.kind ≡ written_kind n → t.word ≡ written_name n → name_value t ≡ Ok n
 unfolding name_value
 name_means n h t kind word =
-    let r = name_is_read [] n (10 ∷ []) h.utf8 (name_ends n 10 [] in_10 refl refl) in
+    let r = name_is_read [] n [] h.utf8 (spoken_ends (written_kind n) (written_name n) [] [] (kind_spoken n) refl refl) in
     ap (λ (k : TokenKind). name_in (name_of k t.word)) kind ∙ ap (λ (w : List ℕ). name_in (name_of (written_kind n) w)) word ∙ ap name_in r.1 ∙ named n h
 
 pub literal_means : (x : List ℕ) → IsUtf8 x → (t : Lexeme) → t.kind ≡ Literal → t.word ≡ written_literal x → literal_value t ≡ Ok x
 unfolding literal_value goes_on next_is
 literal_means x utf8 t kind word =
-    let r = literal_is_read [] x (10 ∷ []) utf8 refl in
+    let r = literal_is_read [] x [] utf8 refl in
     ap (λ (k : TokenKind). text_in (literal_of k t.word)) kind ∙ ap (λ (w : List ℕ). text_in (literal_of Literal w)) word ∙ ap text_in r.1 ∙ kept x utf8
 
 -- a written name is no sign
@@ -241,12 +247,12 @@ name_no_sign b n =
 bare_is_small : (n : List ℕ) → IsUtf8 n → (is_bare n && not (is_reserved n)) ≡ true → str_to_ascii_lowercase n ≡ n
 unfolding written_kind written_name name_of
 bare_is_small n utf8 is =
-    let r = (name_is_read [] n (10 ∷ []) utf8 (name_ends n 10 [] in_10 refl refl)).1 in
+    let r = (name_is_read [] n [] utf8 (spoken_ends (written_kind n) (written_name n) [] [] (kind_spoken n) refl refl)).1 in
     let e : name_of Word n ≡ Some n = rw is at r in
     cc
 
 -- a written name is no reserved word
-pub name_no_word : (key n : List ℕ) → IsUtf8 n → is_reserved (str_to_ascii_lowercase key) ≡ true → is_keyword_of (written_kind n) (written_name n) key ≡ false
+name_no_word : (key n : List ℕ) → IsUtf8 n → is_reserved (str_to_ascii_lowercase key) ≡ true → is_keyword_of (written_kind n) (written_name n) key ≡ false
 unfolding written_kind written_name is_keyword_of
 name_no_word key n utf8 reserved =
     elim (cases_Bool (is_bare n && not (is_reserved n))) [
@@ -263,3 +269,51 @@ name_no_word key n utf8 reserved =
         by : (b : Bool) → str_eq_ignore_ascii_case n key ≡ b → b ≡ false
         by false e = refl
         by true e = absurd (let r = (and_parts (is_bare n) (not (is_reserved n)) is).1 in let t = same is e in cc)
+
+pub no_key : (key n : List ℕ) → IsUtf8 n → is_reserved (str_to_ascii_lowercase key) ≡ true → (t : Lexeme) → t.kind ≡ written_kind n → t.word ≡ written_name n → is_word key t ≡ false
+unfolding is_word
+no_key key n utf8 reserved t kind word = ap (λ (k : TokenKind). is_keyword_of k t.word key) kind ∙ ap (λ (w : List ℕ). is_keyword_of (written_kind n) w key) word ∙ name_no_word key n utf8 reserved
+
+-- ---- what was read
+
+abbrev name_is : List ℕ → Result (List ℕ) Bool
+name_is n = Ok n
+
+no_zero : (bytes : List ℕ) → list_any (λ b. b == 0) bytes ≡ false → ByRecursion (λ b. b ≢ 0) bytes
+no_zero [] e = tt
+no_zero (b ∷ bytes) e = let h = or_parts (b == 0) (list_any (λ b. b == 0) bytes) e in ((λ (is : b ≡ 0). grind (arith, nat_tests)), no_zero bytes h.1)
+
+pub name_in_is : (o : Option (List ℕ)) (n : List ℕ) → name_in o ≡ Ok n → IsName n
+unfolding name_in
+name_in_is None n e = absurd cc
+name_in_is (Some bytes) n e = by_start (cases_Bool (length bytes == 0 || list_any (λ b. b == 0) bytes))
+  where
+    by_utf8 : (length bytes == 0) ≡ false → list_any (λ b. b == 0) bytes ≡ false → nat_lt 63 (length bytes) ≡ false → (b : Bool) → is_utf8 bytes ≡ b → cond b (name_is bytes) (Err false) ≡ Ok n → IsName n
+    by_utf8 some zeros short true utf8 f =
+        let same : bytes ≡ n = cc in
+        subst IsName same (record { some = grind (arith, nat_tests); short = grind (arith, nat_tests); utf8 = IsUtf8-from_is_utf8 bytes utf8; no_zero = All-from_recursion (λ b. b ≢ 0) bytes (no_zero bytes zeros) })
+    by_utf8 some zeros short false utf8 f = absurd cc
+
+    by_length : (length bytes == 0) ≡ false → list_any (λ b. b == 0) bytes ≡ false → (b : Bool) → nat_lt 63 (length bytes) ≡ b → cond b (Err true) (cond (is_utf8 bytes) (name_is bytes) (Err false)) ≡ Ok n → IsName n
+    by_length some zeros true is f = absurd cc
+    by_length some zeros false is f = by_utf8 some zeros is (is_utf8 bytes) refl f
+
+    by_start : ((length bytes == 0 || list_any (λ b. b == 0) bytes) ≡ true) ⊎ ((length bytes == 0 || list_any (λ b. b == 0) bytes) ≡ false) → IsName n
+    by_start (inl is) = absurd (let f = rw is at e in cc)
+    by_start (inr is) = let h = or_parts (length bytes == 0) (list_any (λ b. b == 0) bytes) is in by_length h.0 h.1 (nat_lt 63 (length bytes)) refl (rw is at e)
+
+pub value_name : (t : Lexeme) (n : List ℕ) → name_value t ≡ Ok n → IsName n
+unfolding name_value
+value_name t n e = name_in_is (name_of t.kind t.word) n e
+
+pub text_value : (t : Lexeme) (v : List ℕ) → literal_value t ≡ Ok v → IsUtf8 v
+unfolding literal_value text_in
+text_value t v e = by_text (literal_of t.kind t.word) e
+  where
+    by_utf8 : (bytes : List ℕ) (b : Bool) → is_utf8 bytes ≡ b → cond b (name_is bytes) (Err false) ≡ Ok v → IsUtf8 v
+    by_utf8 bytes true is f = let same : bytes ≡ v = cc in subst IsUtf8 same (IsUtf8-from_is_utf8 bytes is)
+    by_utf8 bytes false is f = absurd cc
+
+    by_text : (o : Option (List ℕ)) → text_in o ≡ Ok v → IsUtf8 v
+    by_text None f = absurd cc
+    by_text (Some bytes) f = by_utf8 bytes (is_utf8 bytes) refl f

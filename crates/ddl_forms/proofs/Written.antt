@@ -1,523 +1,498 @@
 -- A part of the grammar with the texts of its values: what can be written lies in tokens that spell it, wherever they
--- are put, and what tokens of a text spell can be written. A law for each way to put parts together.
-use Rattle.std.proofs.Common.{◌≡◌, ℕ, ◌+◌, ◌<◌, ◌≤◌, Bool, true, false, not, cond, ◌&&◌, ◌||◌, List, [], ◌∷◌, ◌++◌, length, append_assoc, append-nil, Option, Some, None, refl, sym, ap, subst, ◌∙◌, ◌⊎◌, inl, inr, arith}
-use Rattle.std.specs.Prelude.{◌==◌, nat_lt}
-use Rattle.std.proofs.lemmas.Bool.{and_parts, or_parts, not-true, lt-ltb}
+-- are put, and what tokens of a text spell has a property. A law for each way to put parts together.
+use Rattle.std.proofs.Common.{◌≡◌, ℕ, zero, suc, ◌<◌, Bool, true, false, not, cond, ◌&&◌, ◌||◌, List, [], ◌∷◌, ◌++◌, length, append_assoc, append-nil, Option, Some, None, Result, Ok, Err, refl, sym, ap, subst, ◌∙◌, ◌⊎◌, inl, inr, arith}
+use Rattle.std.specs.Prelude.{◌==◌}
+use Rattle.std.proofs.lemmas.Bool.{and_parts, and_from, not-true}
 use Rattle.std.proofs.lemmas.Bool.Decides.{nat_tests}
 use Rattle.std.specs.List.{list_all, AllByRecursion}
 use Rattle.std.specs.Str.{IsUtf8, is_utf8, chars, str_to_ascii_lowercase}
 use Rattle.std.proofs.Math.Utf8.{encode}
-use Rattle.sql_lex.specs.Bytes.{is_blank, is_digit, begins_word, in_word, is_sign as is_sign_byte}
-use Rattle.sql_lex.specs.declared.token.TokenKind.TheVariants.{Word}
+use Rattle.sql_lex.specs.declared.token.TokenKind.{TokenKind}
+use Rattle.sql_lex.specs.declared.token.TokenKind.TheVariants.{Word, Literal, Sign}
+use Rattle.sql_lex.specs.Bytes.{is_digit, begins_word, in_word}
 use Rattle.sql_lex.specs.Meaning.{is_keyword_of}
+use Rattle.sql_lex.specs.Spelling.{IsWord}
 use Rattle.sql_lex.specs.Written.{written_name, written_literal}
+use Rattle.sql_lex.specs.ReadBack.{written_kind}
 use Rattle.copy_text.specs.Texts.{IsName}
+use Rattle.cat_model.specs.declared.object.QName.{QName}
 use Rattle.ddl_write.specs.Paths.{path, joined}
-use Rattle.ddl_parts.specs.Lexemes.{Lexeme, is_word, is_sign, spelled}
-use Rattle.ddl_parts.specs.Parts.{Part, Items, Many, no_more, one_more, many, mark, seen, choose, nothing, optional, wider, ◌then◌, ◌▸◌, ◌◂◌}
-use Rattle.ddl_parts.specs.Leaves.{name, literal, qualified}
-use Rattle.ddl_parts.specs.Expressions.{expression}
-use Rattle.ddl_forms.specs.Texts.{semicolon, IsPath, IsExpressionText}
-use Rattle.ddl_forms.proofs.Closing.{only_last, Closes, mark_closes, then_closes, seen_closes, choose_closes, lead_closes}
-use Rattle.ddl_forms.proofs.Kept.{AllCame, came_front, came_behind, spelled-append}
-use Rattle.ddl_forms.proofs.RunTexts.{placed-append}
-use Rattle.ddl_forms.proofs.Standing.{is_safe_byte, Stood, placed}
-use Rattle.ddl_forms.proofs.Tokens.{Gap, none}
-use Rattle.ddl_forms.proofs.Putting.{begins_by, parts_words, Follows, IsPut, IsKey, IsWrittenSign, behind, put_as, then_put, seen_put, lead_put, close_put, nothing_put, word_put, sign_put, name_put, literal_put, path_put, expression_put}
-use Rattle.ddl_forms.proofs.Yielding.{Yields, then_yields, seen_yields, any_yields, lead_yields, end_yields, choose_yields, name_yields, literal_yields, qualified_yields, expression_yields}
+use Rattle.ddl_parts.specs.Lexemes.{Lexeme, never, is_word, is_sign, is_sign_kind, spelled, source}
+use Rattle.ddl_parts.specs.Parts.{Part, Items, Many, no_more, one_more, Machine, Runs, runs_of, one, many, mark, stop, seen, choose, nothing, wider, ◌then◌, ◌▸◌, ◌◂◌}
+use Rattle.ddl_parts.specs.Leaves.{name, name_value, literal, literal_value, qualified}
+use Rattle.ddl_parts.specs.Pieces.{lexemes}
+use Rattle.ddl_parts.specs.Collecting.{collected}
+use Rattle.ddl_forms.specs.Texts.{semicolon, IsPath, IsRunText}
+use Rattle.ddl_forms.proofs.Behind.{Behind, Anything, Words, Safe, End, admits, covers, covers_all, covers_same, through, admitted, looser, tighter, tight, Opens, opens_of, opened, then_opens, one_opens, other_opens}
+use Rattle.ddl_forms.proofs.Closing.{ends_with, ends_append, Closes, passed}
+use Rattle.ddl_forms.proofs.Kept.{AllCame, came_front, came_behind}
+use Rattle.ddl_forms.proofs.RunTexts.{IsPlainMachine, kinds, run_kept, run_read, plain_last}
+use Rattle.ddl_forms.proofs.Standing.{Stands, Stood, placed}
+use Rattle.ddl_forms.proofs.Tokens.{Gap, none, space, a_word, a_name, a_literal, is_single, a_sign, name_means, literal_means, name_no_sign, value_name, text_value}
+use Rattle.ddl_forms.proofs.Putting.{Follows, IsPut, followed, begun, same_text, put_as, none_put, one_put, then_put, joined-append, Yields}
 
--- what may stand behind: anything, or nothing
-abbrev pub anything : List ℕ → Bool
-anything rest = true
-
-abbrev pub is_end : List ℕ → Bool
-is_end [] = true
-is_end (b ∷ rest) = false
-
--- Which values of a part can be written and how, and what may stand behind. The text is given in one way by its parts
--- and in another as pieces one after another, so that texts put together otherwise compute to the same. Where it is
--- closed, each spelling of a value ends with a semicolon.
+-- Which values of a part can be written and how, by the proof that they can; what may stand behind, and what the text
+-- begins with, or that it may be empty; and what is known of a value that was read. Where it is closed, each spelling
+-- of a value ends with a semicolon.
 pub record Written {A : Type 0} (p : Part A) : Type 1 where
   pub Fit : A → Type 0
-  pub text : A → List ℕ
-  pub pieces : A → List (List ℕ)
-  pub same : (v : A) → text v ≡ joined (pieces v)
-  pub after : List ℕ → Bool
+  pub Is : A → Type 0
+  pub pieces : (v : A) → Fit v → List (List ℕ)
+  pub after : Behind
+  pub opens : Behind
+  pub lacks : Bool
   pub closed : Bool
-  pub put : (v : A) → Fit v → (others : List Lexeme) → Follows others → after (spelled others) ≡ true → IsPut p v (text v) others
-  pub made : Yields Fit p
+  pub put : (v : A) (fit : Fit v) (others : List Lexeme) → Follows others → admits after (spelled others) ≡ true → IsPut p v (joined (pieces v fit)) others
+  pub begins : (v : A) (fit : Fit v) → Opens lacks opens (joined (pieces v fit))
+  pub made : Yields Is p
   pub closes : closed ≡ true → Closes semicolon p
 
-pub one_piece : (text : List ℕ) → text ≡ joined (text ∷ [])
-one_piece text = sym (append-nil text)
+pub not_closed : {A : Type 0} (p : Part A) → false ≡ true → Closes semicolon p
+not_closed p e = absurd cc
 
-pub joined-append : (a b : List (List ℕ)) → joined (a ++ b) ≡ joined a ++ joined b
-joined-append [] b = refl
-joined-append (x ∷ a) b = ap (λ (y : List ℕ). x ++ y) (joined-append a b) ∙ sym (append_assoc x (joined a) (joined b))
-
-pub two_texts : (a b : List ℕ) (x y : List (List ℕ)) → a ≡ joined x → b ≡ joined y → a ++ b ≡ joined (x ++ y)
-two_texts a b x y e f = ap (λ (t : List ℕ). t ++ b) e ∙ ap (λ (t : List ℕ). joined x ++ t) f ∙ sym (joined-append x y)
-
-pub no_semicolon : {A : Type 0} (p : Part A) → false ≡ true → Closes semicolon p
-no_semicolon p e = absurd cc
-
--- a part whose text is one piece, and that doesn't end with a semicolon
-abbrev pub leaf_as : {A : Type 0} → {p : Part A} → (Fit : A → Type 0) → (text : A → List ℕ) → (after : List ℕ → Bool) → ((v : A) → Fit v → (others : List Lexeme) → Follows others → after (spelled others) ≡ true → IsPut p v (text v) others) → Yields Fit p → Written p
-leaf_as {p = p} Fit text after put made = record {
+-- a part that is put in one piece behind a gap, and doesn't end with a semicolon
+abbrev pub leaf_as : {A : Type 0} → {p : Part A} → (Fit Is : A → Type 0) → (g : List ℕ) → (text : (v : A) → Fit v → List ℕ) → (after : Behind) → ((v : A) (fit : Fit v) (others : List Lexeme) → Follows others → admits after (spelled others) ≡ true → IsPut p v (g ++ text v fit) others) → Yields Is p → Written p
+leaf_as {p = p} Fit Is g text after put made = record {
   Fit = Fit;
-  text = text;
-  pieces = λ v. text v ∷ [];
-  same = λ v. one_piece (text v);
+  Is = Is;
+  pieces = λ v fit. g ∷ text v fit ∷ [];
   after = after;
+  opens = opens_of g;
+  lacks = false;
   closed = false;
-  put = put;
+  put = λ v fit others follows e. same_text (g ++ text v fit) (g ++ (text v fit ++ [])) (ap (λ (x : List ℕ). g ++ x) (sym (append-nil (text v fit)))) (put v fit others follows e);
+  begins = λ v fit. opened g (text v fit ++ []);
   made = made;
-  closes = no_semicolon p;
+  closes = not_closed p;
 }
 
--- what may stand behind the one stands behind it where this is written
-abbrev pub Meets : {A : Type 0} → {p : Part A} → (List ℕ → Bool) → Written p → Type 0
-Meets {A} test w = (v : A) → w.Fit v → (rest : List ℕ) → w.after rest ≡ true → test (w.text v ++ rest) ≡ true
+-- ---- one token
 
-pub begun_as : {A : Type 0} {p : Part A} {v : A} {text : List ℕ} {others : List Lexeme} (test : List ℕ → Bool) (k : IsPut p v text others) → test (text ++ spelled others) ≡ true → test (spelled (k.tokens ++ others)) ≡ true
-begun_as {others = others} test k e = ap test (spelled-append k.tokens others ∙ ap (λ (x : List ℕ). x ++ spelled others) k.bytes) ∙ e
+pub one_puts : {A : Type 0} {value : Lexeme → Result A Bool} {g : List ℕ} (kind : TokenKind) (word : List ℕ) (v : A) (others : List Lexeme) → Stands (record { gap = g; kind = kind; word = word; start = 0 }) (spelled others) → is_sign_kind 59 kind ≡ false
+    → ((t : Lexeme) → t.kind ≡ kind → t.word ≡ word → value t ≡ Ok v) → Follows others → IsPut (one value) v (g ++ word) others
+unfolding is_sign
+one_puts {value = value} {g = g} kind word v others stands plain means follows =
+    one_put (one value) v (record { gap = g; kind = kind; word = word; start = 0 }) others stands (inl plain) (λ at. (_, refl, means _ refl refl)) follows
+
+-- a word that can be written
+unfoldable pub is_bare_word : List ℕ → Bool
+unfolding begins_word in_word is_digit is_utf8 chars encode
+is_bare_word [] = false
+is_bare_word (b ∷ w) = begins_word b && (list_all in_word w && is_utf8 (b ∷ w))
+
+pub bare_word : (w : List ℕ) → is_bare_word w ≡ true → IsWord w × (is_utf8 w ≡ true)
+unfolding is_bare_word
+bare_word [] e = absurd cc
+bare_word (b ∷ w) e =
+    let first = and_parts _ _ e in
+    let rest = and_parts _ _ first.1 in
+    ((first.0, rest.0), rest.1)
+
+-- a token that is written as a word, a name or a literal: what it means, and what one that was read is
+abbrev pub word_said : {A : Type 0} → {value : Lexeme → Result A Bool} → {g : List ℕ} → Gap g → (Fit Is : A → Type 0) → (word : (v : A) → Fit v → List ℕ) → ((v : A) (fit : Fit v) → is_bare_word (word v fit) ≡ true) → ((v : A) (fit : Fit v) (t : Lexeme) → t.kind ≡ Word → t.word ≡ word v fit → value t ≡ Ok v)
+    → ((t : Lexeme) (v : A) → value t ≡ Ok v → Is v) → Written (one value)
+word_said {g = g} gap Fit Is word bare means made =
+    leaf_as Fit Is g word Words
+    (λ v fit others follows e. one_puts Word (word v fit) v others (a_word (word v fit) (spelled others) gap (bare_word (word v fit) (bare v fit)).0 (bare_word (word v fit) (bare v fit)).1 e) refl (means v fit) follows) (λ v ts r came spells. made spells.0 v spells.2)
+
+abbrev pub name_said : {A : Type 0} → {value : Lexeme → Result A Bool} → {g : List ℕ} → Gap g → (Fit Is : A → Type 0) → (name : A → List ℕ) → ((v : A) → Fit v → IsName (name v)) → ((v : A) (fit : Fit v) (t : Lexeme) → t.kind ≡ written_kind (name v) → t.word ≡ written_name (name v) → name_value t ≡ Ok (name v) → value t ≡ Ok v)
+    → ((t : Lexeme) (v : A) → value t ≡ Ok v → Is v) → Written (one value)
+name_said {g = g} gap Fit Is name is means made =
+    leaf_as Fit Is g (λ v fit. written_name (name v)) Words
+    (λ v fit others follows e. one_puts (written_kind (name v)) (written_name (name v)) v others (a_name (name v) (spelled others) gap (is v fit).utf8 e) (name_no_sign 59 (name v)) (λ t kind word. means v fit t kind word (name_means (name v) (is v fit) t kind word)) follows)
+    (λ v ts r came spells. made spells.0 v spells.2)
+
+abbrev pub literal_said : {A : Type 0} → {value : Lexeme → Result A Bool} → {g : List ℕ} → Gap g → (Fit : A → Type 0) → (text : A → List ℕ) → ((v : A) → Fit v → IsUtf8 (text v)) → ((v : A) → Fit v → (t : Lexeme) → literal_value t ≡ Ok (text v) → value t ≡ Ok v)
+    → ((t : Lexeme) (v : A) → value t ≡ Ok v → Fit v) → Written (one value)
+literal_said {g = g} gap Fit text utf8 means made =
+    leaf_as Fit Fit g (λ v fit. written_literal (text v)) Words
+    (λ v fit others follows e. one_puts Literal (written_literal (text v)) v others (a_literal (text v) (spelled others) gap (utf8 v fit) e) refl (λ t kind word. means v fit t (literal_means (text v) (utf8 v fit) t kind word)) follows)
+    (λ v ts r came spells. made spells.0 v spells.2)
+
+abbrev pub name_as : {g : List ℕ} → Gap g → Written name
+name_as gap = name_said gap IsName IsName (λ n. n) (λ n is. is) (λ n is t kind word e. e) value_name
+
+abbrev pub literal_as : {g : List ℕ} → Gap g → Written literal
+literal_as gap = literal_said gap IsUtf8 (λ t. t) (λ t is. is) (λ v is t e. e) text_value
 
 -- ---- key words and signs
 
 -- a token that says no more
 pub record Mark (test : Lexeme → Bool) : Type 0 where
-  pub bytes : List ℕ
   pub pieces : List (List ℕ)
-  pub same : bytes ≡ joined pieces
-  pub after : List ℕ → Bool
+  pub after : Behind
+  pub opens : Behind
   pub closed : Bool
-  pub put : (others : List Lexeme) → Follows others → after (spelled others) ≡ true → IsPut (mark test) tt bytes others
+  pub put : (others : List Lexeme) → Follows others → admits after (spelled others) ≡ true → IsPut (mark test) tt (joined pieces) others
+  pub begins : Opens false opens (joined pieces)
   pub closes : closed ≡ true → Closes semicolon (mark test)
 
 -- the word that is written is the key word
 unfoldable pub is_key : List ℕ → List ℕ → Bool
-unfolding begins_word in_word is_digit is_utf8 chars encode is_keyword_of
-is_key key [] = false
-is_key key (b ∷ w) = begins_word b && (list_all in_word w && (is_utf8 (b ∷ w) && is_keyword_of Word (b ∷ w) key))
+unfolding is_bare_word is_keyword_of
+is_key key w = is_bare_word w && is_keyword_of Word w key
 
-pub key_is : (key w : List ℕ) → is_key key w ≡ true → IsKey key w
-unfolding is_key
-key_is key [] e = absurd cc
-key_is key (b ∷ w) e =
-    let first = and_parts _ _ e in
-    let rest = and_parts _ _ first.1 in
-    let last = and_parts _ _ rest.1 in
-    record { word = (first.0, rest.0); utf8 = last.0; same = last.1 }
+pub key_put : {g : List ℕ} → Gap g → (key w : List ℕ) → is_key key w ≡ true → (others : List Lexeme) → Follows others → admits Words (spelled others) ≡ true → IsPut (mark (is_word key)) tt (g ++ (w ++ [])) others
+unfolding is_key is_word
+key_put {g} gap key w e others follows h =
+    let is = and_parts (is_bare_word w) (is_keyword_of Word w key) e in
+    let bare = bare_word w is.0 in
+    let k : IsPut (mark (is_word key)) tt (g ++ w) others =
+    one_puts Word w tt others (a_word w (spelled others) gap bare.0 bare.1 h) refl (λ t kind word. rw (kind, word, is.1) refl) follows in
+    same_text (g ++ w) (g ++ (w ++ [])) (ap (λ (x : List ℕ). g ++ x) (sym (append-nil w))) k
 
 -- a key word, as it is written
 abbrev pub word_as : {g : List ℕ} → Gap g → (w : List ℕ) → is_key (str_to_ascii_lowercase w) w ≡ true → Mark (is_word (str_to_ascii_lowercase w))
 word_as {g} gap w is = record {
-  bytes = g ++ w;
   pieces = g ∷ w ∷ [];
-  same = ap (λ (x : List ℕ). g ++ x) (one_piece w);
-  after = begins_by parts_words;
+  after = Words;
+  opens = opens_of g;
   closed = false;
-  put = λ others follows e. word_put (str_to_ascii_lowercase w) w g others (key_is (str_to_ascii_lowercase w) w is) gap follows e;
-  closes = no_semicolon (mark (is_word (str_to_ascii_lowercase w)));
+  put = key_put gap (str_to_ascii_lowercase w) w is;
+  begins = opened g (w ++ []);
+  closes = not_closed (mark (is_word (str_to_ascii_lowercase w)));
 }
 
--- a sign that is no semicolon, no minus and no slash
+same_byte : (b : ℕ) → (b == b) ≡ true
+same_byte b = grind (arith, nat_tests)
+
+sign_put : {g : List ℕ} → Gap g → (b : ℕ) → is_single b ≡ true → (others : List Lexeme) → (59 == b) ≡ false ⊎ (others ≡ []) → Follows others → IsPut (mark (is_sign b)) tt ((g ++ b ∷ []) ++ []) others
+unfolding is_sign
+sign_put {g} gap b e others plain follows =
+    same_text (g ++ b ∷ []) ((g ++ b ∷ []) ++ []) (sym (append-nil (g ++ b ∷ [])))
+    (one_put (mark (is_sign b)) tt (record { gap = g; kind = Sign b; word = b ∷ []; start = 0 }) others (a_sign b (spelled others) gap e) plain (λ at. (_, refl, ap if_passed (same_byte b))) follows)
+  where
+    if_passed : Bool → Result (Unit {0}) Bool
+    if_passed c = cond c (Ok tt) (Err false)
+
+-- a sign that is no semicolon
 unfoldable pub is_plain : ℕ → Bool
-unfolding is_sign_byte is_blank is_utf8 chars encode
-is_plain b = is_sign_byte b && (is_utf8 (b ∷ []) && not (is_blank b || (b == 45 || (b == 47 || 59 == b))))
+unfolding is_single
+is_plain b = is_single b && not (59 == b)
 
-pub is_it : (m n : ℕ) → m ≡ n → (m == n) ≡ true
-is_it m n e = grind (arith, nat_tests)
-
-pub plain_sign : (b : ℕ) → is_plain b ≡ true → IsWrittenSign b × ((59 == b) ≡ false)
+pub plain_put : {g : List ℕ} → Gap g → (b : ℕ) → is_plain b ≡ true → (others : List Lexeme) → Follows others → IsPut (mark (is_sign b)) tt ((g ++ b ∷ []) ++ []) others
 unfolding is_plain
-plain_sign b e =
-    let first = and_parts _ _ e in
-    let rest = and_parts _ _ first.1 in
-    let solid = or_parts _ _ (not-true _ rest.1) in
-    let minus = or_parts _ _ solid.1 in
-    let slash = or_parts _ _ minus.1 in
-    (record { sign = first.0; solid = solid.0; utf8 = rest.0; minus = minus.0; slash = slash.0; same = is_it b b refl }, slash.1)
+plain_put gap b e others follows = let is = and_parts (is_single b) (not (59 == b)) e in sign_put gap b is.0 others (inl (not-true _ is.1)) follows
 
 abbrev pub sign_as : {g : List ℕ} → Gap g → (b : ℕ) → is_plain b ≡ true → Mark (is_sign b)
 sign_as {g} gap b is = record {
-  bytes = g ++ b ∷ [];
-  pieces = g ∷ (b ∷ []) ∷ [];
-  same = refl;
-  after = anything;
+  pieces = (g ++ b ∷ []) ∷ [];
+  after = Anything;
+  opens = opens_of (g ++ b ∷ []);
   closed = false;
-  put = λ others follows e. sign_put b g others (plain_sign b is).0 (inl (plain_sign b is).1) gap follows;
-  closes = no_semicolon (mark (is_sign b));
+  put = λ others follows e. plain_put gap b is others follows;
+  begins = opened (g ++ b ∷ []) [];
+  closes = not_closed (mark (is_sign b));
 }
 
-pub none_behind : (others : List Lexeme) → Stood others → is_end (spelled others) ≡ true → others ≡ []
+pub signs : (is_plain 40 ≡ true) × (is_plain 41 ≡ true) × (is_plain 44 ≡ true) × (is_plain 46 ≡ true) × (is_plain 61 ≡ true)
+unfolding is_plain
+signs = (refl, refl, refl, refl, refl)
+
+abbrev pub opening_as : {g : List ℕ} → Gap g → Mark (is_sign 40)
+opening_as gap = sign_as gap 40 signs.0
+
+abbrev pub closing_as : {g : List ℕ} → Gap g → Mark (is_sign 41)
+closing_as gap = sign_as gap 41 signs.1
+
+abbrev pub comma_as : Mark (is_sign 44)
+comma_as = sign_as none 44 signs.2
+
+abbrev pub dot_as : Mark (is_sign 46)
+dot_as = sign_as none 46 signs.3
+
+abbrev pub equals_as : Mark (is_sign 61)
+equals_as = sign_as space 61 signs.4
+
+none_behind : (others : List Lexeme) → Stood others → admits End (spelled others) ≡ true → others ≡ []
 none_behind [] stood e = refl
 none_behind (t ∷ ts) stood e = by t.gap t.word stood.0.some e
   where
-    by : (gap word : List ℕ) → 0 < length word → is_end (gap ++ (word ++ spelled ts)) ≡ true → t ∷ ts ≡ []
+    by : (gap word : List ℕ) → 0 < length word → admits End (gap ++ (word ++ spelled ts)) ≡ true → t ∷ ts ≡ []
     by [] [] some e = absurd (omega arith)
     by [] (b ∷ word) some e = absurd cc
     by (b ∷ gap) word some e = absurd cc
 
-pub semicolon_sign : IsWrittenSign 59
-unfolding is_sign_byte is_blank is_utf8 chars encode
-semicolon_sign = record { sign = refl; solid = refl; utf8 = refl; minus = refl; slash = refl; same = refl }
+pub end_put : (others : List Lexeme) → Follows others → admits End (spelled others) ≡ true → IsPut (mark semicolon) tt (59 ∷ []) others
+unfolding is_single
+end_put others follows e = sign_put none 59 refl others (inr (none_behind others follows.stood e)) follows
+
+pub mark_closes : (test : Lexeme → Bool) → Closes test (mark test)
+mark_closes test v ts spells = ap (ends_with test) spells.1 ∙ passed v (test spells.0) spells.2
 
 -- the semicolon that ends a statement
 abbrev pub ending : Mark semicolon
 ending = record {
-  bytes = 59 ∷ [];
   pieces = (59 ∷ []) ∷ [];
-  same = refl;
-  after = is_end;
+  after = End;
+  opens = Safe;
   closed = true;
-  put = λ others follows e. sign_put 59 [] others semicolon_sign (inr (none_behind others follows.stood e)) none follows;
+  put = end_put;
+  begins = opened (59 ∷ []) [];
   closes = λ e. mark_closes semicolon;
 }
 
 abbrev pub mark_as : {test : Lexeme → Bool} → Mark test → Written (mark test)
-mark_as {test} m = record {
+mark_as m = record {
   Fit = λ u. Unit {0};
-  text = λ u. m.bytes;
-  pieces = λ u. m.pieces;
-  same = λ u. m.same;
+  Is = λ u. Unit {0};
+  pieces = λ u fit. m.pieces;
   after = m.after;
+  opens = m.opens;
+  lacks = false;
   closed = m.closed;
-  put = λ u fit others follows e. m.put others follows e;
-  made = any_yields (mark test);
+  put = λ u fit. m.put;
+  begins = λ u fit. m.begins;
+  made = λ u ts r came spells. tt;
   closes = m.closes;
-}
-
--- ---- parts of one token, and paths and expressions
-
-abbrev pub name_as : {g : List ℕ} → Gap g → Written name
-name_as {g} gap = leaf_as IsName (λ n. g ++ written_name n) (begins_by parts_words) (λ n is others follows e. name_put n g others is gap follows e) name_yields
-
-abbrev pub literal_as : {g : List ℕ} → Gap g → Written literal
-literal_as {g} gap = leaf_as IsUtf8 (λ t. g ++ written_literal t) (begins_by parts_words) (λ t is others follows e. literal_put t g others is gap follows e) literal_yields
-
-abbrev pub path_as : {g : List ℕ} → Gap g → Written qualified
-path_as {g} gap = leaf_as IsPath (λ q. g ++ path q) (begins_by parts_words) (λ q is others follows e. path_put q g others is gap follows e) qualified_yields
-
-abbrev pub expression_as : {g : List ℕ} → Gap g → Written expression
-expression_as {g} gap = leaf_as IsExpressionText (λ v. g ++ v) (begins_by is_safe_byte) (λ v is others follows e. expression_put v g others is gap follows e) expression_yields
-
--- ---- a part that ends its statement
-
-pub ended_puts : {A : Type 0} {p : Part A} (Fit : A → Type 0) (text : A → List ℕ) → ((v : A) → Fit v → IsPut p v (text v) []) → (v : A) → Fit v → (others : List Lexeme) → Follows others → is_end (spelled others) ≡ true → IsPut p v (text v) others
-ended_puts {p = p} Fit text put v fit others follows e = subst (λ (us : List Lexeme). IsPut p v (text v) us) (sym (none_behind others follows.stood e)) (put v fit)
-
--- the pieces of its text, and how it is put where nothing is behind it
-abbrev pub ended_as : {A : Type 0} → {p : Part A} → (Fit : A → Type 0) → (pieces : A → List (List ℕ)) → ((v : A) → Fit v → IsPut p v (joined (pieces v)) []) → Yields Fit p → Closes semicolon p → Written p
-ended_as Fit pieces put made closes = record {
-  Fit = Fit;
-  text = λ v. joined (pieces v);
-  pieces = pieces;
-  same = λ v. refl;
-  after = is_end;
-  closed = true;
-  put = ended_puts Fit (λ v. joined (pieces v)) put;
-  made = made;
-  closes = λ e. closes;
 }
 
 -- ---- one after another
 
-pub then_puts : {A B : Type 0} {p : Part A} {q : Part B} (a : Written p) (b : Written q) → Meets a.after b → (v : A × B) → a.Fit v.0 × b.Fit v.1 → (others : List Lexeme) → Follows others → b.after (spelled others) ≡ true → IsPut (p then q) v (a.text v.0 ++ b.text v.1) others
-then_puts {p = p} {q = q} a b meets v fit others follows e =
-    let k = b.put v.1 fit.1 others follows e in
-    then_put p q v.0 v.1 (a.text v.0) (b.text v.1) others k (a.put v.0 fit.0 (k.tokens ++ others) (behind k) (begun_as a.after k (meets v.1 fit.1 (spelled others) e)))
+-- this may stand before each text of a part
+abbrev pub meets : {A : Type 0} → {p : Part A} → Behind → Written p → Bool
+meets m w = covers m w.opens && covers (cond w.lacks m Anything) w.after
 
-abbrev pub then_as : {A B : Type 0} → {p : Part A} → {q : Part B} → (a : Written p) → (b : Written q) → Meets a.after b → Written (p then q)
-then_as {p = p} {q = q} a b meets = record {
+pub met : {A : Type 0} {p : Part A} (w : Written p) (m : Behind) → meets m w ≡ true → (v : A) (fit : w.Fit v) (rest : List ℕ) → admits w.after rest ≡ true → admits m (joined (w.pieces v fit) ++ rest) ≡ true
+met w m e v fit rest h = let c = and_parts (covers m w.opens) (covers (cond w.lacks m Anything) w.after) e in w.begins v fit m c.0 rest (admitted (cond w.lacks m Anything) w.after rest c.1 h)
+
+pub then_puts : {A B : Type 0} {p : Part A} {q : Part B} (a : Written p) (b : Written q) → meets a.after b ≡ true → (v : A) (w : B) (fit : a.Fit v) (other : b.Fit w) (others : List Lexeme) → Follows others → admits b.after (spelled others) ≡ true
+    → IsPut (p then q) (v, w) (joined (a.pieces v fit ++ b.pieces w other)) others
+then_puts {p = p} {q = q} a b e v w fit other others follows h =
+    let k = b.put w other others follows h in
+    then_put p q v w (a.pieces v fit) (b.pieces w other) others k (a.put v fit (k.tokens ++ others) (followed k) (begun a.after k (met b a.after e w other (spelled others) h)))
+
+pub then_begins : {A B : Type 0} {p : Part A} {q : Part B} (a : Written p) (b : Written q) (v : A) (w : B) (fit : a.Fit v) (other : b.Fit w) → Opens (cond a.lacks b.lacks false) (cond a.lacks (looser a.opens b.opens) a.opens) (joined (a.pieces v fit ++ b.pieces w other))
+then_begins a b v w fit other =
+    subst (Opens (cond a.lacks b.lacks false) (cond a.lacks (looser a.opens b.opens) a.opens)) (sym (joined-append (a.pieces v fit) (b.pieces w other)))
+    (then_opens a.lacks b.lacks a.opens b.opens (joined (a.pieces v fit)) (joined (b.pieces w other)) (a.begins v fit) (b.begins w other))
+
+pub then_made : {A B : Type 0} (p : Part A) (q : Part B) (P : A → Type 0) (Q : B → Type 0) → Yields P p → Yields Q q → Yields (λ v. P v.0 × Q v.1) (p then q)
+then_made p q P Q f g v ts r came spells =
+    let a = spells.0 in
+    let b = spells.1 in
+    let parts : AllCame (a ++ b) r = subst (λ (us : List Lexeme). AllCame us r) spells.2 came in
+    (f v.0 a _ (came_front a b r parts) spells.3, g v.1 b r (came_behind a b r parts) spells.4)
+
+pub then_closes : {A B : Type 0} (p : Part A) (q : Part B) → Closes semicolon q → Closes semicolon (p then q)
+then_closes p q closes v ts spells = ap (ends_with semicolon) spells.2 ∙ ends_append semicolon spells.0 spells.1 (closes v.1 spells.1 spells.4)
+
+abbrev pub then_as : {A B : Type 0} → {p : Part A} → {q : Part B} → (a : Written p) → (b : Written q) → meets a.after b ≡ true → Written (p then q)
+then_as {p = p} {q = q} a b e = record {
   Fit = λ v. a.Fit v.0 × b.Fit v.1;
-  text = λ v. a.text v.0 ++ b.text v.1;
-  pieces = λ v. a.pieces v.0 ++ b.pieces v.1;
-  same = λ v. two_texts (a.text v.0) (b.text v.1) (a.pieces v.0) (b.pieces v.1) (a.same v.0) (b.same v.1);
+  Is = λ v. a.Is v.0 × b.Is v.1;
+  pieces = λ v fit. a.pieces v.0 fit.0 ++ b.pieces v.1 fit.1;
   after = b.after;
+  opens = cond a.lacks (looser a.opens b.opens) a.opens;
+  lacks = cond a.lacks b.lacks false;
   closed = b.closed;
-  put = then_puts a b meets;
-  made = then_yields a.Fit b.Fit p q a.made b.made;
-  closes = λ e. then_closes semicolon p q (b.closes e);
+  put = λ v fit. then_puts a b e v.0 v.1 fit.0 fit.1;
+  begins = λ v fit. then_begins a b v.0 v.1 fit.0 fit.1;
+  made = then_made p q a.Is b.Is a.made b.made;
+  closes = λ e. then_closes p q (b.closes e);
 }
 
-pub lead_puts : {A : Type 0} {test : Lexeme → Bool} {p : Part A} (m : Mark test) (w : Written p) → Meets m.after w → (v : A) → w.Fit v → (others : List Lexeme) → Follows others → w.after (spelled others) ≡ true → IsPut (test ▸ p) v (m.bytes ++ w.text v) others
-lead_puts {test = test} {p = p} m w meets v fit others follows e =
-    let k = w.put v fit others follows e in
-    lead_put test p v m.bytes (w.text v) others k (m.put (k.tokens ++ others) (behind k) (begun_as m.after k (meets v fit (spelled others) e)))
-
--- a token that says no more, before a part
-abbrev pub lead_as : {A : Type 0} → {test : Lexeme → Bool} → {p : Part A} → (m : Mark test) → (w : Written p) → Meets m.after w → Written (test ▸ p)
-lead_as {test = test} {p = p} m w meets = record {
+-- a token that says no more, before a part or behind it
+abbrev pub lead_as : {A : Type 0} → {test : Lexeme → Bool} → {p : Part A} → (m : Mark test) → (w : Written p) → meets m.after w ≡ true → Written (test ▸ p)
+lead_as {test = test} {p = p} m w e = record {
   Fit = w.Fit;
-  text = λ v. m.bytes ++ w.text v;
-  pieces = λ v. m.pieces ++ w.pieces v;
-  same = λ v. two_texts m.bytes (w.text v) m.pieces (w.pieces v) m.same (w.same v);
+  Is = w.Is;
+  pieces = λ v fit. m.pieces ++ w.pieces v fit;
   after = w.after;
+  opens = m.opens;
+  lacks = false;
   closed = w.closed;
-  put = lead_puts m w meets;
-  made = lead_yields w.Fit test p w.made;
-  closes = λ e. lead_closes semicolon test p (w.closes e);
+  put = λ v fit others follows h. put_as (mark test then p) (test ▸ p) (tt, v) v (joined (m.pieces ++ w.pieces v fit)) others (then_puts (mark_as m) w e tt v tt fit others follows h) (λ ts s. ((tt, v), refl, s));
+  begins = λ v fit. then_begins (mark_as m) w tt v tt fit;
+  made = λ v ts r came spells. subst w.Is (sym spells.1) (then_made (mark test) p (λ u. Unit {0}) w.Is (mark_as m).made w.made spells.0 ts r came spells.2).1;
+  closes = λ e v ts spells. then_closes (mark test) p (w.closes e) spells.0 ts spells.2;
 }
 
--- what may stand behind a part stands behind it where a token does
-abbrev pub Before : {A : Type 0} → {test : Lexeme → Bool} → {p : Part A} → Written p → Mark test → Type 0
-Before w m = (rest : List ℕ) → m.after rest ≡ true → w.after (m.bytes ++ rest) ≡ true
+pub meets_mark : {test : Lexeme → Bool} (b : Behind) (m : Mark test) → covers b m.opens ≡ true → meets b (mark_as m) ≡ true
+meets_mark b m e = and_from (covers b m.opens) (covers Anything m.after) e (covers_all m.after)
 
-pub close_puts : {A : Type 0} {test : Lexeme → Bool} {p : Part A} (w : Written p) (m : Mark test) → Before w m → (v : A) → w.Fit v → (others : List Lexeme) → Follows others → m.after (spelled others) ≡ true → IsPut (p ◂ test) v (w.text v ++ m.bytes) others
-close_puts {test = test} {p = p} w m meets v fit others follows e =
-    let k = m.put others follows e in
-    close_put p test v (w.text v) m.bytes others k (w.put v fit (k.tokens ++ others) (behind k) (begun_as w.after k (meets (spelled others) e)))
-
-pub close_closes : {A : Type 0} {test : Lexeme → Bool} (p : Part A) (m : Mark test) → m.closed ≡ true → Closes semicolon (p ◂ test)
-close_closes {test = test} p m e = seen_closes semicolon (λ x. x.0) (p then mark test) (then_closes semicolon p (mark test) (m.closes e))
-
--- and behind it
-abbrev pub close_as : {A : Type 0} → {test : Lexeme → Bool} → {p : Part A} → (w : Written p) → (m : Mark test) → Before w m → Written (p ◂ test)
-close_as {test = test} {p = p} w m meets = record {
+abbrev pub close_as : {A : Type 0} → {test : Lexeme → Bool} → {p : Part A} → (w : Written p) → (m : Mark test) → covers w.after m.opens ≡ true → Written (p ◂ test)
+close_as {test = test} {p = p} w m e = record {
   Fit = w.Fit;
-  text = λ v. w.text v ++ m.bytes;
-  pieces = λ v. w.pieces v ++ m.pieces;
-  same = λ v. two_texts (w.text v) m.bytes (w.pieces v) m.pieces (w.same v) m.same;
+  Is = w.Is;
+  pieces = λ v fit. w.pieces v fit ++ m.pieces;
   after = m.after;
+  opens = cond w.lacks (looser w.opens m.opens) w.opens;
+  lacks = cond w.lacks false false;
   closed = m.closed;
-  put = close_puts w m meets;
-  made = end_yields w.Fit test p w.made;
-  closes = close_closes p m;
+  put = λ v fit others follows h. put_as (p then mark test) (p ◂ test) (v, tt) v (joined (w.pieces v fit ++ m.pieces)) others (then_puts w (mark_as m) (meets_mark w.after m e) v tt fit tt others follows h) (λ ts s. ((v, tt), refl, s));
+  begins = λ v fit. then_begins w (mark_as m) v tt fit tt;
+  made = λ v ts r came spells. subst w.Is (sym spells.1) (then_made p (mark test) w.Is (λ u. Unit {0}) w.made (mark_as m).made spells.0 ts r came spells.2).0;
+  closes = λ e v ts spells. then_closes p (mark test) (m.closes e) spells.0 ts spells.2;
 }
 
--- ---- a value seen through another
+-- a key word behind a space, and the semicolon
+abbrev pub word_then : {A : Type 0} → {p : Part A} → (w : List ℕ) → (is : is_key (str_to_ascii_lowercase w) w ≡ true) → (x : Written p) → meets Words x ≡ true → Written (is_word (str_to_ascii_lowercase w) ▸ p)
+word_then w is x e = lead_as (word_as space w is) x e
 
--- where a value is seen through another, what it is seen as is written as the value that it goes back to
-abbrev pub GoesBack : {A B : Type 0} → {p : Part A} → (A → B) → (B → A) → Written p → Type 0
-GoesBack {A} f back w = (v : A) → w.Fit v → w.Fit (back (f v)) × (f (back (f v)) ≡ f v)
+abbrev pub end_as : {A : Type 0} → {p : Part A} → (w : Written p) → covers w.after Safe ≡ true → Written (p ◂ semicolon)
+end_as w e = close_as w ending e
 
-pub seen_puts : {A B : Type 0} {p : Part A} (f : A → B) (back : B → A) (w : Written p) (x : B) → w.Fit (back x) × (f (back x) ≡ x) → (others : List Lexeme) → Follows others → w.after (spelled others) ≡ true → IsPut (seen f p) x (w.text (back x)) others
-seen_puts {p = p} f back w x fit others follows e =
-    subst (λ y. IsPut (seen f p) y (w.text (back x)) others) fit.1 (seen_put f p (back x) (w.text (back x)) others (w.put (back x) fit.0 others follows e))
+-- ---- values seen through others, and the same part in other words
 
-abbrev pub seen_as : {A B : Type 0} → {p : Part A} → (f : A → B) → (back : B → A) → (w : Written p) → GoesBack f back w → Written (seen f p)
-seen_as {p = p} f back w goes = record {
-  Fit = λ x. w.Fit (back x) × (f (back x) ≡ x);
-  text = λ x. w.text (back x);
-  pieces = λ x. w.pieces (back x);
-  same = λ x. w.same (back x);
+-- a value is written as one that it is seen as
+abbrev pub seen_as : {A B : Type 0} → {p : Part A} → (f : A → B) → (w : Written p) → Written (seen f p)
+seen_as {A} {p = p} f w = record {
+  Fit = λ x. (y : A) × w.Fit y × (f y ≡ x);
+  Is = λ x. (y : A) × w.Is y × (f y ≡ x);
+  pieces = λ x fit. w.pieces fit.0 fit.1;
   after = w.after;
+  opens = w.opens;
+  lacks = w.lacks;
   closed = w.closed;
-  put = seen_puts f back w;
-  made = seen_yields (λ x. w.Fit (back x) × (f (back x) ≡ x)) f p (λ v ts r came spells. goes v (w.made v ts r came spells));
-  closes = λ e. seen_closes semicolon f p (w.closes e);
+  put = λ x fit others follows e. put_as p (seen f p) fit.0 x (joined (w.pieces fit.0 fit.1)) others (w.put fit.0 fit.1 others follows e) (λ ts s. (fit.0, sym fit.2, s));
+  begins = λ x fit. w.begins fit.0 fit.1;
+  made = λ x ts r came spells. (spells.0, w.made spells.0 ts r came spells.2, sym spells.1);
+  closes = λ e x ts spells. w.closes e spells.0 ts spells.2;
 }
 
--- the same values, said in other words
-abbrev pub fit_as : {A : Type 0} → {p : Part A} → (w : Written p) → (Fit : A → Type 0) → ((v : A) → Fit v → w.Fit v) → ((v : A) → w.Fit v → Fit v) → Written p
-fit_as w Fit to from = record w { Fit = Fit; put = λ v fit others follows e. w.put v (to v fit) others follows e; made = λ v ts r came spells. from v (w.made v ts r came spells) }
+-- values that can be written for another reason
+abbrev pub fit_as : {A : Type 0} → {p : Part A} → (w : Written p) → (Fit : A → Type 0) → ((v : A) → Fit v → w.Fit v) → Written p
+fit_as w Fit to = record w { Fit = Fit; pieces = λ v fit. w.pieces v (to v fit); put = λ v fit. w.put v (to v fit); begins = λ v fit. w.begins v (to v fit) }
 
--- where less may stand behind
-abbrev pub after_as : {A : Type 0} → {p : Part A} → (w : Written p) → (after : List ℕ → Bool) → ((rest : List ℕ) → after rest ≡ true → w.after rest ≡ true) → Written p
-after_as w after may = record w { after = after; put = λ v fit others follows e. w.put v fit others follows (may (spelled others) e) }
+-- what is read has another property
+abbrev pub is_as : {A : Type 0} → {p : Part A} → (w : Written p) → (Is : A → Type 0) → ((v : A) → w.Is v → Is v) → Written p
+is_as w Is from = record w { Is = Is; made = λ v ts r came spells. from v (w.made v ts r came spells) }
 
-pub text_puts : {A : Type 0} {p : Part A} (w : Written p) (text : A → List ℕ) → ((v : A) → w.Fit v → w.text v ≡ text v) → (v : A) → w.Fit v → (others : List Lexeme) → Follows others → w.after (spelled others) ≡ true → IsPut p v (text v) others
-text_puts {p = p} w text same v fit others follows e = subst (λ (x : List ℕ). IsPut p v x others) (same v fit) (w.put v fit others follows e)
+abbrev pub like_as : {A : Type 0} → {p : Part A} → (w : Written p) → (P : A → Type 0) → ((v : A) → P v → w.Fit v) → ((v : A) → w.Is v → P v) → Written p
+like_as w P to from = is_as (fit_as w P to) P from
 
--- the same text, put together otherwise
-abbrev pub text_as : {A : Type 0} → {p : Part A} → (w : Written p) → (text : A → List ℕ) → ((v : A) → w.Fit v → w.text v ≡ text v) → Written p
-text_as w text same = record w { text = text; pieces = λ v. text v ∷ []; same = λ v. one_piece (text v); put = text_puts w text same }
+-- a value that is seen as one that has a property
+abbrev pub shown_as : {A B : Type 0} → {p : Part A} → (f : A → B) → (w : Written p) → (P : B → Type 0) → ((x : B) → P x → (y : A) × w.Fit y × (f y ≡ x)) → ((y : A) → w.Is y → P (f y)) → Written (seen f p)
+shown_as f w P to from = like_as (seen_as f w) P to (λ x is. subst P is.2 (from is.0 is.1))
 
 -- the same text in other pieces
-abbrev pub pieces_as : {A : Type 0} → {p : Part A} → (w : Written p) → (pieces : A → List (List ℕ)) → ((v : A) → w.text v ≡ joined (pieces v)) → Written p
-pieces_as w pieces same = record w { pieces = pieces; same = same }
+abbrev pub pieces_as : {A : Type 0} → {p : Part A} → (w : Written p) → (pieces : (v : A) → w.Fit v → List (List ℕ)) → ((v : A) (fit : w.Fit v) → joined (w.pieces v fit) ≡ joined (pieces v fit)) → Written p
+pieces_as w pieces same = record w {
+  pieces = pieces;
+  put = λ v fit others follows e. same_text (joined (w.pieces v fit)) (joined (pieces v fit)) (same v fit) (w.put v fit others follows e);
+  begins = λ v fit. subst (Opens w.lacks w.opens) (same v fit) (w.begins v fit);
+}
 
-pub wider_puts : {A : Type 0} {p : Part A} (more : Lexeme → Bool) (w : Written p) (v : A) → w.Fit v → (others : List Lexeme) → Follows others → w.after (spelled others) ≡ true → IsPut (wider more p) v (w.text v) others
-wider_puts {p = p} more w v fit others follows e = put_as p (wider more p) v v (w.text v) others (w.put v fit others follows e) (λ ts h. h)
+-- where less may stand behind
+abbrev pub after_as : {A : Type 0} → {p : Part A} → (w : Written p) → (b : Behind) → covers w.after b ≡ true → Written p
+after_as w b e = record w { after = b; put = λ v fit others follows h. w.put v fit others follows (admitted w.after b (spelled others) e h) }
 
 -- the same part, where further tokens could belong to it
 abbrev pub wider_as : {A : Type 0} → {p : Part A} → (more : Lexeme → Bool) → (w : Written p) → Written (wider more p)
-wider_as more w = record { Fit = w.Fit; text = w.text; pieces = w.pieces; same = w.same; after = w.after; closed = w.closed; put = wider_puts more w; made = w.made; closes = w.closes }
-
--- ---- one of two
-
-pub chosen_text : (c : Bool) (a b : List ℕ) (x y : List (List ℕ)) → a ≡ joined x → b ≡ joined y → cond c a b ≡ joined (cond c x y)
-chosen_text true a b x y e f = e
-chosen_text false a b x y e f = f
-
-abbrev pub FitBy : Bool → Type 0 → Type 0 → Type 0
-FitBy true A B = A
-FitBy false A B = B
-
-pub choose_puts : {A : Type 0} {p q : Part A} (test : Lexeme → Bool) (kind : A → Bool) (a : Written p) (b : Written q) (v : A) → FitBy (kind v) (a.Fit v) (b.Fit v) → (others : List Lexeme) → Follows others → (a.after (spelled others) && b.after (spelled others)) ≡ true
-    → IsPut (choose test p q) v (cond (kind v) (a.text v) (b.text v)) others
-choose_puts {p = p} {q = q} test kind a b v fit others follows e = by (kind v) fit
-  where
-    by : (c : Bool) → FitBy c (a.Fit v) (b.Fit v) → IsPut (choose test p q) v (cond c (a.text v) (b.text v)) others
-    by true fit = put_as p (choose test p q) v v (a.text v) others (a.put v fit others follows (and_parts _ _ e).0) (λ ts h. inl h)
-    by false fit = put_as q (choose test p q) v v (b.text v) others (b.put v fit others follows (and_parts _ _ e).1) (λ ts h. inr h)
-
-pub choose_made : {A : Type 0} {p q : Part A} (test : Lexeme → Bool) (kind : A → Bool) (a : Written p) (b : Written q) → ((v : A) → a.Fit v → kind v ≡ true) → ((v : A) → b.Fit v → kind v ≡ false) → Yields (λ v. FitBy (kind v) (a.Fit v) (b.Fit v)) (choose test p q)
-choose_made {p = p} {q = q} test kind a b one other v ts r came spells = by spells
-  where
-    by : p.Spells v ts ⊎ q.Spells v ts → FitBy (kind v) (a.Fit v) (b.Fit v)
-    by (inl h) = let fit = a.made v ts r came h in subst (λ c. FitBy c (a.Fit v) (b.Fit v)) (sym (one v fit)) fit
-    by (inr h) = let fit = b.made v ts r came h in subst (λ c. FitBy c (a.Fit v) (b.Fit v)) (sym (other v fit)) fit
-
--- which of two it is can be told by the value
-abbrev pub choose_as : {A : Type 0} → {p q : Part A} → (test : Lexeme → Bool) → (kind : A → Bool) → (a : Written p) → (b : Written q) → ((v : A) → a.Fit v → kind v ≡ true) → ((v : A) → b.Fit v → kind v ≡ false) → Written (choose test p q)
-choose_as {p = p} {q = q} test kind a b one other = record {
-  Fit = λ v. FitBy (kind v) (a.Fit v) (b.Fit v);
-  text = λ v. cond (kind v) (a.text v) (b.text v);
-  pieces = λ v. cond (kind v) (a.pieces v) (b.pieces v);
-  same = λ v. chosen_text (kind v) (a.text v) (b.text v) (a.pieces v) (b.pieces v) (a.same v) (b.same v);
-  after = λ rest. a.after rest && b.after rest;
-  closed = a.closed && b.closed;
-  put = choose_puts test kind a b;
-  made = choose_made test kind a b one other;
-  closes = λ e. choose_closes semicolon test p q (a.closes (and_parts _ _ e).0) (b.closes (and_parts _ _ e).1);
+wider_as {p = p} more w = record {
+  Fit = w.Fit;
+  Is = w.Is;
+  pieces = w.pieces;
+  after = w.after;
+  opens = w.opens;
+  lacks = w.lacks;
+  closed = w.closed;
+  put = λ v fit others follows e. put_as p (wider more p) v v (joined (w.pieces v fit)) others (w.put v fit others follows e) (λ ts s. s);
+  begins = w.begins;
+  made = w.made;
+  closes = w.closes;
 }
 
-pub either_puts : {A : Type 0} {p q : Part A} (test : Lexeme → Bool) (kind : A → Bool) (Fit : A → Type 0) (a : Written p) (b : Written q) → ((v : A) → Fit v → FitBy (kind v) (a.Fit v) (b.Fit v)) → (v : A) → Fit v → (others : List Lexeme) → Follows others
-    → (a.after (spelled others) && b.after (spelled others)) ≡ true → IsPut (choose test p q) v (cond (kind v) (a.text v) (b.text v)) others
-either_puts test kind Fit a b to v fit others follows e = choose_puts test kind a b v (to v fit) others follows e
-
--- what is read as one of two may be written as the other
-abbrev pub either_as : {A : Type 0} → {p q : Part A} → (test : Lexeme → Bool) → (kind : A → Bool) → (Fit : A → Type 0) → (a : Written p) → (b : Written q) → ((v : A) → Fit v → FitBy (kind v) (a.Fit v) (b.Fit v)) → ((v : A) → a.Fit v → Fit v) → ((v : A) → b.Fit v → Fit v)
-    → Written (choose test p q)
-either_as {p = p} {q = q} test kind Fit a b to one other = record {
-  Fit = Fit;
-  text = λ v. cond (kind v) (a.text v) (b.text v);
-  pieces = λ v. cond (kind v) (a.pieces v) (b.pieces v);
-  same = λ v. chosen_text (kind v) (a.text v) (b.text v) (a.pieces v) (b.pieces v) (a.same v) (b.same v);
-  after = λ rest. a.after rest && b.after rest;
-  closed = a.closed && b.closed;
-  put = either_puts test kind Fit a b to;
-  made = choose_yields Fit test p q (λ v ts r came h. one v (a.made v ts r came h)) (λ v ts r came h. other v (b.made v ts r came h));
-  closes = λ e. choose_closes semicolon test p q (a.closes (and_parts _ _ e).0) (b.closes (and_parts _ _ e).1);
+-- a part that is read, and never written
+abbrev pub heard_as : {A : Type 0} → {p : Part A} → (Is : A → Type 0) → Yields Is p → Written p
+heard_as {p = p} Is made = record {
+  Fit = λ v. ⊥;
+  Is = Is;
+  pieces = λ v fit. [];
+  after = Anything;
+  opens = End;
+  lacks = false;
+  closed = false;
+  put = λ v fit. absurd fit;
+  begins = λ v fit. absurd fit;
+  made = made;
+  closes = not_closed p;
 }
 
--- the second is read, and never written
-abbrev pub first_as : {A : Type 0} → {p : Part A} → (test : Lexeme → Bool) → (q : Part A) → (a : Written p) → Yields a.Fit q → (a.closed ≡ true → Closes semicolon q) → Written (choose test p q)
-first_as {p = p} test q a made closes = record {
-  Fit = a.Fit;
-  text = a.text;
-  pieces = a.pieces;
-  same = a.same;
-  after = a.after;
+-- ---- one of two, and no token
+
+abbrev pub either_pieces : {A : Type 0} → {p q : Part A} → (a : Written p) → (b : Written q) → (v : A) → a.Fit v ⊎ b.Fit v → List (List ℕ)
+either_pieces a b v (inl x) = a.pieces v x
+either_pieces a b v (inr y) = b.pieces v y
+
+pub choose_puts : {A : Type 0} {p q : Part A} (test : Lexeme → Bool) (a : Written p) (b : Written q) (v : A) (others : List Lexeme) → Follows others → admits (tighter a.after b.after) (spelled others) ≡ true → (fit : a.Fit v ⊎ b.Fit v)
+    → IsPut (choose test p q) v (joined (either_pieces a b v fit)) others
+choose_puts {p = p} {q = q} test a b v others follows e (inl x) = put_as p (choose test p q) v v (joined (a.pieces v x)) others (a.put v x others follows (tight a.after b.after (spelled others) e).0) (λ ts s. inl s)
+choose_puts {p = p} {q = q} test a b v others follows e (inr y) = put_as q (choose test p q) v v (joined (b.pieces v y)) others (b.put v y others follows (tight a.after b.after (spelled others) e).1) (λ ts s. inr s)
+
+pub choose_begins : {A : Type 0} {p q : Part A} (a : Written p) (b : Written q) (v : A) (fit : a.Fit v ⊎ b.Fit v) → Opens (a.lacks || b.lacks) (looser a.opens b.opens) (joined (either_pieces a b v fit))
+choose_begins a b v (inl x) = one_opens a.lacks b.lacks a.opens b.opens (joined (a.pieces v x)) (a.begins v x)
+choose_begins a b v (inr y) = other_opens a.lacks b.lacks a.opens b.opens (joined (b.pieces v y)) (b.begins v y)
+
+pub choose_made : {A : Type 0} (p q : Part A) (test : Lexeme → Bool) (P Q : A → Type 0) → Yields P p → Yields Q q → Yields (λ v. P v ⊎ Q v) (choose test p q)
+choose_made p q test P Q f g v ts r came spells = elim spells [ inl s ↦ inl (f v ts r came s) | inr s ↦ inr (g v ts r came s) ]
+
+pub choose_closes : {A : Type 0} (p q : Part A) (test : Lexeme → Bool) (a b : Bool) → (a ≡ true → Closes semicolon p) → (b ≡ true → Closes semicolon q) → (a && b) ≡ true → Closes semicolon (choose test p q)
+choose_closes p q test a b f g e v ts spells = let both = and_parts a b e in elim spells [ inl s ↦ f both.0 v ts s | inr s ↦ g both.1 v ts s ]
+
+abbrev pub choose_as : {A : Type 0} → {p q : Part A} → {test : Lexeme → Bool} → (a : Written p) → (b : Written q) → Written (choose test p q)
+choose_as {p = p} {q = q} {test = test} a b = record {
+  Fit = λ v. a.Fit v ⊎ b.Fit v;
+  Is = λ v. a.Is v ⊎ b.Is v;
+  pieces = either_pieces a b;
+  after = tighter a.after b.after;
+  opens = looser a.opens b.opens;
+  lacks = a.lacks || b.lacks;
+  closed = a.closed && b.closed;
+  put = λ v fit others follows e. choose_puts test a b v others follows e fit;
+  begins = λ v fit. choose_begins a b v fit;
+  made = choose_made p q test a.Is b.Is a.made b.made;
+  closes = choose_closes p q test a.closed b.closed a.closes b.closes;
+}
+
+-- a part that is written in two ways
+abbrev pub also_as : {A : Type 0} → {p : Part A} → (a b : Written p) → Written p
+also_as {p = p} a b = record {
+  Fit = λ v. a.Fit v ⊎ b.Fit v;
+  Is = a.Is;
+  pieces = either_pieces a b;
+  after = tighter a.after b.after;
+  opens = looser a.opens b.opens;
+  lacks = a.lacks || b.lacks;
   closed = a.closed;
-  put = λ v fit others follows e. put_as p (choose test p q) v v (a.text v) others (a.put v fit others follows e) (λ ts h. inl h);
-  made = choose_yields a.Fit test p q a.made made;
-  closes = λ e. choose_closes semicolon test p q (a.closes e) (closes e);
+  put = λ v fit others follows e. put_as (choose never p p) p v v (joined (either_pieces a b v fit)) others (choose_puts never a b v others follows e fit) (λ ts s. elim s [ inl x ↦ x | inr y ↦ y ]);
+  begins = λ v fit. choose_begins a b v fit;
+  made = a.made;
+  closes = a.closes;
 }
 
 -- no token stands for a value
-abbrev pub nothing_as : {A : Type 0} → (test : Lexeme → Bool) → (v : A) → Written (nothing test v)
-nothing_as test v = record {
+abbrev pub nothing_as : {A : Type 0} → {test : Lexeme → Bool} → (v : A) → Written (nothing test v)
+nothing_as {test = test} v = record {
   Fit = λ x. x ≡ v;
-  text = λ x. [];
-  pieces = λ x. [];
-  same = λ x. refl;
-  after = anything;
+  Is = λ x. x ≡ v;
+  pieces = λ x fit. [];
+  after = Anything;
+  opens = End;
+  lacks = true;
   closed = false;
-  put = λ x fit others follows e. subst (λ y. IsPut (nothing test v) y [] others) (sym fit) (nothing_put test v others follows);
+  put = λ x fit others follows e. none_put (nothing test v) x others (fit, refl) follows;
+  begins = λ x fit m c rest e. e;
   made = λ x ts r came spells. spells.0;
-  closes = no_semicolon (nothing test v);
+  closes = not_closed (nothing test v);
 }
-
--- ---- one of several, by numbers of the values
-
--- The values of these branches have numbers from one on, up to another, and each begins with what passes a test.
-pub record Ranged {A : Type 0} (test : List ℕ → Bool) (number : A → ℕ) (least bound : ℕ) (p : Part A) : Type 1 where
-  pub written : Written p
-  pub range : (v : A) → written.Fit v → (least ≤ number v) × (number v < bound)
-  pub order : least ≤ bound
-  pub begins : (v : A) → written.Fit v → (rest : List ℕ) → test (written.text v ++ rest) ≡ true
-
-pub one_more_is : (n : ℕ) → n ≤ n + 1
-one_more_is n = omega arith
-
-pub two_steps : (least mid bound : ℕ) → least ≤ mid → mid ≤ bound → least ≤ bound
-two_steps least mid bound low high = omega arith
-
-pub in_range : (n m : ℕ) → m ≡ n → (n ≤ m) × (m < n + 1)
-in_range n m e = (omega (arith, e), omega (arith, e))
-
--- one branch
-abbrev pub one_as : {A : Type 0} → {test : List ℕ → Bool} → {number : A → ℕ} → {p : Part A} → (n : ℕ) → (w : Written p) → ((v : A) → w.Fit v → number v ≡ n) → ((v : A) → w.Fit v → (rest : List ℕ) → test (w.text v ++ rest) ≡ true) → Ranged test number n (n + 1) p
-one_as {number = number} n w is begins = record { written = w; range = λ v fit. in_range n (number v) (is v fit); order = one_more_is n; begins = begins }
-
-pub lower_is : (n mid : ℕ) → n < mid → nat_lt n mid ≡ true
-lower_is n mid lt = lt-ltb n mid lt
-
-pub upper_is : (n mid : ℕ) → mid ≤ n → nat_lt n mid ≡ false
-upper_is n mid le = grind (arith, nat_tests)
-
-pub join_range : {A : Type 0} {p q : Part A} {test : List ℕ → Bool} (number : A → ℕ) (least mid bound : ℕ) (a : Ranged test number least mid p) (b : Ranged test number mid bound q) → (v : A)
-    → FitBy (nat_lt (number v) mid) (a.written.Fit v) (b.written.Fit v) → (least ≤ number v) × (number v < bound)
-join_range number least mid bound a b v fit = by (nat_lt (number v) mid) fit
-  where
-    by : (c : Bool) → FitBy c (a.written.Fit v) (b.written.Fit v) → (least ≤ number v) × (number v < bound)
-    by true fit = let e = a.range v fit in (e.0, omega (arith, e.1, b.order))
-    by false fit = let e = b.range v fit in (omega (arith, e.0, a.order), e.1)
-
-pub join_begins : {A : Type 0} {p q : Part A} (test : List ℕ → Bool) (number : A → ℕ) (least mid bound : ℕ) (a : Ranged test number least mid p) (b : Ranged test number mid bound q) → (v : A)
-    → FitBy (nat_lt (number v) mid) (a.written.Fit v) (b.written.Fit v) → (rest : List ℕ) → test (cond (nat_lt (number v) mid) (a.written.text v) (b.written.text v) ++ rest) ≡ true
-join_begins test number least mid bound a b v fit rest = by (nat_lt (number v) mid) fit
-  where
-    by : (c : Bool) → FitBy c (a.written.Fit v) (b.written.Fit v) → test (cond c (a.written.text v) (b.written.text v) ++ rest) ≡ true
-    by true fit = a.begins v fit rest
-    by false fit = b.begins v fit rest
-
--- branches before others
-abbrev pub join_as : {A : Type 0} → {test : List ℕ → Bool} → {number : A → ℕ} → {p q : Part A} → {first : Lexeme → Bool} → {least mid bound : ℕ} → (a : Ranged test number least mid p) → (b : Ranged test number mid bound q) → Ranged test number least bound (choose first p q)
-join_as {test = test} {number = number} {first = first} {least = least} {mid = mid} {bound = bound} a b = record {
-  written = choose_as first (λ v. nat_lt (number v) mid) a.written b.written (λ v fit. lower_is (number v) mid (a.range v fit).1) (λ v fit. upper_is (number v) mid (b.range v fit).0);
-  range = join_range number least mid bound a b;
-  order = two_steps least mid bound a.order b.order;
-  begins = join_begins test number least mid bound a b;
-}
-
-pub lead_begins : (test : List ℕ → Bool) (m text rest : List ℕ) → ((rest : List ℕ) → test (m ++ rest) ≡ true) → test ((m ++ text) ++ rest) ≡ true
-lead_begins test m text rest begins = ap test (append_assoc m text rest) ∙ begins (text ++ rest)
-
--- branches behind a token
-abbrev pub branches_as : {A : Type 0} → {test : List ℕ → Bool} → {number : A → ℕ} → {p : Part A} → {first : Lexeme → Bool} → {least bound : ℕ} → (m : Mark first) → (r : Ranged m.after number least bound p) → ((rest : List ℕ) → test (m.bytes ++ rest) ≡ true)
-    → Ranged test number least bound (first ▸ p)
-branches_as {test = test} m r begins = record {
-  written = lead_as m r.written (λ v fit rest e. r.begins v fit rest);
-  range = r.range;
-  order = r.order;
-  begins = λ v fit rest. lead_begins test m.bytes (r.written.text v) rest begins;
-}
-
--- ---- a part that may be left out
 
 abbrev pub OptionFit : {A : Type 0} → (A → Type 0) → Option A → Type 0
 OptionFit Fit None = Unit {0}
 OptionFit Fit (Some v) = Fit v
 
-abbrev pub text_if : {A : Type 0} → (A → List ℕ) → Option A → List ℕ
-text_if text None = []
-text_if text (Some v) = text v
+abbrev pub option_to : {A : Type 0} → (P : A → Type 0) → (o : Option A) → OptionFit P o → ((y : A) × P y × (Some y ≡ o)) ⊎ (o ≡ None)
+option_to P None fit = inr refl
+option_to P (Some v) fit = inl (v, fit, refl)
 
-pub maybe_puts : {A : Type 0} {p : Part A} (test more : Lexeme → Bool) (w : Written p) (o : Option A) → OptionFit w.Fit o → (others : List Lexeme) → Follows others → w.after (spelled others) ≡ true → IsPut (choose test (seen Some p) (nothing more None)) o (text_if w.text o) others
-maybe_puts {A} {p} test more w None fit others follows e =
-    let unsaid : Part (Option A) = nothing more None in
-    put_as unsaid (choose test (seen Some p) unsaid) None None [] others (nothing_put more None others follows) (λ ts h. inr h)
-maybe_puts {A} {p} test more w (Some v) fit others follows e =
-    let unsaid : Part (Option A) = nothing more None in
-    put_as p (choose test (seen Some p) unsaid) v (Some v) (w.text v) others (w.put v fit others follows e) (λ ts h. inl (v, refl, h))
-
-pub maybe_made : {A : Type 0} {p : Part A} (test more : Lexeme → Bool) (w : Written p) → Yields (OptionFit w.Fit) (choose test (seen Some p) (nothing more None))
-maybe_made {A} {p} test more w o ts r came spells = by spells
-  where
-    by : (seen Some p).Spells o ts ⊎ (o ≡ None) × (ts ≡ []) → OptionFit w.Fit o
-    by (inl h) = subst (OptionFit w.Fit) (sym h.1) (w.made h.0 ts r came h.2)
-    by (inr h) = subst (OptionFit w.Fit) (sym h.0) tt
+pub option_from : {A : Type 0} (P : A → Type 0) (o : Option A) → ((y : A) × P y × (Some y ≡ o)) ⊎ (o ≡ None) → OptionFit P o
+option_from P o (inl h) = subst (OptionFit P) h.2 h.1
+option_from P o (inr e) = subst (OptionFit P) (sym e) tt
 
 -- a part, or no token where more could belong to it
-abbrev pub maybe_as : {A : Type 0} → {p : Part A} → (test more : Lexeme → Bool) → (w : Written p) → Written (choose test (seen Some p) (nothing more None))
-maybe_as test more w = leaf_as (OptionFit w.Fit) (text_if w.text) w.after (maybe_puts test more w) (maybe_made test more w)
-
-abbrev pub optional_as : {A : Type 0} → {p : Part A} → (test : Lexeme → Bool) → (w : Written p) → Written (optional test p)
-optional_as test w = maybe_as test test w
+abbrev pub maybe_as : {A : Type 0} → {p : Part A} → {test : Lexeme → Bool} → (more : Lexeme → Bool) → (w : Written p) → Written (choose test (seen Some p) (nothing more None))
+maybe_as more w = is_as (fit_as (choose_as (seen_as Some w) (nothing_as None)) (OptionFit w.Fit) (option_to w.Fit)) (OptionFit w.Is) (option_from w.Is)
 
 -- ---- any number of items
 
@@ -525,72 +500,125 @@ abbrev pub AllFit : {A : Type 0} → (items : Items A) → ((s : items.State) �
 AllFit items each s [] = Unit {0}
 AllFit items each s (v ∷ vs) = (each s).Fit v × AllFit items each (items.next s v) vs
 
--- the text of items from a state on
-abbrev pub items_text : {A : Type 0} → (items : Items A) → ((s : items.State) → Written (items.item s)) → items.State → List A → List ℕ
-items_text items each s [] = []
-items_text items each s (v ∷ vs) = (each s).text v ++ items_text items each (items.next s v) vs
+-- items from a state on
+abbrev pub items_pieces : {A : Type 0} → (items : Items A) → (each : (s : items.State) → Written (items.item s)) → (s : items.State) → (vs : List A) → AllFit items each s vs → List (List ℕ)
+items_pieces items each s [] fit = []
+items_pieces items each s (v ∷ vs) fit = (each s).pieces v fit.0 ++ items_pieces items each (items.next s v) vs fit.1
 
--- what passes a test may stand behind each item, and each item behind the first begins with such
-pub record Follow {A : Type 0} (items : Items A) (each : (s : items.State) → Written (items.item s)) (test : List ℕ → Bool) : Type 0 where
-  pub behind : (s : items.State) (rest : List ℕ) → test rest ≡ true → (each s).after rest ≡ true
-  pub begins : (s : items.State) (v : A) → Meets test (each (items.next s v))
+-- what this admits may stand behind an item, and an item begins with such
+abbrev pub follows_on : {A : Type 0} → {p : Part A} → Behind → Written p → Bool
+follows_on m w = covers w.after m && (covers m w.opens && not w.lacks)
 
-first_met : {A : Type 0} (items : Items A) (each : (s : items.State) → Written (items.item s)) (test : List ℕ → Bool) → Follow items each test → (s : items.State) (v : A) (vs : List A) → AllFit items each (items.next s v) vs → (rest : List ℕ) → test rest ≡ true
-    → test (items_text items each (items.next s v) vs ++ rest) ≡ true
-first_met items each test follow s v [] fit rest e = e
-first_met items each test follow s v (w ∷ ws) fit rest e =
+pub items_begin : {A : Type 0} (items : Items A) (each : (s : items.State) → Written (items.item s)) (m : Behind) → ((s : items.State) → follows_on m (each s) ≡ true) → (s : items.State) (vs : List A) (fit : AllFit items each s vs) → Opens true m (joined (items_pieces items each s vs fit))
+items_begin items each m on s [] fit n c rest e = e
+items_begin items each m on s (v ∷ vs) fit n c rest e =
+    let w = each s in
+    let more = items_pieces items each (items.next s v) vs fit.1 in
+    let opens = and_parts (covers m w.opens) (not w.lacks) (and_parts (covers w.after m) (covers m w.opens && not w.lacks) (on s)).1 in
+    ap (λ (x : List ℕ). admits n (x ++ rest)) (joined-append (w.pieces v fit.0) more) ∙ ap (admits n) (append_assoc (joined (w.pieces v fit.0)) (joined more) rest)
+    ∙ w.begins v fit.0 n (through n m w.opens c opens.0) (joined more ++ rest) (ap (λ (b : Bool). admits (cond b n Anything) (joined more ++ rest)) (not-true w.lacks opens.1))
+
+-- items from a state on, as a part
+abbrev pub items_from : {A : Type 0} → (items : Items A) → items.State → Part (List A)
+items_from items s = record { Spells = Many items s; read = λ ts. stop ts; goes_on = never }
+
+pub items_put : {A : Type 0} (items : Items A) (each : (s : items.State) → Written (items.item s)) (m : Behind) → ((s : items.State) → follows_on m (each s) ≡ true) → (s : items.State) (vs : List A) (fit : AllFit items each s vs) (others : List Lexeme) → Follows others → admits m (spelled others) ≡ true
+    → IsPut (items_from items s) vs (joined (items_pieces items each s vs fit)) others
+items_put items each m on s [] fit others follows e = none_put (items_from items s) [] others (no_more s) follows
+items_put items each m on s (v ∷ vs) fit others follows e =
+    let w = each s in
     let state = items.next s v in
-    let others = items_text items each (items.next state w) ws in
-    ap test (append_assoc ((each state).text w) others rest) ∙ follow.begins s v w fit.0 (others ++ rest) (follow.behind state (others ++ rest) (first_met items each test follow state w ws fit.1 rest e))
+    let more = items_pieces items each state vs fit.1 in
+    let k = items_put items each m on state vs fit.1 others follows e in
+    let next = begun m k (items_begin items each m on state vs fit.1 m (covers_same m) (spelled others) e) in
+    let j = w.put v fit.0 (k.tokens ++ others) (followed k) (admitted w.after m (spelled (k.tokens ++ others)) (and_parts (covers w.after m) (covers m w.opens && not w.lacks) (on s)).0 next) in
+    put_as (items.item s then items_from items state) (items_from items s) (v, vs) (v ∷ vs) (joined (w.pieces v fit.0 ++ more)) others (then_put (items.item s) (items_from items state) v vs (w.pieces v fit.0) more others k j)
+    (λ ts h. subst (Many items s (v ∷ vs)) (sym h.2) (one_more s v vs h.0 h.1 h.3 h.4))
 
-record ArePut {A : Type 0} (items : Items A) (s : items.State) (vs : List A) (text : List ℕ) (others : List Lexeme) : Type 0 where
-  tokens : List Lexeme
-  bytes : spelled tokens ≡ text
-  stood : Stood (tokens ++ others)
-  spells : (at : ℕ) → Many items s vs (placed at tokens)
-  last : only_last semicolon (tokens ++ others) ≡ true
+pub items_made : {A : Type 0} (items : Items A) (each : (s : items.State) → Written (items.item s)) (P : A → Type 0) → ((s : items.State) (v : A) → (each s).Is v → P v) → (s : items.State) (vs : List A) (ts : List Lexeme) (r : List ℕ) → AllCame ts r → Many items s vs ts → AllByRecursion P vs
+items_made items each P from s _ _ r came (no_more _) = tt
+items_made items each P from s _ _ r came (one_more _ v vs a b spells others) = (from s v ((each s).made v a (spelled b ++ r) (came_front a b r came) spells), items_made items each P from (items.next s v) vs b r (came_behind a b r came) others)
 
-are_put : {A : Type 0} (items : Items A) (each : (s : items.State) → Written (items.item s)) (test : List ℕ → Bool) → Follow items each test → (s : items.State) (vs : List A) → AllFit items each s vs → (others : List Lexeme) → Follows others
-    → test (spelled others) ≡ true → ArePut items s vs (items_text items each s vs) others
-are_put items each test follow s [] fit others follows e = record { tokens = []; bytes = refl; stood = follows.stood; spells = λ at. no_more s; last = follows.last }
-are_put items each test follow s (v ∷ vs) fit others follows e =
-    let state = items.next s v in
-    let k = are_put items each test follow state vs fit.1 others follows e in
-    let next : test (spelled (k.tokens ++ others)) ≡ true =
-    ap test (spelled-append k.tokens others ∙ ap (λ (x : List ℕ). x ++ spelled others) k.bytes) ∙ first_met items each test follow s v vs fit.1 (spelled others) e in
-    let j = (each s).put v fit.0 (k.tokens ++ others) (record { stood = k.stood; last = k.last }) (follow.behind s (spelled (k.tokens ++ others)) next) in
-    record {
-      tokens = j.tokens ++ k.tokens;
-      bytes = spelled-append j.tokens k.tokens ∙ ap (λ (x : List ℕ). x ++ spelled k.tokens) j.bytes ∙ ap (λ (x : List ℕ). (each s).text v ++ x) k.bytes;
-      stood = subst Stood (sym (append_assoc j.tokens k.tokens others)) j.stood;
-      spells = λ at.
-          subst (Many items s (v ∷ vs)) (sym (placed-append at j.tokens k.tokens))
-          (one_more s v vs (placed at j.tokens) (placed (at + length (spelled j.tokens)) k.tokens) (j.spells at) (k.spells _));
-      last = ap (only_last semicolon) (append_assoc j.tokens k.tokens others) ∙ j.last;
-    }
-
-pub many_puts : {A : Type 0} (goes_on : Lexeme → Bool) (items : Items A) (each : (s : items.State) → Written (items.item s)) (test : List ℕ → Bool) → Follow items each test → (vs : List A) → AllFit items each items.start vs → (others : List Lexeme) → Follows others
-    → test (spelled others) ≡ true → IsPut (many goes_on items) vs (items_text items each items.start vs) others
-many_puts goes_on items each test follow vs fit others follows e =
-    let k = are_put items each test follow items.start vs fit others follows e in
-    record { tokens = k.tokens; bytes = k.bytes; stood = k.stood; spells = k.spells; last = k.last }
-
-pub many_made : {A : Type 0} (goes_on : Lexeme → Bool) (items : Items A) (each : (s : items.State) → Written (items.item s)) → Yields (AllFit items each items.start) (many goes_on items)
-many_made {A} goes_on items each vs ts r came spells = by items.start vs ts r came spells
-  where
-    by : (s : items.State) (vs : List A) (ts : List Lexeme) (r : List ℕ) → AllCame ts r → Many items s vs ts → AllFit items each s vs
-    by s _ _ r came (no_more _) = tt
-    by s _ _ r came (one_more _ v vs a b spells others) =
-        ((each s).made v a (spelled b ++ r) (came_front a b r came) spells, by (items.next s v) vs b r (came_behind a b r came) others)
-
-abbrev pub many_as : {A : Type 0} → (goes_on : Lexeme → Bool) → (items : Items A) → (each : (s : items.State) → Written (items.item s)) → (test : List ℕ → Bool) → Follow items each test → Written (many goes_on items)
-many_as goes_on items each test follow = leaf_as (AllFit items each items.start) (items_text items each items.start) test (many_puts goes_on items each test follow) (many_made goes_on items each)
+-- any number of items, each of which has a property where it is read
+abbrev pub many_as : {A : Type 0} → {goes_on : Lexeme → Bool} → {items : Items A} → (each : (s : items.State) → Written (items.item s)) → (P : A → Type 0) → ((s : items.State) (v : A) → (each s).Is v → P v) → (m : Behind) → ((s : items.State) → follows_on m (each s) ≡ true) → Written (many goes_on items)
+many_as {goes_on = goes_on} {items = items} each P from m on = record {
+  Fit = AllFit items each items.start;
+  Is = AllByRecursion P;
+  pieces = items_pieces items each items.start;
+  after = m;
+  opens = m;
+  lacks = true;
+  closed = false;
+  put = λ vs fit others follows e. put_as (items_from items items.start) (many goes_on items) vs vs (joined (items_pieces items each items.start vs fit)) others (items_put items each m on items.start vs fit others follows e) (λ ts h. h);
+  begins = items_begin items each m on items.start;
+  made = items_made items each P from items.start;
+  closes = not_closed (many goes_on items);
+}
 
 -- items that each have a property can be written, where each of them that has it can
-pub all_fit : {A : Type 0} (items : Items A) (each : (s : items.State) → Written (items.item s)) (P : A → Type 0) → ((s : items.State) (v : A) → P v → (each s).Fit v) → (s : items.State) (vs : List A) → AllByRecursion P vs → AllFit items each s vs
-all_fit items each P fit s [] all = tt
-all_fit items each P fit s (v ∷ vs) all = (fit s v all.0, all_fit items each P fit (items.next s v) vs all.1)
+abbrev pub all_fit : {A : Type 0} → (items : Items A) → (each : (s : items.State) → Written (items.item s)) → (P : A → Type 0) → ((s : items.State) (v : A) → P v → (each s).Fit v) → (s : items.State) → (vs : List A) → AllByRecursion P vs → AllFit items each s vs
+all_fit items each P to s [] all = tt
+all_fit items each P to s (v ∷ vs) all = (to s v all.0, all_fit items each P to (items.next s v) vs all.1)
 
-pub all_are : {A : Type 0} (items : Items A) (each : (s : items.State) → Written (items.item s)) (P : A → Type 0) → ((s : items.State) (v : A) → (each s).Fit v → P v) → (s : items.State) (vs : List A) → AllFit items each s vs → AllByRecursion P vs
-all_are items each P are s [] all = tt
-all_are items each P are s (v ∷ vs) all = (are s v all.0, all_are items each P are (items.next s v) vs all.1)
+abbrev pub alike_as : {A : Type 0} → {goes_on : Lexeme → Bool} → {items : Items A} → (each : (s : items.State) → Written (items.item s)) → (P : A → Type 0) → ((s : items.State) (v : A) → P v → (each s).Fit v) → ((s : items.State) (v : A) → (each s).Is v → P v) → (m : Behind) → ((s : items.State) → follows_on m (each s) ≡ true)
+    → Written (many goes_on items)
+alike_as {items = items} each P to from m on = fit_as (many_as each P from m on) (AllByRecursion P) (all_fit items each P to items.start)
+
+-- ---- paths, and the text of a run of tokens
+
+pub path_same : (g : List ℕ) (q : QName) → g ++ (written_name q.schema ++ (46 ∷ (written_name q.name ++ []))) ≡ g ++ (path q ++ [])
+unfolding path
+path_same g q = ap (λ (x : List ℕ). g ++ x) (sym (append_assoc (written_name q.schema) (46 ∷ written_name q.name) []))
+
+abbrev pub path_as : {g : List ℕ} → Gap g → Written qualified
+path_as {g} gap =
+    pieces_as (shown_as (λ x. record { schema = x.0; name = x.1 }) (then_as (name_as gap) (lead_as dot_as (name_as none) refl) refl) IsPath (λ q is. ((q.schema, q.name), is, refl)) (λ x is. is))
+    (λ q is. g ∷ path q ∷ []) (λ q is. path_same g q)
+
+-- a run's text lies in tokens before what goes on with none
+pub run_put : {A : Type 0} {m : Machine} {g : List ℕ} (plain : IsPlainMachine m) (p : Part A) (x : A) (v : List ℕ) (others : List Lexeme) → Gap g → IsRunText m v → ((ts : List Lexeme) → Runs m ts → source ts ≡ v → kinds ts ≡ kinds (lexemes v (collected v 0).pieces) → p.Spells x ts)
+    → Follows others → admits Safe (spelled others) ≡ true → IsPut p x (g ++ v) others
+run_put {m = m} {g = g} plain p x v others gap is says follows e =
+    let k = run_kept m plain g v others gap is follows.stood e in
+    record { tokens = k.tokens; bytes = k.bytes; stood = k.stood; spells = λ at. says (placed at k.tokens) (k.runs at) (k.whole at) (k.same at); last = plain_last k.tokens others k.plain follows.last }
+
+pub run_made : {m : Machine} → IsPlainMachine m → Yields (IsRunText m) (seen source (runs_of m))
+run_made {m} plain v ts r came spells = subst (IsRunText m) (ap source (sym spells.2.0) ∙ sym spells.1) (run_read m plain ts r came spells.2.1).text
+
+abbrev pub run_as : {m : Machine} → {g : List ℕ} → IsPlainMachine m → Gap g → Written (seen source (runs_of m))
+run_as {m} {g} plain gap = leaf_as (IsRunText m) (IsRunText m) g (λ v is. v) Safe (λ v is others. run_put plain (seen source (runs_of m)) v v others gap is (λ ts runs whole same. (ts, sym whole, (refl, runs)))) (run_made plain)
+
+-- ---- kinds of values, each behind its word
+
+-- Values of several kinds, which can be written as one of a number; and what is known of each that was read.
+pub record Kinds {A : Type 0} (P : A → Type 0) (p : Part A) : Type 1 where
+  pub written : Written p
+  pub At : ℕ → A → Type 0
+  pub pick : (n : ℕ) (v : A) → At n v → written.Fit v
+  pub is : (v : A) → written.Is v → P v
+
+abbrev pub lone_as : {A : Type 0} → {P : A → Type 0} → {p : Part A} → (w : Written p) → ((v : A) → w.Is v → P v) → Kinds P p
+lone_as w is = record { written = w; At = λ n. w.Fit; pick = λ n v fit. fit; is = is }
+
+abbrev pub kind_as : {A B : Type 0} → {P : B → Type 0} → {p : Part A} → (f : A → B) → (w : Written p) → ((v : A) → w.Is v → P (f v)) → Kinds P (seen f p)
+kind_as {P = P} f w is = lone_as (seen_as f w) (λ v h. subst P h.2 (is h.0 h.1))
+
+abbrev pub led_as : {A : Type 0} → {P : A → Type 0} → {test : Lexeme → Bool} → {p : Part A} → (m : Mark test) → (k : Kinds P p) → meets m.after k.written ≡ true → Kinds P (test ▸ p)
+led_as m k e = record { written = lead_as m k.written e; At = k.At; pick = k.pick; is = k.is }
+
+abbrev pub AtOne : {A : Type 0} → (A → Type 0) → (ℕ → A → Type 0) → ℕ → A → Type 0
+AtOne Fit At zero v = Fit v
+AtOne Fit At (suc n) v = At n v
+
+abbrev pub pick_one : {A : Type 0} → (Fit Others : A → Type 0) → (At : ℕ → A → Type 0) → ((n : ℕ) (v : A) → At n v → Others v) → (n : ℕ) → (v : A) → AtOne Fit At n v → Fit v ⊎ Others v
+pick_one Fit Others At pick zero v fit = inl fit
+pick_one Fit Others At pick (suc n) v fit = inr (pick n v fit)
+
+-- one kind before others
+abbrev pub or_as : {A : Type 0} → {P : A → Type 0} → {p q : Part A} → {test : Lexeme → Bool} → (a : Kinds P p) → (b : Kinds P q) → Kinds P (choose test p q)
+or_as a b = record {
+  written = choose_as a.written b.written;
+  At = AtOne a.written.Fit b.At;
+  pick = pick_one a.written.Fit b.written.Fit b.At b.pick;
+  is = λ v h. elim h [ inl x ↦ a.is v x | inr y ↦ b.is v y ];
+}

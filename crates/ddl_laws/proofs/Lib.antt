@@ -1,32 +1,24 @@
-pub mod AlterLaws
+mod AlterLaws
+mod ColumnLaws
+mod CopyLaws
+mod ValueLaws
+mod RelationLaws
+mod SequenceLaws
+mod TableLaws
 pub mod GrammarLaws
-pub mod SequenceLaws
-pub mod RelationLaws
-pub mod Closed
+mod Paths
+mod Columns
+mod Relations
+mod Alters
+mod Tables
+mod Admin
+mod Rights
+mod Sequences
+mod Whole
+mod Spelled
+mod Closed
 pub mod ReadingLaws
-pub mod AlterPuts
-pub mod Bracketed
-pub mod SequenceNumbers
-pub mod SequenceLayouts
-pub mod Respelled
-pub mod RestTexts
-pub mod SequenceMade
-pub mod Made
-pub mod CopyLaws
-pub mod LineTexts
-pub mod RightsMade
-pub mod RightsLayouts
-pub mod Simple
-pub mod Relations
-pub mod Alters
-pub mod Tables
-pub mod Values
-pub mod Admin
-pub mod Rights
-pub mod Whole
-pub mod Fits
-pub mod Spelled
-pub mod ColumnLaws
-pub mod ValueLaws
-pub mod TableLaws
-pub mod OnePlace
+mod OnePlace
+mod LineTexts
+mod Respelled
+mod Made

@@ -19,7 +19,7 @@ use Rattle.ddl_parts.specs.Pieces.{lexeme_of}
 use Rattle.ddl_parts.specs.Collecting.{Collected, collected, collected_within, collected_by, nothing_more, preceded}
 use Rattle.ddl_laws.specs.Readings.{IsLine}
 use Rattle.ddl_laws.proofs.ReadingLaws.{collected_first}
-use Rattle.ddl_forms.proofs.Kept.{came_token}
+use Rattle.ddl_laws.proofs.Paths.{name_utf8}
 use Rattle.ddl_forms.proofs.Tokens.{Gap, space, Begun, gap_stands, name_begun, name_no_sign, name_means}
 use Rattle.std.proofs.Common.{◌≡◌, ℕ, suc, ◌+◌, Bool, true, false, cond, not, ◌&&◌, ◌-◌, List, [], ◌∷◌, ◌++◌, length, length-append, append_assoc, append-nil, Option, Some, None, Result, Ok, Err, refl, sym, ap, subst, ◌∙◌, arith, ◌⊎◌, inl, inr, codes}
 use Rattle.std.specs.Prelude.{◌==◌, slice_index}
@@ -132,12 +132,6 @@ name_in_line n all =
       | inr isnt ↦ rw isnt (and_from (in_line 34) (list_all in_line (doubled 34 n ++ 34 ∷ [])) in_34 (list_all-append in_line (doubled 34 n) (34 ∷ []) ∙ and_from (list_all in_line (doubled 34 n)) (in_line 34 && true) (in_one_line 34 n in_34 all) (and_from (in_line 34) true in_34 refl)))
     ]
 
-name_utf8 : (n : List ℕ) → IsUtf8 n → is_utf8 (written_name n) ≡ true
-name_utf8 n utf8 =
-    let h = name_next n utf8 in
-    let c = came_token (spaced n) 0 (name_at n) (omega arith) h.0 in
-    ap is_utf8 (sym h.1) ∙ c.utf8
-
 words_utf8 : IsUtf8 (codes "\\connect ")
 unfolding is_utf8 chars encode
 words_utf8 = IsUtf8-from_is_utf8 (codes "\\connect ") refl
@@ -172,7 +166,7 @@ line_stands front g n rest gap fresh is plain =
     let text = front ++ (g ++ (line ++ 10 ∷ rest)) in
     let whole : text ≡ (front ++ g) ++ (line ++ 10 ∷ rest) = sym (append_assoc front g (line ++ 10 ∷ rest)) in
     let spells : IsMetaLine line = (_, name_line n (name_in_line n plain), refl) in
-    let utf8 = is_utf8-from_IsUtf8 line (IsUtf8-append (codes "\\connect ") (written_name n) words_utf8 (IsUtf8-from_is_utf8 (written_name n) (name_utf8 n is.utf8))) in
+    let utf8 = is_utf8-from_IsUtf8 line (IsUtf8-append (codes "\\connect ") (written_name n) words_utf8 (name_utf8 n is)) in
     let there = spelling_is_read (front ++ g) line (10 ∷ rest) MetaLine spells refl utf8 (λ e. fresh_begins (front ++ g) (line ++ 10 ∷ rest) fresh) in
     let place : length (front ++ g) ≡ length front + length g = length-append front g in
     let passed : next_token_of text (length front) ≡ next_token_of text (length front + length g) =

@@ -26,15 +26,17 @@ use Rattle.ddl_laws.specs.Respelling.{IsPath, IsWritable, AllWritable, joined, s
 use Rattle.ddl_forms.proofs.Kept.{AllCame, have_come, came_token}
 use Rattle.ddl_laws.proofs.ReadingLaws.{found, ends_past, line_past}
 use Rattle.ddl_forms.proofs.Tokens.{none}
-use Rattle.ddl_laws.proofs.Whole.{statement_as}
-use Rattle.ddl_laws.proofs.Fits.{writable}
+use Rattle.ddl_laws.proofs.Whole.{command_as, statement_as}
 use Rattle.ddl_laws.proofs.Respelled.{can_be_written, joined_read}
 
 -- ---- statements
 
 statement_yields : (s : Stmt) (ts : List Lexeme) (r : List ℕ) → AllCame ts r → statement.Spells (Some s) ts → IsWritable s
 unfolding statement_as
-statement_yields s ts r came spells = writable none s ((statement_as none).made (Some s) ts r came spells).0
+statement_yields s ts r came spells = elim ((statement_as none).made (Some s) ts r came spells) [
+  | inl h ↦ absurd cc h.2
+  | inr h ↦ (let same : h.0 ≡ s = cc h.2 in subst IsWritable same ((command_as none).is h.0 h.1))
+]
 
 -- ---- whole texts
 

@@ -24,12 +24,9 @@ use Rattle.copy_text.specs.Texts.{IsName}
 use Rattle.copy_text.specs.Marks.{newline as line_feed, end_mark}
 use Rattle.cat_model.specs.declared.object.QName.{QName}
 use Rattle.ddl_laws.proofs.LineTexts.{IsFresh, connect_line, connect_is, line_stands}
-use Rattle.ddl_write.specs.Paths.{joined as joined_texts}
-use Rattle.ddl_forms.proofs.Written.{two_texts}
-use Rattle.ddl_laws.proofs.Alters.{nothing_follows}
+use Rattle.ddl_forms.proofs.Putting.{nothing_follows, joined-append}
 use Rattle.ddl_laws.proofs.Whole.{command_as, statement_as}
-use Rattle.ddl_laws.proofs.Fits.{IsHeader, no_rows, fits}
-use Rattle.ddl_laws.proofs.Spelled.{given, spelled_so, copy_head, copy_is, copy_head_is}
+use Rattle.ddl_laws.proofs.Spelled.{IsSpelled, given, spelled_so, copy_head, copy_is, copy_spelled}
 use Rattle.ddl_laws.specs.Readings.{IsLine, Reads, all_read, one_read, line_read}
 use Rattle.ddl_laws.specs.Respelling.{IsWritable, AllWritable, joined, spellings, said}
 use Rattle.ddl_forms.proofs.Closing.{ends_with, only_last}
@@ -48,14 +45,14 @@ pub record IsLaidOut (g : List ℕ) (s : Stmt) (text : List ℕ) : Type 0 where
   pub says : (at : ℕ) → statement.Spells (Some s) (placed at tokens)
   pub last : only_last semicolon tokens ≡ true
 
-pub laid_out : {g : List ℕ} (gap : Gap g) (s : Stmt) (text : List ℕ) → IsHeader s → IsWritable s → joined_texts ((command_as gap).written.pieces s ++ (10 ∷ []) ∷ []) ≡ g ++ text → IsLaidOut g s text
+pub laid_out : {g : List ℕ} (gap : Gap g) (s : Stmt) (text : List ℕ) → IsSpelled gap s text → IsLaidOut g s text
 unfolding statement_as
-laid_out gap s text head is e =
-    let w = (command_as gap).written in
-    let k = (statement_as gap).put (Some s) (fits gap s head is, refl) [] nothing_follows refl in
+laid_out gap s text is =
+    let pieces = (command_as gap).written.pieces s is.0 in
+    let k = (statement_as gap).put (Some s) (inr (s, is.0, refl)) [] nothing_follows refl in
     record {
       tokens = k.tokens;
-      bytes = ap (λ (x : List ℕ). x ++ 10 ∷ []) k.bytes ∙ (two_texts (w.text s) (10 ∷ []) (w.pieces s) ((10 ∷ []) ∷ []) (w.same s) refl ∙ e);
+      bytes = ap (λ (x : List ℕ). x ++ 10 ∷ []) k.bytes ∙ (sym (joined-append pieces ((10 ∷ []) ∷ [])) ∙ is.1);
       stood = subst Stood (append-nil k.tokens) k.stood;
       says = k.spells;
       last = ap (only_last semicolon) (sym (append-nil k.tokens)) ∙ k.last;
@@ -77,13 +74,13 @@ unfolding spelling
 can_be_written {g} gap (stmt.CopyRows q columns rows) is = record {
   text = copy_head q columns ++ (rows ++ (end_mark ++ line_feed ∷ []));
   spells = ap (λ (x : List ℕ). Some x) (copy_is q columns rows);
-  lies = by_rows q columns rows (laid_out gap (stmt.CopyRows q columns []) (copy_head q columns) refl (is.0, is.1, no_rows) (copy_head_is gap q columns)) is.2;
+  lies = by_rows q columns rows (laid_out gap (stmt.CopyRows q columns []) (copy_head q columns) (copy_spelled gap q columns rows is)) is.2;
 }
 can_be_written {g} gap (stmt.Connect n) is = record { text = connect_line n ++ 10 ∷ []; spells = ap (λ (x : List ℕ). Some x) (connect_is n); lies = by_line n is.0 is.1 }
 can_be_written {g} gap s is = record {
   text = given (spelling s);
   spells = refl;
-  lies = by_tokens s (given (spelling s)) (laid_out gap s (given (spelling s)) tt is (spelled_so gap s tt is)) (λ t end. refl);
+  lies = by_tokens s (given (spelling s)) (laid_out gap s (given (spelling s)) (spelled_so gap s tt is)) (λ t end. refl);
 }
 
 -- ---- where nothing is left

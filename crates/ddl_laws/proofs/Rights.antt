@@ -1,296 +1,569 @@
 -- GRANT and REVOKE: each part of their grammar with the text that it is written in.
-use Rattle.std.proofs.Common.{◌≡◌, ℕ, Bool, true, false, List, [], ◌∷◌, ◌++◌, append_assoc, Option, Some, None, refl, sym, ap, subst, ◌∙◌, inr, codes}
-use Rattle.std.specs.Prelude.{is_some}
-use Rattle.sql_lex.specs.Meaning.{is_keyword_of}
+use Rattle.std.proofs.Common.{◌≡◌, ℕ, Bool, true, false, not, cond, ◌&&◌, List, [], ◌∷◌, ◌++◌, map, append_assoc, append-nil, Option, Some, None, option_map, Result, Ok, Err, refl, sym, ap, subst, ◌∙◌, ◌⊎◌, inl, inr, codes}
+use Rattle.std.specs.List.{flat_map}
+use Rattle.std.specs.Str.{is_utf8, chars}
+use Rattle.std.proofs.Math.Utf8.{encode}
+use Rattle.std.proofs.lemmas.Bool.{and_parts, not-true}
+use Rattle.sql_lex.specs.declared.token.TokenKind.{TokenKind}
+use Rattle.sql_lex.specs.declared.token.TokenKind.TheVariants.{Word}
+use Rattle.sql_lex.specs.Meaning.{is_keyword_of, name_of}
+use Rattle.sql_lex.specs.ReadBack.{written_kind}
 use Rattle.sql_lex.specs.Written.{written_name}
 use Rattle.copy_text.specs.Texts.{IsName}
 use Rattle.cat_model.specs.declared.grant.Rights.{Rights}
 use Rattle.cat_model.specs.declared.grant.Granted.{Granted}
+use Rattle.cat_model.specs.declared.grant.Granted.TheVariants as on
+use Rattle.cat_model.specs.declared.grant.Grantee.{Grantee}
+use Rattle.cat_model.specs.declared.grant.Grantee.TheVariants as grantees
 use Rattle.cat_model.specs.declared.stmt.Stmt.{Stmt}
 use Rattle.cat_model.specs.declared.stmt.Stmt.TheVariants as stmt
-use Rattle.ddl_parts.specs.Lexemes.{Lexeme, is_word, is_sign, spelled}
-use Rattle.ddl_parts.specs.Parts.{Part, seen, nothing, ◌then◌}
+use Rattle.cat_model.specs.Grants.{no_rights, has_rights}
+use Rattle.cat_model.specs.Lexemes.{same_text}
+use Rattle.ddl_parts.specs.Lexemes.{Lexeme, is_word, is_sign, spelled, starts}
 use Rattle.ddl_parts.specs.Lists.{comma}
+use Rattle.ddl_parts.specs.Parts.{Part, ◌then◌, ◌▸◌}
+use Rattle.ddl_parts.specs.Leaves.{name, name_value, name_in}
 use Rattle.ddl_write.specs.Paths.{joined, only_if}
-use Rattle.ddl_write.specs.RightsText.{rights_text, granted_words, granted_name, grantee_text}
+use Rattle.ddl_write.specs.RightsText.{is_all, with_commas, right_list, rights_text, granted_words, granted_name, grantee_text}
 use Rattle.ddl_write.specs.Roles.{truth as truth_word}
+use Rattle.ddl_rights.specs.declared.rights.Right.{Right}
+use Rattle.ddl_rights.specs.declared.rights.Right.TheVariants.{Select}
+use Rattle.ddl_rights.specs.declared.rights.Kind.{Kind}
+use Rattle.ddl_rights.specs.declared.rights.Kind.TheVariants.{Tables, Sequences, Schemas, Types}
 use Rattle.ddl_rights.specs.declared.rights.Wanted.{Wanted}
+use Rattle.ddl_rights.specs.declared.rights.Wanted.TheVariants.{All, These}
 use Rattle.ddl_rights.specs.Depending.{◌thenby◌}
-use Rattle.ddl_rights.specs.RightsGrammar.{wanted_first, wanted, rights_and_object, grantee}
-use Rattle.ddl_rights.specs.Memberships.{truth_first, truth, set_behind, inherit_and_set, others_behind, options, with_options, granted_by, Member, member, member_of, membership}
-use Rattle.ddl_rights.specs.Grants.{grant_option, to_grantee, from_grantee, grant_rights, revoke_rights, first, behind_first, granted, revoked}
+use Rattle.ddl_rights.specs.Values.{told}
+use Rattle.ddl_rights.specs.RightsGrammar.{with_right, only, within, kind_rights, goes_with, right_first, wanted_first, wanted, joining, right_behind, more_rights, all_of, rights_from, kind_first, kind_has, having, kind_with, rights_on, object, on_object, rights_and_object, grantee_of, grantee}
+use Rattle.ddl_rights.specs.Memberships.{truth_first, truth, set_behind, inherit_and_set, others_behind, options, with_options, granted_by, member, member_of, membership}
+use Rattle.ddl_rights.specs.Grants.{grant_option, to_grantee, from_grantee, grant_rights, revoke_rights, First, named_by, first, behind_first, granted, revoked}
 use Rattle.ddl_rights.specs.Writable.{kind_of, IsObject, AreRights, IsGrantee, IsGrantor}
-use Rattle.ddl_forms.proofs.Closing.{ends_with, ends_append, Closes, then_closes, seen_closes, choose_closes}
-use Rattle.ddl_forms.proofs.Tokens.{none, space, name_token}
-use Rattle.ddl_forms.proofs.Putting.{begins_by, parts_words, Follows, IsPut, behind, begun, put_as, then_put, seen_put, same_text}
-use Rattle.ddl_forms.proofs.Yielding.{Yields, then_yields, choose_yields, any_yields}
-use Rattle.ddl_forms.proofs.Written.{Written, Meets, leaf_as, ended_as, is_key, key_is, is_plain, word_as, sign_as, ending, mark_as, name_as, then_as, lead_as, close_as, seen_as, fit_as, after_as, pieces_as, choose_as, first_as, is_end}
-use Rattle.ddl_laws.proofs.RightsMade.{AreSome, AreOn, CanFollow, IsFirst, thenby_yields, wanted_yields, rights_and_object_yields, grantee_yields, first_yields}
-use Rattle.ddl_laws.proofs.RightsLayouts.{sp, word_at, word_put, kind_written, granted_words_are, IsWanted, rights_wanted, on_text, grantee_put, first_put, wanted_put, wanted_begins, name_put_first, role_put, thenby_put}
-use Rattle.ddl_laws.proofs.Alters.{nothing_follows}
+use Rattle.ddl_rights.proofs.RightsLaws.{object_on, right_word}
+use Rattle.ddl_rights.proofs.RightSets.{has_some, has_it, kind_some, kind_whole, all_is, listed_is, some_listed, written_word, words_are, AllGo, all_go}
+use Rattle.ddl_forms.proofs.Behind.{Behind, Anything, Words, Safe, End, admits, covers, through, admitted, looser, loose, Opens}
+use Rattle.ddl_forms.proofs.Closing.{Closes, ends_with, ends_append}
+use Rattle.ddl_forms.proofs.Kept.{AllCame, came_front, came_behind}
+use Rattle.ddl_forms.proofs.Putting.{Follows, IsPut, put_as, joined-append}
+use Rattle.ddl_forms.proofs.Tokens.{none, space, name_token, value_name}
+use Rattle.ddl_forms.proofs.Written.{Written, Kinds, meets, is_bare_word, word_said, name_said, is_key, comma_as, ending, mark_as, name_as, path_as, then_as, then_puts, lead_as, word_then, end_as, seen_as, is_as, like_as, pieces_as, choose_as, heard_as, also_as, AllFit, items_pieces, many_as, lone_as}
+use Rattle.ddl_laws.specs.Respelling.{IsWritable}
+
+-- ---- a part whose value decides what stands behind it
+
+-- What was decided begins with what may stand behind the first part, and with what this opens; and before what may stand
+-- behind it all.
+abbrev pub decides : {A B : Type 0} → {p : Part A} → {q : Part B} → Behind → Behind → Written p → Written q → Bool
+decides opens m a b = meets a.after b && (covers b.after m && (covers opens b.opens && not b.lacks))
+
+pub admits_some : (l : Bool) (m : Behind) (text : List ℕ) → admits m text ≡ true → admits (cond l m Anything) text ≡ true
+admits_some true m text e = e
+admits_some false m text e = refl
+
+pub thenby_puts : {A B : Type 0} {p : Part A} {f : A → Part B} (a : Written p) (b : (v : A) → Written (f v)) (opens m : Behind) (v : A) → decides opens m a (b v) ≡ true → (w : B) (fit : a.Fit v) (other : (b v).Fit w) (others : List Lexeme) → Follows others → admits m (spelled others) ≡ true
+    → IsPut (p thenby f) w (joined (a.pieces v fit ++ (b v).pieces w other)) others
+thenby_puts {p = p} {f = f} a b opens m v e w fit other others follows h =
+    let x = b v in
+    let both = and_parts (meets a.after x) (covers x.after m && (covers opens x.opens && not x.lacks)) e in
+    let after = and_parts (covers x.after m) (covers opens x.opens && not x.lacks) both.1 in
+    put_as (p then f v) (p thenby f) (v, w) w (joined (a.pieces v fit ++ x.pieces w other)) others
+    (then_puts a x both.0 v w fit other others follows (admitted x.after m (spelled others) after.0 h)) (λ ts s. (v, s.0, s.1, s.2, s.3, s.4))
+
+pub thenby_begins : {A B : Type 0} {p : Part A} {f : A → Part B} (a : Written p) (b : (v : A) → Written (f v)) (opens m : Behind) (v : A) → decides opens m a (b v) ≡ true → (w : B) (fit : a.Fit v) (other : (b v).Fit w) → Opens false (looser a.opens opens) (joined (a.pieces v fit ++ (b v).pieces w other))
+thenby_begins a b opens m v e w fit other n c rest h =
+    let x = b v in
+    let both = and_parts (meets a.after x) (covers x.after m && (covers opens x.opens && not x.lacks)) e in
+    let after = and_parts (covers x.after m) (covers opens x.opens && not x.lacks) both.1 in
+    let opening = and_parts (covers opens x.opens) (not x.lacks) after.1 in
+    let k = loose n a.opens opens c in
+    let behind = x.begins w other n (through n opens x.opens k.1 opening.0) rest (ap (λ (l : Bool). admits (cond l n Anything) rest) (not-true x.lacks opening.1)) in
+    let tail = joined (x.pieces w other) in
+    ap (λ (t : List ℕ). admits n (t ++ rest)) (joined-append (a.pieces v fit) (x.pieces w other)) ∙ ap (admits n) (append_assoc (joined (a.pieces v fit)) tail rest)
+    ∙ a.begins v fit n k.0 (tail ++ rest) (admits_some a.lacks n (tail ++ rest) behind)
+
+abbrev pub thenby_as : {A B : Type 0} → {p : Part A} → {f : A → Part B} → (a : Written p) → (b : (v : A) → Written (f v)) → (opens m : Behind) → ((v : A) → decides opens m a (b v) ≡ true) → (closed : Bool) → ((v : A) → closed ≡ true → Closes (is_sign 59) (f v)) → Written (p thenby f)
+thenby_as {A} {p = p} {f = f} a b opens m e closed closes = record {
+  Fit = λ w. (v : A) × a.Fit v × (b v).Fit w;
+  Is = λ w. (v : A) × a.Is v × (b v).Is w;
+  pieces = λ w fit. a.pieces fit.0 fit.1 ++ (b fit.0).pieces w fit.2;
+  after = m;
+  opens = looser a.opens opens;
+  lacks = false;
+  closed = closed;
+  put = λ w fit. thenby_puts a b opens m fit.0 (e fit.0) w fit.1 fit.2;
+  begins = λ w fit. thenby_begins a b opens m fit.0 (e fit.0) w fit.1 fit.2;
+  made = λ w ts r came s.
+      let parts : AllCame (s.1 ++ s.2) r = subst (λ (us : List Lexeme). AllCame us r) s.3 came in
+      (s.0, a.made s.0 s.1 _ (came_front s.1 s.2 r parts) s.4, (b s.0).made w s.2 r (came_behind s.1 s.2 r parts) s.5);
+  closes = λ is w ts s. ap (ends_with (is_sign 59)) s.3 ∙ ends_append (is_sign 59) s.1 s.2 (closes s.0 is w s.2 s.5);
+}
 
 -- ---- memberships
 
-pub truth_put : (b : Bool) (others : List Lexeme) → Follows others → begins_by parts_words (spelled others) ≡ true → IsPut truth b (sp ++ truth_word b) others
-unfolding truth_first is_word is_keyword_of is_key
-truth_put true others follows e = word_put truth true (codes "TRUE") sp others (key_is (codes "true") (codes "TRUE") refl).word refl space (λ at. (word_at sp (codes "TRUE") at, refl, refl)) follows e
-truth_put false others follows e = word_put truth false (codes "FALSE") sp others (key_is (codes "false") (codes "FALSE") refl).word refl space (λ at. (word_at sp (codes "FALSE") at, refl, refl)) follows e
+pub truth_bare : (b : Bool) → is_bare_word (truth_word b) ≡ true
+unfolding is_bare_word
+truth_bare true = refl
+truth_bare false = refl
+
+pub truth_means : (b : Bool) (u : Unit {0}) (t : Lexeme) → t.kind ≡ Word → t.word ≡ truth_word b → told (truth_first (t ∷ [])) ≡ Ok b
+unfolding truth_first is_word is_keyword_of
+truth_means true u t k w = rw (k, w) refl
+truth_means false u t k w = rw (k, w) refl
 
 abbrev pub truth_as : Written truth
-truth_as = leaf_as (λ b. Unit {0}) (λ b. sp ++ truth_word b) (begins_by parts_words) (λ b fit others follows e. truth_put b others follows e) (any_yields truth)
+truth_as = word_said space (λ b. Unit {0}) (λ b. Unit {0}) (λ b u. truth_word b) (λ b u. truth_bare b) truth_means (λ t b e. tt)
 
-unfoldable pub set_behind_as : Written set_behind
-unfolding set_behind is_key is_plain
-set_behind_as =
-    first_as comma (nothing comma true) (lead_as (sign_as none 44 refl) (lead_as (word_as space (codes "SET") refl) truth_as (λ v is rest e. refl)) (λ v is rest e. refl)) (any_yields (nothing comma true)) (λ e. absurd cc)
+abbrev pub Anyhow : {A : Type 0} → A → Type 0
+Anyhow v = Unit {0}
 
-abbrev pub or_false : Option Bool → Bool
-or_false None = false
-or_false (Some b) = b
+abbrev pub with_inherit : Bool × Bool → Option Bool × Bool
+with_inherit y = (Some y.0, y.1)
 
-abbrev pub inherited : Option Bool × Bool → Bool × Bool
-inherited x = (or_false x.0, x.1)
+abbrev pub without_inherit : Bool → Option Bool × Bool
+without_inherit b = (None, b)
 
-unfoldable pub inherit_and_set_as : Written inherit_and_set
-unfolding inherit_and_set is_key set_behind_as
-inherit_and_set_as =
-    let inherit = seen_as (λ x. (Some x.0, x.1)) inherited (then_as truth_as set_behind_as (λ v is rest e. refl)) (λ x is. (is, refl)) in
-    choose_as (is_word (codes "inherit")) (λ x. is_some x.0) (lead_as (word_as space (codes "INHERIT") refl) inherit (λ v is rest e. refl))
-    (lead_as (word_as space (codes "SET") refl) (seen_as (λ b. (None, b)) (λ x. x.1) truth_as (λ b is. (is, refl))) (λ v is rest e. refl))
-    (λ x fit. ap (λ (y : Option Bool × Bool). is_some y.0) (sym fit.1)) (λ x fit. ap (λ (y : Option Bool × Bool). is_some y.0) (sym fit.1))
-
-pub any_inherit : (inherit : Option Bool) (z : Bool) → inherit_and_set_as.Fit (inherit, z)
-unfolding inherit_and_set_as
-any_inherit None z = (tt, refl)
-any_inherit (Some b) z = ((tt, tt), refl)
-
-unfoldable pub others_behind_as : Written others_behind
-unfolding others_behind inherit_and_set_as is_plain
-others_behind_as =
-    let unsaid : Option Bool × Bool = (None, true) in
-    let said = lead_as (sign_as none 44 refl) inherit_and_set_as (λ v is rest e. refl) in
-    first_as comma (nothing comma unsaid) said (λ v ts r came spells. any_inherit v.0 v.1) (λ e. absurd cc)
-
-pub others_meet : (x : Option Bool × Bool) → others_behind_as.Fit x → (rest : List ℕ) → others_behind_as.after rest ≡ true → begins_by parts_words (others_behind_as.text x ++ rest) ≡ true
-unfolding others_behind_as
-others_meet x is rest e = refl
-
-unfoldable pub options_as : Written options
-unfolding options is_key others_behind_as
-options_as =
-    let admin = lead_as (word_as space (codes "ADMIN") refl) (then_as truth_as others_behind_as others_meet) (λ v is rest e. refl) in
-    first_as (is_word (codes "admin")) (seen (λ x. (false, x)) inherit_and_set) admin
-    (λ v ts r came spells. (tt, any_inherit v.1.0 v.1.1)) (λ e. absurd cc)
+abbrev pub inherited : (o : Option Bool) → (z : Bool) → ((y : Bool × Bool) × (Unit {0} × Unit {0}) × (with_inherit y ≡ (o, z))) ⊎ ((b : Bool) × Unit {0} × (without_inherit b ≡ (o, z)))
+inherited None z = inr (z, tt, refl)
+inherited (Some b) z = inl ((b, z), (tt, tt), refl)
 
 unfoldable pub with_options_as : Written with_options
-unfolding with_options is_key options_as
+unfolding with_options options others_behind inherit_and_set set_behind is_key
 with_options_as =
-    let unsaid : Bool × (Option Bool × Bool) = (false, (None, true)) in
-    let said = lead_as (word_as space (codes "WITH") refl) options_as (λ v is rest e. refl) in
-    first_as (is_word (codes "with")) (nothing (is_word (codes "with")) unsaid) said (λ v ts r came spells. (tt, any_inherit v.1.0 v.1.1)) (λ e. absurd cc)
+    let set : Written set_behind = like_as (choose_as (lead_as comma_as (word_then (codes "SET") refl truth_as refl) refl) (heard_as Anyhow (λ b ts r came h. tt))) Anyhow (λ b u. inl tt) (λ b h. tt) in
+    let inherit = seen_as (λ x. (Some x.0, x.1)) (then_as truth_as set refl) in
+    let both : Written inherit_and_set = like_as (choose_as (word_then (codes "INHERIT") refl inherit refl) (word_then (codes "SET") refl (seen_as (λ b. (None, b)) truth_as) refl)) Anyhow (λ x u. inherited x.0 x.1) (λ x h. tt) in
+    let others : Written others_behind = like_as (choose_as (lead_as comma_as both refl) (heard_as Anyhow (λ x ts r came h. tt))) Anyhow (λ x u. inl tt) (λ x h. tt) in
+    let admin : Written options = like_as (choose_as (word_then (codes "ADMIN") refl (then_as truth_as others refl) refl) (heard_as Anyhow (λ x ts r came h. tt))) Anyhow (λ x u. inl (tt, tt)) (λ x h. tt) in
+    like_as (choose_as (word_then (codes "WITH") refl admin refl) (heard_as Anyhow (λ x ts r came h. tt))) Anyhow (λ x u. inl tt) (λ x h. tt)
 
-abbrev pub grantor_in : Option (List ℕ) → List ℕ
-grantor_in None = []
-grantor_in (Some n) = n
+abbrev pub ended : (o : Option (List ℕ)) → IsGrantor o → ((n : List ℕ) × IsName n × (Some n ≡ o)) ⊎ ((u : Unit {0}) × Unit {0} × (None ≡ o))
+ended None is = inr (tt, tt, refl)
+ended (Some n) is = inl (n, is, refl)
 
-unfoldable pub by_or_end_as : Written granted_by
-unfolding granted_by is_key
-by_or_end_as =
-    let name = lead_as (word_as space (codes "BY") refl) (close_as (name_as space) ending (λ rest e. refl)) (λ v is rest e. refl) in
-    choose_as (is_word (codes "granted")) is_some (seen_as Some grantor_in (lead_as (word_as space (codes "GRANTED") refl) name (λ v is rest e. refl)) (λ n is. (is, refl))) (seen_as (λ u. None) (λ o. tt) (mark_as ending) (λ u is. (is, refl)))
-    (λ o fit. ap is_some (sym fit.1)) (λ o fit. ap is_some (sym fit.1))
-
-pub grantor_fits : (o : Option (List ℕ)) → IsGrantor o → by_or_end_as.Fit o
-unfolding by_or_end_as
-grantor_fits None is = (tt, refl)
-grantor_fits (Some n) is = (is, refl)
-
-pub grantor_is : (o : Option (List ℕ)) → by_or_end_as.Fit o → IsGrantor o
-unfolding by_or_end_as
-grantor_is None fit = tt
-grantor_is (Some n) fit = fit.0
+pub grantor_is : (o : Option (List ℕ)) → ((n : List ℕ) × IsName n × (Some n ≡ o)) ⊎ ((u : Unit {0}) × Unit {0} × (None ≡ o)) → IsGrantor o
+grantor_is o (inl h) = subst IsGrantor h.2 h.1
+grantor_is o (inr h) = subst IsGrantor h.2 tt
 
 unfoldable pub granted_by_as : Written granted_by
-unfolding by_or_end_as
-granted_by_as = after_as (fit_as by_or_end_as IsGrantor grantor_fits grantor_is) is_end (λ rest e. rw e refl)
-
-pub options_meet : (x : Option (List ℕ)) → granted_by_as.Fit x → (rest : List ℕ) → is_end rest ≡ true → with_options_as.after (granted_by_as.text x ++ rest) ≡ true
-unfolding with_options_as granted_by_as
-options_meet None is rest e = refl
-options_meet (Some n) is rest e = refl
-
-unfoldable pub member_as : Written member
-unfolding member with_options_as granted_by_as
-member_as = then_as (name_as space) (then_as with_options_as granted_by_as options_meet) (λ v is rest e. refl)
-
-abbrev pub member_in : Stmt → Member
-member_in (stmt.GrantRole role m c admin inherit z) = (m, ((admin, (inherit, z)), c))
-member_in _ = ([], ((false, (None, false)), None))
+unfolding granted_by is_key
+granted_by_as =
+    let name = word_then (codes "GRANTED") refl (word_then (codes "BY") refl (end_as (name_as space) refl) refl) refl in
+    like_as (choose_as (seen_as Some name) (seen_as (λ u. None) (mark_as ending))) IsGrantor ended grantor_is
 
 unfoldable pub membership_as : (role : List ℕ) → Written (membership role)
-unfolding membership is_key member_as
-membership_as role = lead_as (word_as space (codes "TO") refl) (seen_as (member_of role) member_in member_as (λ x is. (is, refl))) (λ v is rest e. refl)
+unfolding membership member is_key with_options_as granted_by_as
+membership_as role = word_then (codes "TO") refl (seen_as (member_of role) (then_as (name_as space) (then_as with_options_as granted_by_as refl) refl)) refl
+
+-- ---- rights
+
+-- what may be wanted: all rights, or those of a list that begins with one
+abbrev pub wanting : Option Right → Wanted
+wanting None = All
+wanting (Some x) = These (only x)
+
+abbrev pub opening_word : Option Right → List ℕ
+opening_word None = codes "ALL"
+opening_word (Some x) = written_word x
+
+abbrev pub opening_name : Option Right → List ℕ
+opening_name None = codes "all"
+opening_name (Some x) = right_word x
+
+pub opening_bare : (o : Option Right) → is_bare_word (opening_word o) ≡ true
+unfolding is_bare_word
+opening_bare None = refl
+opening_bare (Some Select) = refl
+opening_bare (Some x) = refl
+
+pub wanted_says : (o : Option Right) (t : Lexeme) → t.kind ≡ Word → t.word ≡ opening_word o → wanted_first (t ∷ []) ≡ Some (wanting o)
+unfolding wanted_first right_first is_word is_keyword_of
+wanted_says None t k w = rw (k, w) refl
+wanted_says (Some Select) t k w = rw (k, w) refl
+wanted_says (Some x) t k w = rw (k, w) refl
+
+pub wanted_named : (o : Option Right) (t : Lexeme) → t.kind ≡ Word → t.word ≡ opening_word o → name_value t ≡ Ok (opening_name o)
+unfolding name_value name_in name_of is_utf8 chars encode
+wanted_named None t k w = rw (k, w) refl
+wanted_named (Some Select) t k w = rw (k, w) refl
+wanted_named (Some x) t k w = rw (k, w) refl
+
+-- all of a kind, or one at least
+abbrev pub AreSome : Wanted → Type 0
+AreSome All = Unit {0}
+AreSome (These r) = has_rights r ≡ true
+
+pub wanted_some : (ts : List Lexeme) (w : Wanted) → wanted_first ts ≡ Some w → AreSome w
+unfolding wanted_first
+wanted_some ts w e = by (starts (is_word (codes "all")) ts) e
+  where
+    of_list : (o : Option Right) → option_map (λ x. These (only x)) o ≡ Some w → AreSome w
+    of_list None f = absurd cc
+    of_list (Some x) f = let same : These (only x) ≡ w = cc in subst AreSome same (has_some (only x) x (has_it x no_rights))
+
+    by : (b : Bool) → cond b (Some All) (option_map (λ x. These (only x)) (right_first ts)) ≡ Some w → AreSome w
+    by true f = let same : All ≡ w = cc in subst AreSome same tt
+    by false f = of_list (right_first ts) f
+
+pub told_is : {A : Type 0} (o : Option A) (v : A) → told o ≡ Ok v → o ≡ Some v
+told_is None v e = absurd cc
+told_is (Some u) v e = let same : u ≡ v = cc in ap Some same
+
+pub told_ok : {A : Type 0} (o : Option A) (v : A) → o ≡ Some v → told o ≡ Ok v
+told_ok o v e = ap told e
+
+unfoldable pub wanted_as : Written wanted
+wanted_as =
+    word_said space (λ w. (o : Option Right) × (wanting o ≡ w)) AreSome (λ w fit. opening_word fit.0) (λ w fit. opening_bare fit.0)
+    (λ w fit t k word. told_ok (wanted_first (t ∷ [])) w (wanted_says fit.0 t k word ∙ ap Some fit.1)) (λ t w e. wanted_some (t ∷ []) w (told_is (wanted_first (t ∷ [])) w e))
+
+pub right_bare : (x : Right) → is_bare_word (written_word x) ≡ true
+right_bare x = opening_bare (Some x)
+
+pub right_says : (x : Right) (t : Lexeme) → t.kind ≡ Word → t.word ≡ written_word x → right_first (t ∷ []) ≡ Some x
+unfolding right_first is_word is_keyword_of
+right_says Select t k w = rw (k, w) refl
+right_says x t k w = rw (k, w) refl
+
+pub right_means : (s : Rights) (x : Right) → goes_with s x ≡ true → (t : Lexeme) → t.kind ≡ Word → t.word ≡ written_word x → told (joining s (right_first (t ∷ []))) ≡ Ok x
+right_means s x goes t k w = ap (λ o. told (joining s o)) (right_says x t k w) ∙ ap (λ (b : Bool). told (cond b (Some x) None)) goes
+
+unfoldable pub more_as : (s : Rights) → Written (comma ▸ right_behind s)
+more_as s = lead_as comma_as (word_said none (λ x. goes_with s x ≡ true) Anyhow (λ x goes. written_word x) (λ x goes. right_bare x) (right_means s) (λ t x e. tt)) refl
+
+pub still_some : (r : Rights) (xs : List Right) → has_rights r ≡ true → has_rights (all_of r xs) ≡ true
+still_some r [] e = e
+still_some r (x ∷ xs) e = still_some (with_right x r) xs (has_some (with_right x r) x (has_it x r))
+
+unfoldable pub rights_from_as : (r : Rights) → Written (rights_from r)
+unfolding rights_from more_as
+rights_from_as r = seen_as (all_of r) (many_as more_as Anyhow (λ s x h. tt) Safe (λ s. refl))
+
+-- ---- objects
+
+abbrev pub kind_written : Kind → List ℕ
+kind_written Tables = codes "TABLE"
+kind_written Sequences = codes "SEQUENCE"
+kind_written Schemas = codes "SCHEMA"
+kind_written Types = codes "TYPE"
+
+pub kind_bare : (k : Kind) → is_bare_word (kind_written k) ≡ true
+unfolding is_bare_word
+kind_bare Tables = refl
+kind_bare x = refl
+
+pub kind_means : (w : Wanted) (k : Kind) → kind_has w k ≡ true → (t : Lexeme) → t.kind ≡ Word → t.word ≡ kind_written k → told (having w (kind_first (t ∷ []))) ≡ Ok k
+unfolding kind_first is_word is_keyword_of
+kind_means w Tables has t k word = rw (k, word, has) refl
+kind_means w x has t k word = rw (k, word, has) refl
+
+pub kind_is : (w : Wanted) (o : Option Kind) (k : Kind) → having w o ≡ Some k → kind_has w k ≡ true
+kind_is w None k e = absurd cc
+kind_is w (Some j) k e = by (kind_has w j) refl e
+  where
+    by : (b : Bool) → kind_has w j ≡ b → cond b (Some j) None ≡ Some k → kind_has w k ≡ true
+    by true is f = let same : j ≡ k = cc in subst (λ (x : Kind). kind_has w x ≡ true) same is
+    by false is f = absurd cc
+
+unfoldable pub kind_with_as : (w : Wanted) → Written (kind_with w)
+kind_with_as w = word_said space (λ k. kind_has w k ≡ true) (λ k. kind_has w k ≡ true) (λ k has. kind_written k) (λ k has. kind_bare k) (kind_means w) (λ t k e. kind_is w (kind_first (t ∷ [])) k (told_is (having w (kind_first (t ∷ []))) k e))
+
+unfoldable pub object_as : (k : Kind) → Written (object k)
+object_as Tables = seen_as on.Table (path_as space)
+object_as Sequences = seen_as on.Sequence (path_as space)
+object_as Schemas = seen_as on.Schema (name_as space)
+object_as Types = seen_as on.Type (path_as space)
+
+unfoldable pub object_fit : (o : Granted) → IsObject o → (object_as (kind_of o)).Fit o
+unfolding object_as
+object_fit (on.Table q) is = (q, is, refl)
+object_fit (on.Sequence q) is = (q, is, refl)
+object_fit (on.Schema n) is = (n, is, refl)
+object_fit (on.Type q) is = (q, is, refl)
+
+pub object_is : (k : Kind) (o : Granted) → (object_as k).Is o → IsObject o × (kind_of o ≡ k)
+unfolding object_as
+object_is Tables o h = subst (λ (x : Granted). IsObject x × (kind_of x ≡ Tables)) h.2 (h.1, refl)
+object_is Sequences o h = subst (λ (x : Granted). IsObject x × (kind_of x ≡ Sequences)) h.2 (h.1, refl)
+object_is Schemas o h = subst (λ (x : Granted). IsObject x × (kind_of x ≡ Schemas)) h.2 (h.1, refl)
+object_is Types o h = subst (λ (x : Granted). IsObject x × (kind_of x ≡ Types)) h.2 (h.1, refl)
+
+abbrev pub object_on_as : (w : Wanted) → (k : Kind) → Written (object_on w k)
+object_on_as w k = seen_as (λ o. (o, rights_on w k)) (object_as k)
+
+pub object_decided : (w : Wanted) (k : Kind) → decides Safe Words (kind_with_as w) (object_on_as w k) ≡ true
+unfolding kind_with_as object_as
+object_decided w Tables = refl
+object_decided w x = refl
+
+abbrev pub AreOn : Granted × Rights → Type 0
+AreOn x = IsObject x.0 × AreRights x.0 x.1
+
+pub rights_are : (w : Wanted) (k : Kind) → AreSome w → kind_has w k ≡ true → (has_rights (rights_on w k) ≡ true) × (within (rights_on w k) (kind_rights k) ≡ true)
+rights_are All k some has = (kind_some k, kind_whole k)
+rights_are (These r) k some has = (some, has)
+
+pub are_on : (w : Wanted) (k : Kind) (o : Granted) → AreSome w → kind_has w k ≡ true → IsObject o × (kind_of o ≡ k) → AreOn (o, rights_on w k)
+are_on w k o some has is = let are = rights_are w k some has in (is.0, (are.0, subst (λ (j : Kind). within (rights_on w k) (kind_rights j) ≡ true) (sym is.1) are.1))
+
+unfoldable pub on_object_as : (w : Wanted) → Written (on_object w)
+unfolding on_object kind_with_as is_key
+on_object_as w =
+    let whole = thenby_as (kind_with_as w) (object_on_as w) Safe Words (object_decided w) false (λ k e. absurd cc) in
+    is_as (word_then (codes "ON") refl whole refl) (λ x. AreSome w → AreOn x) (λ x h some. subst AreOn h.2.2 (are_on w h.0 h.2.0 some h.1 (object_is h.0 h.2.0 h.2.1)))
+
+pub rights_decided : (r s : Rights) → decides Safe Words (rights_from_as r) (on_object_as (These s)) ≡ true
+unfolding rights_from_as on_object_as
+rights_decided r s = refl
+
+unfoldable pub rights_and_object_as : (w : Wanted) → Written (rights_and_object w)
+unfolding rights_and_object rights_from_as on_object_as
+rights_and_object_as All = on_object_as All
+rights_and_object_as (These r) =
+    is_as (thenby_as (rights_from_as r) (λ s. on_object_as (These s)) Safe Words (rights_decided r) false (λ s e. absurd cc)) (λ x. AreSome (These r) → AreOn x)
+    (λ x h some. h.2 (ap has_rights (sym h.1.2) ∙ still_some r h.1.0 some))
+
+pub rights_is : (w : Wanted) (x : Granted × Rights) → (rights_and_object_as w).Is x → AreSome w → AreOn x
+unfolding rights_and_object_as on_object_as
+rights_is All x h = h
+rights_is (These r) x h = h
 
 -- ---- grantees
 
+pub public_bare : is_bare_word (codes "PUBLIC") ≡ true
+unfolding is_bare_word
+public_bare = refl
+
+abbrev pub name_ok : List ℕ → Result (List ℕ) Bool
+name_ok n = Ok n
+
+pub public_means : (n : List ℕ) → n ≡ codes "public" → (t : Lexeme) → t.kind ≡ Word → t.word ≡ codes "PUBLIC" → name_value t ≡ Ok n
+unfolding name_value name_in name_of is_utf8 chars encode
+public_means n is t k w = rw (k, w) (ap name_ok (sym is))
+
+pub grantee_is : (n : List ℕ) → IsName n → IsGrantee (grantee_of n)
+unfolding grantee_of
+grantee_is n is = by (same_text n (codes "public")) refl
+  where
+    by : (b : Bool) → same_text n (codes "public") ≡ b → IsGrantee (cond b grantees.Public (grantees.Role n))
+    by true e = tt
+    by false e = (is, e)
+
+-- a role by its name, and all roles by a word
+abbrev pub either_name : Written name
+either_name = also_as (name_as space) (word_said space (λ n. n ≡ codes "public") IsName (λ n is. codes "PUBLIC") (λ n is. public_bare) public_means value_name)
+
+unfoldable pub grantee_fit : (who : Grantee) → IsGrantee who → (n : List ℕ) × either_name.Fit n × (grantee_of n ≡ who)
+unfolding grantee_of
+grantee_fit grantees.Public is = (codes "public", inr refl, refl)
+grantee_fit (grantees.Role n) is = (n, inl is.0, ap (λ (b : Bool). cond b grantees.Public (grantees.Role n)) is.1)
+
+pub grantee_same : (who : Grantee) (is : IsGrantee who) → joined (either_name.pieces (grantee_fit who is).0 (grantee_fit who is).1) ≡ joined ((32 ∷ []) ∷ grantee_text who ∷ [])
+unfolding grantee_fit
+grantee_same grantees.Public is = refl
+grantee_same (grantees.Role n) is = refl
+
 abbrev pub grantee_as : Written grantee
-grantee_as = leaf_as IsGrantee (λ who. sp ++ grantee_text who) (begins_by parts_words) (λ who is others follows e. grantee_put who others is follows e) grantee_yields
+grantee_as = pieces_as (like_as (seen_as grantee_of either_name) IsGrantee grantee_fit (λ who h. subst IsGrantee h.2 (grantee_is h.0 h.1))) (λ who is. (32 ∷ []) ∷ grantee_text who ∷ []) grantee_same
 
-unfoldable pub with_or_end_as : Written grant_option
+abbrev pub optioned : (b : Bool) → Unit {0} → ((u : Unit {0}) × Unit {0} × (true ≡ b)) ⊎ ((u : Unit {0}) × Unit {0} × (false ≡ b))
+optioned true u = inl (tt, tt, refl)
+optioned false u = inr (tt, tt, refl)
+
+unfoldable pub either_option_as : Written grant_option
 unfolding grant_option is_key
-with_or_end_as =
-    let words = lead_as (word_as space (codes "WITH") refl) (lead_as (word_as space (codes "GRANT") refl) (lead_as (word_as space (codes "OPTION") refl) (mark_as ending) (λ v is rest e. refl)) (λ v is rest e. refl)) (λ v is rest e. refl) in
-    choose_as (is_word (codes "with")) (λ b. b) (seen_as (λ x. true) (λ b. tt) words (λ u is. (is, refl))) (seen_as (λ x. false) (λ b. tt) (mark_as ending) (λ u is. (is, refl))) (λ b fit. sym fit.1) (λ b fit. sym fit.1)
-
-pub option_fits : (b : Bool) → Unit {0} → with_or_end_as.Fit b
-unfolding with_or_end_as
-option_fits true is = (tt, refl)
-option_fits false is = (tt, refl)
-
-pub option_same : (b : Bool) → with_or_end_as.text b ≡ joined (only_if b (codes " WITH GRANT OPTION") ∷ (59 ∷ []) ∷ [])
-unfolding with_or_end_as
-option_same true = refl
-option_same false = refl
+either_option_as =
+    let words = word_then (codes "WITH") refl (word_then (codes "GRANT") refl (word_then (codes "OPTION") refl (mark_as ending) refl) refl) refl in
+    like_as (choose_as (seen_as (λ x. true) words) (seen_as (λ x. false) (mark_as ending))) Anyhow optioned (λ b h. tt)
 
 unfoldable pub option_as : Written grant_option
-unfolding with_or_end_as
-option_as = pieces_as (after_as (fit_as with_or_end_as (λ b. Unit {0}) option_fits (λ b fit. tt)) is_end (λ rest e. rw e refl)) (λ b. only_if b (codes " WITH GRANT OPTION") ∷ (59 ∷ []) ∷ []) option_same
-
-pub option_meets : Meets (begins_by parts_words) option_as
-unfolding option_as
-option_meets true is rest e = refl
-option_meets false is rest e = refl
+unfolding either_option_as
+option_as = pieces_as either_option_as (λ b u. only_if b (codes " WITH GRANT OPTION") ∷ (59 ∷ []) ∷ []) by
+  where
+    by : (b : Bool) (u : either_option_as.Fit b) → joined (either_option_as.pieces b u) ≡ joined (only_if b (codes " WITH GRANT OPTION") ∷ (59 ∷ []) ∷ [])
+    by true u = refl
+    by false u = refl
 
 unfoldable pub to_as : Written to_grantee
 unfolding to_grantee option_as is_key
-to_as = lead_as (word_as space (codes "TO") refl) (then_as grantee_as option_as option_meets) (λ v is rest e. refl)
+to_as = word_then (codes "TO") refl (then_as grantee_as option_as refl) refl
 
 unfoldable pub from_as : Written from_grantee
 unfolding from_grantee is_key
-from_as = lead_as (word_as space (codes "FROM") refl) (close_as grantee_as ending (λ rest e. refl)) (λ v is rest e. refl)
-
--- ---- GRANT
-
--- a GRANT that can be written, and a REVOKE
-abbrev pub IsGrant : Stmt → Type 0
-IsGrant (stmt.Grant o r who option) = IsObject o × AreRights o r × IsGrantee who
-IsGrant (stmt.GrantRole role m c admin inherit z) = IsName role × IsName m × IsGrantor c
-IsGrant _ = ⊥
-
-abbrev pub IsRevoke : Stmt → Type 0
-IsRevoke (stmt.Revoke o r who) = IsObject o × AreRights o r × IsGrantee who
-IsRevoke _ = ⊥
-
-pub membership_made : (role : List ℕ) → IsName role → Yields IsGrant (membership role)
-unfolding membership_as
-membership_made role is s ts r came spells = let fit = (membership_as role).made s ts r came spells in subst IsGrant fit.1 (is, fit.0.0, fit.0.1.1)
-
-pub rights_made : (w : Wanted) → AreSome w → Yields IsGrant (grant_rights w)
-unfolding grant_rights to_as
-rights_made w some v ts r came spells =
-    let h = then_yields AreOn to_as.Fit (rights_and_object w) to_grantee (rights_and_object_yields w some) to_as.made spells.0 ts r came spells.2 in
-    subst IsGrant (sym spells.1) (h.0.0, h.0.1, h.1.0)
-
-pub behind_made : (n : List ℕ) (o : Option Wanted) → IsName n → CanFollow o → Yields IsGrant (behind_first n o)
-behind_made n None is can = membership_made n is
-behind_made n (Some w) is can = choose_yields IsGrant (is_word (codes "to")) (membership n) (grant_rights w) (membership_made n is) (rights_made w can)
-
-pub granted_made : Yields IsGrant granted
-unfolding granted
-granted_made = thenby_yields IsFirst IsGrant first (λ x. behind_first x.0 x.1) first_yields (λ x is. behind_made x.0 x.1 is.0 is.1)
-
-pub behind_closes : (n : List ℕ) (o : Option Wanted) → Closes (is_sign 59) (behind_first n o)
-unfolding membership_as grant_rights to_as
-behind_closes n None = (membership_as n).closes refl
-behind_closes n (Some w) =
-    choose_closes (is_sign 59) (is_word (codes "to")) (membership n) (grant_rights w) ((membership_as n).closes refl)
-    (seen_closes (is_sign 59) (λ x. stmt.Grant x.0.0 x.0.1 x.1.0 x.1.1) (rights_and_object w then to_grantee) (then_closes (is_sign 59) (rights_and_object w) to_grantee (to_as.closes refl)))
-
-pub thenby_closes : {A B : Type 0} (test : Lexeme → Bool) (p : Part A) (f : A → Part B) → ((v : A) → Closes test (f v)) → Closes test (p thenby f)
-thenby_closes test p f closes w ts spells = ap (ends_with test) spells.3 ∙ ends_append test spells.1 spells.2 (closes spells.0 w spells.2 spells.5)
-
-pub granted_closes : Closes (is_sign 59) granted
-unfolding granted
-granted_closes = thenby_closes (is_sign 59) first (λ x. behind_first x.0 x.1) (λ x. behind_closes x.0 x.1)
-
-abbrev pub grant_pieces : Stmt → List (List ℕ)
-grant_pieces (stmt.Grant o r who option) = sp ∷ rights_text o r ∷ (granted_words o ++ granted_name o) ∷ to_as.pieces (who, option)
-grant_pieces (stmt.GrantRole role m c admin inherit z) = (32 ∷ written_name role) ∷ (membership_as role).pieces (stmt.GrantRole role m c admin inherit z)
-grant_pieces _ = []
-
-pub rights_regrouped : (s w m o k n t : List ℕ) → (s ++ w) ++ ((m ++ ((s ++ o) ++ ((s ++ k) ++ (s ++ n)))) ++ t) ≡ s ++ ((w ++ m) ++ (((((s ++ o) ++ s) ++ k ++ s) ++ n) ++ t))
-rights_regrouped s w m o k n t = simp append_assoc
-
--- the rights on an object, and what stands behind them
-pub on_object_is : (o : Granted) (r : Rights) (h : IsWanted o r (rights_text o r)) (t : List ℕ) → (sp ++ h.word) ++ ((h.more ++ on_text o) ++ t) ≡ sp ++ (rights_text o r ++ ((granted_words o ++ granted_name o) ++ t))
-on_object_is o r h t =
-    rights_regrouped sp h.word h.more (codes "ON") (kind_written (kind_of o)) (granted_name o) t
-    ∙ ap (λ (x : List ℕ). sp ++ (x ++ ((((((sp ++ codes "ON") ++ sp) ++ kind_written (kind_of o)) ++ sp) ++ granted_name o) ++ t))) h.same
-    ∙ ap (λ (x : List ℕ). sp ++ (rights_text o r ++ ((x ++ granted_name o) ++ t))) (granted_words_are o)
-
-pub grant_puts : (s : Stmt) → IsGrant s → IsPut granted s (joined (grant_pieces s)) []
-unfolding granted grant_rights membership_as to_as
-grant_puts (stmt.Grant o r who option) is =
-    let s = stmt.Grant o r who option in
-    let h = rights_wanted o r is.0 is.1 in
-    let w = h.wanted in
-    let t0 = to_as.text (who, option) in
-    let k0 = to_as.put (who, option) (is.2, tt) [] nothing_follows refl in
-    let t1 = (h.more ++ on_text o) ++ t0 in
-    let k1 = then_put (rights_and_object w) to_grantee (o, r) (who, option) (h.more ++ on_text o) t0 [] k0 (h.put (k0.tokens ++ []) (behind k0) (begun parts_words k0 refl)) in
-    let k2 : IsPut (grant_rights w) s t1 [] = seen_put (λ x. stmt.Grant x.0.0 x.0.1 x.1.0 x.1.1) (rights_and_object w then to_grantee) ((o, r), (who, option)) t1 [] k1 in
-    let k3 : IsPut (behind_first h.name (Some w)) s t1 [] = put_as (grant_rights w) (behind_first h.name (Some w)) s s t1 [] k2 (λ ts p. inr p) in
-    same_text ((sp ++ h.word) ++ t1) (joined (grant_pieces s)) (on_object_is o r h t0 ∙ ap (λ (x : List ℕ). sp ++ (rights_text o r ++ ((granted_words o ++ granted_name o) ++ x))) (to_as.same (who, option)))
-    (thenby_put first (λ x. behind_first x.0 x.1) (h.name, Some w) s (sp ++ h.word) t1 [] k3 (first_put w h.word h.name (k3.tokens ++ []) h.opens (behind k3) (begun parts_words k3 (wanted_begins h t0))))
-grant_puts (stmt.GrantRole role m c admin inherit z) is =
-    let s = stmt.GrantRole role m c admin inherit z in
-    let o = wanted_first (name_token sp role ∷ []) in
-    let w = membership_as role in
-    let t = w.text s in
-    let k = role_put role o s t (w.put s ((is.1, ((tt, any_inherit inherit z), is.2)), refl) [] nothing_follows refl) in
-    same_text ((32 ∷ written_name role) ++ t) (joined (grant_pieces s)) (ap (λ (x : List ℕ). (32 ∷ written_name role) ++ x) (w.same s))
-    (thenby_put first (λ x. behind_first x.0 x.1) (role, o) s (sp ++ written_name role) t [] k (name_put_first role (k.tokens ++ []) is.0 (behind k) (begun parts_words k refl)))
-grant_puts _ is = absurd is
-
-abbrev pub granted_as : Written granted
-granted_as = ended_as IsGrant grant_pieces grant_puts granted_made granted_closes
+from_as = word_then (codes "FROM") refl (end_as grantee_as refl) refl
 
 -- ---- REVOKE
 
-pub revoke_made : (w : Wanted) → AreSome w → Yields IsRevoke (revoke_rights w)
-unfolding revoke_rights from_as
-revoke_made w some v ts r came spells =
-    let h = then_yields AreOn from_as.Fit (rights_and_object w) from_grantee (rights_and_object_yields w some) from_as.made spells.0 ts r came spells.2 in
-    subst IsRevoke (sym spells.1) (h.0.0, h.0.1, h.1)
+pub rights_meet : (w : Wanted) → (meets (rights_and_object_as w).after to_as ≡ true) × (meets (rights_and_object_as w).after from_as ≡ true)
+unfolding rights_and_object_as on_object_as to_as from_as
+rights_meet All = (refl, refl)
+rights_meet (These r) = (refl, refl)
 
-pub revoked_made : Yields IsRevoke revoked
-unfolding revoked
-revoked_made = thenby_yields AreSome IsRevoke wanted revoke_rights wanted_yields (λ w some. revoke_made w some)
+unfoldable pub revoke_rights_as : (w : Wanted) → Written (revoke_rights w)
+unfolding revoke_rights
+revoke_rights_as w = seen_as (λ x. stmt.Revoke x.0.0 x.0.1 x.1) (then_as (rights_and_object_as w) from_as (rights_meet w).1)
 
-pub revoked_closes : Closes (is_sign 59) revoked
-unfolding revoked revoke_rights from_as
-revoked_closes =
-    thenby_closes (is_sign 59) wanted revoke_rights
-    (λ w. seen_closes (is_sign 59) (λ x. stmt.Revoke x.0.0 x.0.1 x.1) (rights_and_object w then from_grantee) (then_closes (is_sign 59) (rights_and_object w) from_grantee (from_as.closes refl)))
+pub revoke_decided : (w : Wanted) → decides Safe End wanted_as (revoke_rights_as w) ≡ true
+unfolding revoke_rights_as rights_and_object_as on_object_as from_as wanted_as
+revoke_decided All = refl
+revoke_decided (These r) = refl
 
-abbrev pub revoke_pieces : Stmt → List (List ℕ)
-revoke_pieces (stmt.Revoke o r who) = sp ∷ rights_text o r ∷ (granted_words o ++ granted_name o) ∷ from_as.pieces who
-revoke_pieces _ = []
+unfoldable pub revoked_as : Kinds IsWritable revoked
+unfolding revoked revoke_rights_as wanted_as from_as
+revoked_as =
+    lone_as (thenby_as wanted_as revoke_rights_as Safe End revoke_decided true (λ w e. (revoke_rights_as w).closes refl))
+    (λ s h. let on = rights_is h.0 h.2.0.0 h.2.1.0 h.1 in subst IsWritable h.2.2 (on.0, on.1, h.2.1.1))
 
-pub revoke_puts : (s : Stmt) → IsRevoke s → IsPut revoked s (joined (revoke_pieces s)) []
-unfolding revoked revoke_rights from_as
-revoke_puts (stmt.Revoke o r who) is =
-    let s = stmt.Revoke o r who in
-    let h = rights_wanted o r is.0 is.1 in
-    let w = h.wanted in
-    let t0 = from_as.text who in
-    let k0 = from_as.put who is.2 [] nothing_follows refl in
-    let t1 = (h.more ++ on_text o) ++ t0 in
-    let k1 = then_put (rights_and_object w) from_grantee (o, r) who (h.more ++ on_text o) t0 [] k0 (h.put (k0.tokens ++ []) (behind k0) (begun parts_words k0 refl)) in
-    let k2 : IsPut (revoke_rights w) s t1 [] = seen_put (λ x. stmt.Revoke x.0.0 x.0.1 x.1) (rights_and_object w then from_grantee) ((o, r), who) t1 [] k1 in
-    same_text ((sp ++ h.word) ++ t1) (joined (revoke_pieces s)) (on_object_is o r h t0 ∙ ap (λ (x : List ℕ). sp ++ (rights_text o r ++ ((granted_words o ++ granted_name o) ++ x))) (from_as.same who))
-    (thenby_put wanted revoke_rights w s (sp ++ h.word) t1 [] k2 (wanted_put w h.word h.name (k2.tokens ++ []) h.opens (behind k2) (begun parts_words k2 (wanted_begins h t0))))
-revoke_puts _ is = absurd is
+-- ---- GRANT
 
-abbrev pub revoked_as : Written revoked
-revoked_as = ended_as IsRevoke revoke_pieces revoke_puts revoked_made revoked_closes
+unfoldable pub grant_rights_as : (w : Wanted) → Written (grant_rights w)
+unfolding grant_rights
+grant_rights_as w = seen_as (λ x. stmt.Grant x.0.0 x.0.1 x.1.0 x.1.1) (then_as (rights_and_object_as w) to_as (rights_meet w).0)
+
+abbrev pub CanFollow : Option Wanted → Type 0
+CanFollow None = Unit {0}
+CanFollow (Some w) = AreSome w
+
+abbrev pub IsFirst : First → Type 0
+IsFirst x = IsName x.0 × CanFollow x.1
+
+unfoldable pub behind_as : (n : List ℕ) → (o : Option Wanted) → Written (behind_first n o)
+unfolding membership_as grant_rights_as to_as
+behind_as n None = is_as (membership_as n) (λ s. IsFirst (n, None) → IsWritable s) (λ s h is. subst IsWritable h.2 (is.0, h.1.0, h.1.1.1))
+behind_as n (Some w) =
+    is_as (choose_as (membership_as n) (grant_rights_as w)) (λ s. IsFirst (n, Some w) → IsWritable s)
+    (λ s h is. elim h [ inl x ↦ subst IsWritable x.2 (is.0, x.1.0, x.1.1.1) | inr y ↦ (let on = rights_is w y.0.0 y.1.0 is.1 in subst IsWritable y.2 (on.0, on.1, y.1.1.0)) ])
+
+pub behind_is : (n : List ℕ) (o : Option Wanted) (s : Stmt) → (behind_as n o).Is s → IsFirst (n, o) → IsWritable s
+unfolding behind_as
+behind_is n None s h = h
+behind_is n (Some w) s h = h
+
+pub behind_closes : (n : List ℕ) (o : Option Wanted) → Closes (is_sign 59) (behind_first n o)
+unfolding behind_as to_as
+behind_closes n None = (behind_as n None).closes refl
+behind_closes n (Some w) = (behind_as n (Some w)).closes refl
+
+-- behind what may be a right, TO tells that it is a role
+unfoldable pub role_fit : (n : List ℕ) → (o : Option Wanted) → (s : Stmt) → (membership_as n).Fit s → (behind_as n o).Fit s
+unfolding behind_as
+role_fit n None s fit = fit
+role_fit n (Some w) s fit = inl fit
+
+pub role_spelled : (n : List ℕ) (o : Option Wanted) (s : Stmt) (fit : (membership_as n).Fit s) (t : List (List ℕ)) → joined ((behind_as n o).pieces s (role_fit n o s fit) ++ t) ≡ joined ((membership_as n).pieces s fit ++ t)
+unfolding role_fit
+role_spelled n None s fit t = refl
+role_spelled n (Some w) s fit t = refl
+
+-- the first name: that of a role, whatever it may stand for, or a word with which rights begin
+abbrev pub role_wanted : List ℕ → Option Wanted
+role_wanted n = wanted_first (name_token (32 ∷ []) n ∷ [])
+
+pub same_wanted : (t u : Lexeme) → t.kind ≡ u.kind → t.word ≡ u.word → wanted_first (t ∷ []) ≡ wanted_first (u ∷ [])
+unfolding wanted_first right_first is_word
+same_wanted t u k w =
+    let by : TokenKind → List ℕ → Option Wanted = λ kind word. wanted_first (record { gap = []; kind = kind; word = word; start = 0 } ∷ []) in
+    ap (λ x. by x t.word) k ∙ ap (by u.kind) w
+
+pub role_means : (x : First) → IsName x.0 × (role_wanted x.0 ≡ x.1) → (t : Lexeme) → t.kind ≡ written_kind x.0 → t.word ≡ written_name x.0 → name_value t ≡ Ok x.0 → named_by (wanted_first (t ∷ [])) (name_value t) ≡ Ok x
+role_means x fit t kind word e = ap (λ o. named_by o (name_value t)) (same_wanted t (name_token (32 ∷ []) x.0) kind word ∙ fit.1) ∙ ap (named_by x.1) e
+
+abbrev pub first_ok : First → Result First Bool
+first_ok x = Ok x
+
+pub opening_means : (x : First) (fit : (o : Option Right) × ((opening_name o, Some (wanting o)) ≡ x)) (t : Lexeme) → t.kind ≡ Word → t.word ≡ opening_word fit.0 → named_by (wanted_first (t ∷ [])) (name_value t) ≡ Ok x
+opening_means x fit t kind word =
+    ap (λ o. named_by o (name_value t)) (wanted_says fit.0 t kind word) ∙ ap (named_by (Some (wanting fit.0))) (wanted_named fit.0 t kind word) ∙ ap first_ok fit.1
+
+pub first_made : (t : Lexeme) (x : First) → named_by (wanted_first (t ∷ [])) (name_value t) ≡ Ok x → IsFirst x
+first_made t x e = by (name_value t) refl e
+  where
+    follows : (o : Option Wanted) → wanted_first (t ∷ []) ≡ o → CanFollow o
+    follows None is = tt
+    follows (Some w) is = wanted_some (t ∷ []) w is
+
+    by : (v : Result (List ℕ) Bool) → name_value t ≡ v → named_by (wanted_first (t ∷ [])) v ≡ Ok x → IsFirst x
+    by (Ok n) is e = let same : (n, wanted_first (t ∷ [])) ≡ x = cc in subst IsFirst same (value_name t n is, follows (wanted_first (t ∷ [])) refl)
+    by (Err long) is e = absurd cc
+
+unfoldable pub first_as : Written first
+first_as =
+    also_as (name_said space (λ x. IsName x.0 × (role_wanted x.0 ≡ x.1)) IsFirst (λ x. x.0) (λ x fit. fit.0) role_means first_made)
+    (word_said space (λ x. (o : Option Right) × ((opening_name o, Some (wanting o)) ≡ x)) IsFirst (λ x fit. opening_word fit.0) (λ x fit. opening_bare fit.0) opening_means first_made)
+
+pub behind_decided : (n : List ℕ) (o : Option Wanted) → decides Safe End first_as (behind_as n o) ≡ true
+unfolding behind_as first_as rights_and_object_as to_as
+behind_decided n None = refl
+behind_decided n (Some All) = refl
+behind_decided n (Some (These r)) = refl
+
+unfoldable pub granted_as : Kinds IsWritable granted
+unfolding granted behind_as first_as
+granted_as = lone_as (thenby_as first_as (λ x. behind_as x.0 x.1) Safe End (λ x. behind_decided x.0 x.1) true (λ x e. behind_closes x.0 x.1)) (λ s h. behind_is h.0.0 h.0.1 s h.2 h.1)
+
+-- ---- the text of rights on an object
+
+unfoldable pub on_fit : (w : Wanted) → (o : Granted) → (r : Rights) → kind_has w (kind_of o) ≡ true → rights_on w (kind_of o) ≡ r → IsObject o → (on_object_as w).Fit (o, r)
+unfolding on_object_as object_fit
+on_fit w o r has e is = (kind_of o, has, (o, object_fit o is, ap (λ (x : Rights). (o, x)) e))
+
+pub on_same : (w : Wanted) (o : Granted) (r : Rights) (has : kind_has w (kind_of o) ≡ true) (e : rights_on w (kind_of o) ≡ r) (is : IsObject o) → joined ((on_object_as w).pieces (o, r) (on_fit w o r has e is)) ≡ (granted_words o ++ granted_name o) ++ []
+unfolding on_fit
+on_same w (on.Table q) r has e is = refl
+on_same w o r has e is = refl
+
+unfoldable pub list_fit : (start s : Rights) → (xs : List Right) → AllGo s xs → AllFit (more_rights start) more_as s xs
+unfolding more_as
+list_fit start s [] go = tt
+list_fit start s (x ∷ xs) go = (go.0, list_fit start (with_right x s) xs go.1)
+
+pub list_same : (start s : Rights) (xs : List Right) (fit : AllFit (more_rights start) more_as s xs) → joined (items_pieces (more_rights start) more_as s xs fit) ≡ flat_map (λ word. codes "," ++ word) (map written_word xs)
+unfolding more_as
+list_same start s [] fit = refl
+list_same start s (x ∷ xs) fit = ap (λ (t : List ℕ). (44 ∷ written_word x) ++ t) (list_same start (with_right x s) xs fit.1)
+
+-- how the rights on an object are written, from their first word on
+pub record IsOpened (o : Granted) (r : Rights) (text : List ℕ) : Type 0 where
+  pub opening : Option Right
+  pub fit : (rights_and_object_as (wanting opening)).Fit (o, r)
+  pub same : opening_word opening ++ joined ((rights_and_object_as (wanting opening)).pieces (o, r) fit) ≡ text ++ ((granted_words o ++ granted_name o) ++ [])
+
+pub all_opened : (o : Granted) (r : Rights) → IsObject o → is_all o r ≡ true → IsOpened o r (codes "ALL")
+unfolding rights_and_object_as
+all_opened o r is all = let e = sym (all_is o r all) in record { opening = None; fit = on_fit All o r refl e is; same = ap (λ (x : List ℕ). codes "ALL" ++ x) (on_same All o r refl e is) }
+
+pub list_opened : (o : Granted) (r : Rights) → IsObject o → AreRights o r → IsOpened o r (right_list r)
+unfolding rights_and_object_as right_list with_commas
+list_opened o r is are =
+    let l = some_listed r are.0 in
+    let x = l.first in
+    let xs = l.more in
+    let whole : all_of (only x) xs ≡ r = ap (all_of no_rights) (sym l.same) ∙ listed_is r in
+    let go = all_go (kind_of o) (only x) xs (ap (λ (y : Rights). within y (kind_rights (kind_of o))) whole ∙ are.1) in
+    let fit = list_fit (only x) (only x) xs go in
+    let items = items_pieces (more_rights (only x)) more_as (only x) xs fit in
+    let behind = (on_object_as (These r)).pieces (o, r) (on_fit (These r) o r are.1 refl is) in
+    let object = (granted_words o ++ granted_name o) ++ [] in
+    record {
+      opening = Some x;
+      fit = (r, (xs, fit, whole), on_fit (These r) o r are.1 refl is);
+      same = ap (λ (t : List ℕ). written_word x ++ t) (joined-append items behind ∙ ap (λ (t : List ℕ). t ++ joined behind) (list_same (only x) (only x) xs fit) ∙ ap (λ (t : List ℕ). flat_map (λ word. codes "," ++ word) (map written_word xs) ++ t) (on_same (These r) o r are.1 refl is))
+          ∙ sym (append_assoc (written_word x) (flat_map (λ word. codes "," ++ word) (map written_word xs)) object) ∙ ap (λ (t : List ℕ). t ++ object) (sym (ap with_commas (words_are r ∙ ap (map written_word) l.same)));
+    }
+
+pub rights_opened : (o : Granted) (r : Rights) → IsObject o → AreRights o r → IsOpened o r (rights_text o r)
+unfolding rights_text
+rights_opened o r is are = by (is_all o r) refl
+  where
+    by : (b : Bool) → is_all o r ≡ b → IsOpened o r (cond b (codes "ALL") (right_list r))
+    by true e = all_opened o r is e
+    by false e = list_opened o r is are
+
+pub spelled_regrouped : (a b c : List ℕ) → (a ++ (b ++ [])) ++ c ≡ a ++ (b ++ c)
+spelled_regrouped a b c = simp (append_assoc, append-nil)
+
+-- before what stands behind them
+pub rights_spelled : (o : Granted) (r : Rights) (h : IsOpened o r (rights_text o r)) (t u : List (List ℕ))
+    → opening_word h.opening ++ joined (((rights_and_object_as (wanting h.opening)).pieces (o, r) h.fit ++ t) ++ u) ≡ rights_text o r ++ ((granted_words o ++ granted_name o) ++ joined (t ++ u))
+rights_spelled o r h t u =
+    let rights = (rights_and_object_as (wanting h.opening)).pieces (o, r) h.fit in
+    ap (λ (x : List (List ℕ)). opening_word h.opening ++ joined x) (append_assoc rights t u) ∙ ap (λ (x : List ℕ). opening_word h.opening ++ x) (joined-append rights (t ++ u))
+    ∙ sym (append_assoc (opening_word h.opening) (joined rights) (joined (t ++ u))) ∙ ap (λ (x : List ℕ). x ++ joined (t ++ u)) h.same ∙ spelled_regrouped (rights_text o r) (granted_words o ++ granted_name o) (joined (t ++ u))

@@ -1,4 +1,4 @@
--- CREATE SEQUENCE has the laws of a part, and ends with a semicolon.
+-- CREATE SEQUENCE has the laws of a part.
 use Rattle.std.proofs.Common.{◌≡◌, ℕ, ◌+◌, ◌<◌, ◌^◌, pos, true, false, List, [], ◌∷◌, Some, None, refl, arith, codes}
 use Rattle.std.proofs.lemmas.Bool.{lt-ltb, or_parts}
 use Rattle.sql_lex.specs.Bytes.{is_digit}
@@ -6,8 +6,7 @@ use Rattle.sql_lex.specs.Meaning.{is_keyword_of}
 use Rattle.sql_lex.specs.declared.token.TokenKind.TheVariants.{Number}
 use Rattle.cat_model.specs.declared.constraint.SequenceKind.TheVariants.{SmallInt}
 use Rattle.ddl_parts.specs.Lexemes.{Lexeme, is_word, is_sign}
-use Rattle.ddl_parts.specs.Parts.{run, ◌then◌, ◌◂◌}
-use Rattle.ddl_parts.specs.Leaves.{qualified}
+use Rattle.ddl_parts.specs.Parts.{run}
 use Rattle.ddl_parts.specs.Laws.{Lawful, Apart}
 use Rattle.ddl_parts.proofs.Machines.{CanEnd, machine_laws}
 use Rattle.ddl_parts.proofs.Leads.{a_word, qualified_laws}
@@ -19,10 +18,8 @@ use Rattle.ddl_read.specs.declared.sequences.Open.TheVariants.{Both, Lower, Uppe
 use Rattle.ddl_read.specs.declared.sequences.ClauseSpot.{ClauseSpot}
 use Rattle.ddl_read.specs.declared.sequences.ClauseSpot.TheVariants.{Between, BehindAs, BehindStart, BehindIncrement, BehindNo, Due, BehindMinus}
 use Rattle.ddl_read.specs.declared.sequences.Clauses.{Clauses}
-use Rattle.ddl_read.specs.Clauses.{semicolon}
 use Rattle.ddl_read.specs.SequenceGrammar.{with_number, reached, clause_first, kind_first, usual_first, step_first, is_between, begins_clause, first_reached, clausing, clauses_of, sequence_clauses, sequence_of, create_sequence}
 use Rattle.ddl_parts.proofs.Telling.{sign_no_word}
-use Rattle.ddl_forms.proofs.Closing.{Closes, then_closes, seen_closes, end_closes}
 
 -- ---- each state can be brought to an end
 
@@ -126,7 +123,3 @@ clauses_end t e =
 pub create_sequence_laws : Lawful create_sequence
 unfolding create_sequence
 create_sequence_laws = lawful_seen (λ x. sequence_of x.0 x.1) (lawful_next qualified_laws (lawful_ended 59 sequence_clauses_laws clauses_end) (λ t. refl))
-
-pub create_sequence_closes : Closes semicolon create_sequence
-unfolding create_sequence
-create_sequence_closes = seen_closes semicolon (λ x. sequence_of x.0 x.1) (qualified then (sequence_clauses ◂ semicolon)) (then_closes semicolon qualified (sequence_clauses ◂ semicolon) (end_closes semicolon sequence_clauses))

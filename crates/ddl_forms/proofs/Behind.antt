@@ -1,0 +1,117 @@
+-- What may stand behind a text, and what a text begins with.
+use Rattle.std.proofs.Common.{◌≡◌, ℕ, ◌+◌, Bool, true, false, cond, ◌||◌, List, [], ◌∷◌, ◌++◌, append_assoc, refl, ap, ◌∙◌, arith}
+use Rattle.std.specs.Prelude.{◌==◌, nat_lt}
+use Rattle.std.proofs.lemmas.Bool.{lt-ltb, ltb-true}
+use Rattle.std.proofs.lemmas.Bool.Decides.{nat_tests}
+use Rattle.ddl_forms.proofs.Standing.{is_safe, is_safe_byte}
+
+-- anything; what parts words, names and literals; what goes on with no token; or nothing
+pub data Behind : Type 0 where
+  Anything : Behind
+  Words : Behind
+  Safe : Behind
+  End : Behind
+
+-- what may follow a word, a name or a literal: what may follow any token, an opening bracket or a dot
+abbrev pub parts_words : ℕ → Bool
+parts_words b = is_safe_byte b || (b == 40 || b == 46)
+
+abbrev pub admits : Behind → List ℕ → Bool
+admits Anything rest = true
+admits Words [] = true
+admits Words (b ∷ rest) = parts_words b
+admits Safe rest = is_safe rest
+admits End [] = true
+admits End (b ∷ rest) = false
+
+abbrev rank : Behind → ℕ
+rank Anything = 0
+rank Words = 1
+rank Safe = 2
+rank End = 3
+
+-- the first admits all that the second does
+abbrev pub covers : Behind → Behind → Bool
+covers a b = nat_lt (rank a) (rank b + 1)
+
+pub covers_all : (b : Behind) → covers Anything b ≡ true
+covers_all Anything = refl
+covers_all b = refl
+
+pub covers_same : (b : Behind) → covers b b ≡ true
+covers_same Anything = refl
+covers_same b = refl
+
+pub admitted : (a b : Behind) (rest : List ℕ) → covers a b ≡ true → admits b rest ≡ true → admits a rest ≡ true
+admitted Anything b rest c e = refl
+admitted Words Words rest c e = e
+admitted Words x [] c e = refl
+admitted Words Safe (y ∷ rest) c e = rw e refl
+admitted Words x (y ∷ rest) c e = absurd cc
+admitted Safe Safe rest c e = e
+admitted Safe x [] c e = refl
+admitted Safe x (y ∷ rest) c e = absurd cc
+admitted End End rest c e = e
+admitted End x rest c e = absurd cc
+
+pub through : (a b c : Behind) → covers a b ≡ true → covers b c ≡ true → covers a c ≡ true
+through a b c e f = lt-ltb (rank a) (rank c + 1) (omega (arith, ltb-true (rank a) (rank b + 1) e, ltb-true (rank b) (rank c + 1) f))
+
+turned : (a b : Behind) → covers a b ≡ false → covers b a ≡ true
+turned a b e = grind (arith, nat_tests)
+
+-- of two, the one that admits more, and the one that admits less
+abbrev pub looser : Behind → Behind → Behind
+looser a b = cond (covers a b) a b
+
+abbrev pub tighter : Behind → Behind → Behind
+tighter a b = cond (covers a b) b a
+
+pub loose : (m a b : Behind) → covers m (looser a b) ≡ true → (covers m a ≡ true) × (covers m b ≡ true)
+loose m a b = by (covers a b) refl
+  where
+    by : (e : Bool) → covers a b ≡ e → covers m (cond e a b) ≡ true → (covers m a ≡ true) × (covers m b ≡ true)
+    by true is c = (c, through m a b c is)
+    by false is c = (through m b a c (turned a b is), c)
+
+pub tight : (a b : Behind) (rest : List ℕ) → admits (tighter a b) rest ≡ true → (admits a rest ≡ true) × (admits b rest ≡ true)
+tight a b rest = by (covers a b) refl
+  where
+    by : (e : Bool) → covers a b ≡ e → admits (cond e b a) rest ≡ true → (admits a rest ≡ true) × (admits b rest ≡ true)
+    by true is e = (admitted a b rest is e, e)
+    by false is e = (e, admitted b a rest (turned a b is) e)
+
+-- A text begins with what this admits, whatever follows it; or where it may be empty, whatever follows that is admitted.
+abbrev pub Opens : Bool → Behind → List ℕ → Type 0
+Opens lacks opens text = (m : Behind) → covers m opens ≡ true → (rest : List ℕ) → admits (cond lacks m Anything) rest ≡ true → admits m (text ++ rest) ≡ true
+
+abbrev pub opens_of : List ℕ → Behind
+opens_of [] = Anything
+opens_of (b ∷ rest) = cond (is_safe_byte b) Safe (cond (parts_words b) Words Anything)
+
+pub opened : (g text : List ℕ) → Opens false (opens_of g) (g ++ text)
+opened [] text Anything c rest e = refl
+opened [] text m c rest e = absurd cc
+opened (b ∷ g) text m c rest e = by (is_safe_byte b) (parts_words b) refl refl m c
+  where
+    by : (s w : Bool) → is_safe_byte b ≡ s → parts_words b ≡ w → (m : Behind) → covers m (cond s Safe (cond w Words Anything)) ≡ true → admits m (b ∷ ((g ++ text) ++ rest)) ≡ true
+    by s w is parts Anything c = refl
+    by true w is parts Words c = rw is refl
+    by true w is parts Safe c = is
+    by false true is parts Words c = parts
+    by true w is parts m c = absurd cc
+    by false true is parts m c = absurd cc
+    by false false is parts m c = absurd cc
+
+pub then_opens : (la lb : Bool) (oa ob : Behind) (a b : List ℕ) → Opens la oa a → Opens lb ob b → Opens (cond la lb false) (cond la (looser oa ob) oa) (a ++ b)
+then_opens true lb oa ob a b f g m c rest h = let k = loose m oa ob c in ap (admits m) (append_assoc a b rest) ∙ f m k.0 (b ++ rest) (g m k.1 rest h)
+then_opens false lb oa ob a b f g m c rest h = ap (admits m) (append_assoc a b rest) ∙ f m c (b ++ rest) refl
+
+pub one_opens : (la lb : Bool) (oa ob : Behind) (a : List ℕ) → Opens la oa a → Opens (la || lb) (looser oa ob) a
+one_opens true lb oa ob a f m c rest h = f m (loose m oa ob c).0 rest h
+one_opens false lb oa ob a f m c rest h = f m (loose m oa ob c).0 rest refl
+
+pub other_opens : (la lb : Bool) (oa ob : Behind) (b : List ℕ) → Opens lb ob b → Opens (la || lb) (looser oa ob) b
+other_opens true true oa ob b f m c rest h = f m (loose m oa ob c).1 rest h
+other_opens true false oa ob b f m c rest h = f m (loose m oa ob c).1 rest refl
+other_opens false lb oa ob b f m c rest h = f m (loose m oa ob c).1 rest h

@@ -1,0 +1,85 @@
+-- A path in a literal: it is UTF-8, and read back where it is a whole text.
+use Rattle.std.proofs.Common.{◌≡◌, ℕ, Bool, true, List, [], ◌∷◌, ◌++◌, append-nil, Result, Ok, Err, refl, sym, ap, subst, ◌∙◌, arith}
+use Rattle.std.specs.Str.{IsUtf8, is_utf8, chars}
+use Rattle.std.proofs.Math.Utf8.{encode}
+use Rattle.std.proofs.lemmas.Bool.{and_parts}
+use Rattle.std.proofs.lemmas.Str.{IsUtf8-append, IsUtf8-from_is_utf8}
+use Rattle.sql_lex.specs.Meaning.{spelling}
+use Rattle.sql_lex.specs.Written.{written_name}
+use Rattle.sql_lex.specs.ReadBack.{token_at, written_kind}
+use Rattle.copy_text.specs.Texts.{IsName}
+use Rattle.cat_model.specs.declared.object.QName.{QName}
+use Rattle.ddl_parts.specs.Lexemes.{Lexeme, is_sign, spelled}
+use Rattle.ddl_parts.specs.Leaves.{literal_value, qualified}
+use Rattle.ddl_parts.specs.Pieces.{lexemes, is_sound}
+use Rattle.ddl_parts.specs.Collecting.{collected}
+use Rattle.ddl_parts.proofs.Slices.{token_sound}
+use Rattle.ddl_write.specs.Paths.{path}
+use Rattle.ddl_read.specs.ValueGrammar.{path_in, path_of, path_value, literal_path}
+use Rattle.ddl_forms.specs.Texts.{IsPath}
+use Rattle.ddl_forms.proofs.Kept.{have_come}
+use Rattle.ddl_forms.proofs.Standing.{Stood, placed, NoSemicolon, collects_all}
+use Rattle.ddl_forms.proofs.Tokens.{name_token, sign_token, Gap, none, a_name, is_single, a_sign, name_means, name_no_sign}
+use Rattle.ddl_forms.proofs.Written.{Written, literal_said, path_as}
+use Rattle.ddl_laws.proofs.ValueLaws.{path_found, path_only}
+
+pub name_utf8 : (n : List ℕ) → IsName n → IsUtf8 (written_name n)
+unfolding is_sound
+name_utf8 n is =
+    let h = (a_name n [] none is.utf8 refl).token [] [] refl in
+    let text = written_name n ++ [] in
+    let sound = token_sound text 0 (token_at (written_kind n) 0 (written_name n)) (omega arith) h.found in
+    let utf8 : is_utf8 (spelling text (token_at (written_kind n) 0 (written_name n))) ≡ true = (and_parts _ _ sound).1 in
+    IsUtf8-from_is_utf8 (written_name n) (ap is_utf8 (sym h.spelled) ∙ utf8)
+
+dot_utf8 : is_utf8 (46 ∷ []) ≡ true
+unfolding is_utf8 chars encode
+dot_utf8 = refl
+
+pub path_utf8 : (q : QName) → IsPath q → IsUtf8 (path q)
+unfolding path
+path_utf8 q is =
+    IsUtf8-append (written_name q.schema) (46 ∷ written_name q.name) (name_utf8 q.schema is.0)
+    (IsUtf8-append (46 ∷ []) (written_name q.name) (IsUtf8-from_is_utf8 (46 ∷ []) dot_utf8) (name_utf8 q.name is.1))
+
+abbrev path_tokens : QName → List Lexeme
+path_tokens q = name_token [] q.schema ∷ sign_token [] 46 ∷ name_token [] q.name ∷ []
+
+path_spelled : (q : QName) → path q ≡ spelled (path_tokens q)
+unfolding path
+path_spelled q = ap (λ (x : List ℕ). written_name q.schema ++ (46 ∷ x)) (sym (append-nil (written_name q.name)))
+
+path_stands : (q : QName) → IsPath q → Stood (path_tokens q)
+unfolding is_single
+path_stands q is = (a_name q.schema (46 ∷ (written_name q.name ++ [])) none is.0.utf8 refl, (a_sign 46 (written_name q.name ++ []) none refl, (a_name q.name [] none is.1.utf8 refl, tt)))
+
+path_plain : (q : QName) → NoSemicolon (path_tokens q)
+unfolding is_sign
+path_plain q = (name_no_sign 59 q.schema, (refl, (name_no_sign 59 q.name, tt)))
+
+path_spells : (q : QName) → IsPath q → qualified.Spells q (placed 0 (path_tokens q))
+unfolding is_sign
+path_spells q is =
+    ((q.schema, q.name), refl, (_ ∷ [], _ ∷ _ ∷ [], refl, (_, refl, name_means q.schema is.0 _ refl refl), ((tt, q.name), refl, (_ ∷ [], _ ∷ [], refl, (_, refl, refl), (_, refl, name_means q.name is.1 _ refl refl)))))
+
+-- a written path is read as it, where it is a whole text
+path_is_found : (q : QName) → IsPath q → path_in (path q) ≡ Ok q
+path_is_found q is =
+    let text = path q in
+    let c = collects_all text (path_tokens q) (path_spelled q) (path_stands q is) (path_plain q) in
+    path_only text q (c.fault, subst (qualified.Spells q) (sym c.tokens) (path_spells q is))
+
+pub path_read : (t : Lexeme) (q : QName) → path_value t ≡ Ok q → IsPath q
+unfolding path_value
+path_read t q = by (literal_value t)
+  where
+    by : (o : Result (List ℕ) Bool) → path_of o ≡ Ok q → IsPath q
+    by (Ok text) e = (path_as none).made q (lexemes text (collected text 0).pieces) _ (have_come text 0 (omega arith)) (path_found text q e).1
+    by (Err long) e = absurd cc
+
+pub path_means : (q : QName) → IsPath q → (t : Lexeme) → literal_value t ≡ Ok (path q) → path_value t ≡ Ok q
+unfolding path_value
+path_means q is t e = ap path_of e ∙ path_is_found q is
+
+abbrev pub literal_path_as : {g : List ℕ} → Gap g → Written literal_path
+literal_path_as gap = literal_said gap IsPath path path_utf8 path_means path_read

@@ -1,0 +1,460 @@
+-- CREATE SEQUENCE with the text that it is written in: its clauses bring those so far on from one state to another.
+use Rattle.std.proofs.Common.{◌≡◌, ℕ, ◌+◌, ◌<◌, ◌^◌, ℤ, pos, negsuc, Bool, true, false, cond, List, [], ◌∷◌, ◌++◌, append-nil, Option, Some, None, Result, Ok, refl, sym, ap, subst, ◌∙◌, arith, ◌⊎◌, inl, inr, codes, option_and_then}
+use Rattle.std.specs.Prelude.{◌&&◌, not, is_some}
+use Rattle.std.specs.Ordering.{int_eq}
+use Rattle.std.specs.Fmt.{signed_decimal}
+use Rattle.std.proofs.lemmas.Bool.{lt-ltb}
+use Rattle.std.proofs.lemmas.Bool.Decides.{Decides-int_eq}
+use Rattle.sql_lex.specs.declared.token.TokenKind.TheVariants.{Word}
+use Rattle.sql_lex.specs.Meaning.{is_keyword_of}
+use Rattle.cat_model.specs.declared.object.QName.{QName}
+use Rattle.cat_model.specs.declared.constraint.SequenceKind.{SequenceKind}
+use Rattle.cat_model.specs.declared.constraint.SequenceKind.TheVariants.{SmallInt, Integer, BigInt}
+use Rattle.cat_model.specs.declared.stmt.Stmt.TheVariants as stmt
+use Rattle.ddl_parts.specs.Lexemes.{Lexeme, is_word, is_sign, never, spelled, starts}
+use Rattle.ddl_parts.specs.Parts.{Part, stop, passes, run, seen, ◌then◌, ◌▸◌}
+use Rattle.ddl_write.specs.Paths.{path, joined, only_if as words_if}
+use Rattle.ddl_write.specs.Sequences.{usual_min, usual_max, type_words, bound, min_text, max_text}
+use Rattle.ddl_numbers.specs.Numbers.{count, count_first, count_value, counted, opposite, whole_number}
+use Rattle.ddl_numbers.proofs.NumberLaws.{count_begins, number_no_sign}
+use Rattle.ddl_read.specs.declared.sequences.Bound.{Bound}
+use Rattle.ddl_read.specs.declared.sequences.Bound.TheVariants.{Unsaid, Usual, Given}
+use Rattle.ddl_read.specs.declared.sequences.Field.{Field}
+use Rattle.ddl_read.specs.declared.sequences.Field.TheVariants.{First, Step, Least, Greatest, Cache}
+use Rattle.ddl_read.specs.declared.sequences.Open.TheVariants.{Both, Lower, Upper}
+use Rattle.ddl_read.specs.declared.sequences.ClauseSpot.{ClauseSpot}
+use Rattle.ddl_read.specs.declared.sequences.ClauseSpot.TheVariants.{Between, BehindAs, BehindStart, BehindIncrement, BehindNo, Due, BehindMinus}
+use Rattle.ddl_read.specs.declared.sequences.Clauses.{Clauses}
+use Rattle.ddl_read.specs.declared.sequences.Reached.{Reached}
+use Rattle.ddl_read.specs.SequenceGrammar.{no_clauses, is_unsaid, with_number, reached, only_if, behind_no, clause_first, kind_first, lower, upper, usual_first, numbered, step_first, clausing, first_reached, clauses_of, sequence_clauses, given_or, bound_or, usual_start, sequence_of, create_sequence}
+use Rattle.ddl_forms.proofs.Behind.{Anything, Words, Safe, End, admits, admitted, Opens, then_opens}
+use Rattle.ddl_forms.proofs.Closing.{passed}
+use Rattle.ddl_forms.proofs.Numbers.{number_as, positive_is, opposite_is, IsBelow, count_below}
+use Rattle.ddl_forms.proofs.Putting.{Follows, IsPut, Yields, followed, begun, same_text, put_as, none_put, one_put, then_put, joined-append}
+use Rattle.ddl_forms.proofs.Standing.{is_safe_byte}
+use Rattle.ddl_forms.proofs.Tokens.{Gap, space, indented, indent, a_word}
+use Rattle.ddl_forms.proofs.Written.{Written, Kinds, not_closed, is_bare_word, bare_word, path_as, then_as, end_as, kind_as}
+use Rattle.ddl_laws.specs.Respelling.{IsInt, IsPath, IsWritable}
+
+-- ---- what a number brings on
+
+pub counted_by : (o : Option ℕ) (n : ℕ) → counted o ≡ (let r : Result ℕ Bool = Ok n in r) → o ≡ Some n
+counted_by (Some m) n e = let same : m ≡ n = cc in ap Some same
+counted_by None n e = absurd cc
+
+pub is_counted : (limit : ℕ) (t : Lexeme) (n : ℕ) → count_value limit t ≡ Ok n → count_first limit (t ∷ []) ≡ Some n
+unfolding count_value
+is_counted limit t n e = counted_by (count_first limit (t ∷ [])) n e
+
+pub no_minus : (limit : ℕ) (t : Lexeme) (n : ℕ) → count_value limit t ≡ Ok n → is_sign 45 t ≡ false
+no_minus limit t n e = number_no_sign 45 t (count_begins limit n (t ∷ []) (t, refl, e))
+
+pub positive_runs : (f : Field) (c : Clauses) (t : Lexeme) (n : ℕ) → count_value (2 ^ 63) t ≡ Ok n → run clausing (Some (reached c (Due f))) (t ∷ []) ≡ Some (reached (with_number f (pos n) c) Between)
+unfolding step_first
+positive_runs f c t n e = rw (no_minus (2 ^ 63) t n e, is_counted (2 ^ 63) t n e) refl
+
+pub minus_is : (t : Lexeme) (u : Unit {0}) → passes (is_sign 45) t ≡ Ok u → is_sign 45 t ≡ true
+minus_is t u e = passed u (is_sign 45 t) e
+
+pub negative_runs : (f : Field) (c : Clauses) (m t : Lexeme) (n : ℕ) → is_sign 45 m ≡ true → count_value (2 ^ 63 + 1) t ≡ Ok n → run clausing (Some (reached c (Due f))) (m ∷ t ∷ []) ≡ Some (reached (with_number f (opposite n) c) Between)
+unfolding step_first
+negative_runs f c m t n minus e = rw (minus, is_counted (2 ^ 63 + 1) t n e) refl
+
+abbrev pub Runs : Field → Clauses → ℤ → List Lexeme → Type 0
+Runs f c z ts = run clausing (Some (reached c (Due f))) ts ≡ Some (reached (with_number f z c) Between)
+
+-- what spells a number brings the clauses on by it
+pub number_runs : (f : Field) (c : Clauses) (z : ℤ) (ts : List Lexeme) → whole_number.Spells z ts → Runs f c z ts
+unfolding whole_number
+number_runs f c z ts spells = by spells
+  where
+    by : (seen opposite (is_sign 45 ▸ count (2 ^ 63 + 1))).Spells z ts ⊎ (seen pos (count (2 ^ 63))).Spells z ts → Runs f c z ts
+    by (inl h) =
+        let s = h.2.2 in
+        let m = s.3 in
+        let d = s.4 in
+        let same : z ≡ opposite h.2.0.1 = h.1 ∙ ap opposite h.2.1 in
+        let tokens : ts ≡ m.0 ∷ d.0 ∷ [] = s.2 ∙ ap (λ (x : List Lexeme). x ++ s.1) m.1 ∙ ap (λ (x : List Lexeme). m.0 ∷ x) d.1 in
+        subst (λ (y : ℤ). Runs f c y ts) (sym same) (subst (λ (us : List Lexeme). Runs f c (opposite h.2.0.1) us) (sym tokens) (negative_runs f c m.0 d.0 h.2.0.1 (minus_is m.0 h.2.0.0 m.2) d.2))
+    by (inr h) =
+        let d = h.2 in
+        subst (λ (y : ℤ). Runs f c y ts) (sym h.1) (subst (λ (us : List Lexeme). Runs f c (pos h.0) us) (sym d.1) (positive_runs f c d.0 h.0 d.2))
+
+-- ---- from one state to another
+
+-- tokens that bring the clauses from one state to another
+abbrev pub moves : Reached → Reached → Part (Unit {0})
+moves r x = record { Spells = λ u ts. run clausing (Some r) ts ≡ Some x; read = λ ts. stop ts; goes_on = never }
+
+pub run_on : (o : Option Reached) (a b : List Lexeme) → run clausing o (a ++ b) ≡ run clausing (run clausing o a) b
+run_on o [] b = refl
+run_on o (t ∷ a) b = run_on (option_and_then (λ x. clausing.step x t) o) a b
+
+-- texts of tokens that do so before what is safe, and begin safely or are none
+pub record Move (r x : Reached) (pieces : List (List ℕ)) : Type 0 where
+  pub put : (others : List Lexeme) → Follows others → admits Safe (spelled others) ≡ true → IsPut (moves r x) tt (joined pieces) others
+  pub begins : Opens true Safe (joined pieces)
+
+-- the same text in other pieces
+pub so : {r x : Reached} {a b : List (List ℕ)} → joined a ≡ joined b → Move r x a → Move r x b
+so {r} {x} {a} {b} e m = record { put = λ others follows h. same_text (joined a) (joined b) e (m.put others follows h); begins = subst (Opens true Safe) e m.begins }
+
+pub stay : (r : Reached) → Move r r []
+stay r = record { put = λ others follows e. none_put (moves r r) tt others refl follows; begins = λ m c rest e. e }
+
+pub both : {r x y : Reached} {a b : List (List ℕ)} → Move r x a → Move x y b → Move r y (a ++ b)
+both {r} {x} {y} {a} {b} m n = record {
+  put = λ others follows e.
+      let k = n.put others follows e in
+      put_as (moves r x then moves x y) (moves r y) (tt, tt) tt (joined (a ++ b)) others
+      (then_put (moves r x) (moves x y) tt tt a b others k (m.put (k.tokens ++ others) (followed k) (begun Safe k (n.begins Safe refl (spelled others) e))))
+      (λ ts h. ap (run clausing (Some r)) h.2 ∙ run_on (Some r) h.0 h.1 ∙ ap (λ (o : Option Reached). run clausing o h.1) h.3 ∙ h.4);
+  begins = subst (Opens true Safe) (sym (joined-append a b)) (then_opens true true Safe Safe (joined a) (joined b) m.begins n.begins);
+}
+
+pub safely : (b : ℕ) (text : List ℕ) → is_safe_byte b ≡ true → Opens true Safe (b ∷ text)
+safely b text is Anything c rest e = refl
+safely b text is Words c rest e = rw is refl
+safely b text is Safe c rest e = is
+safely b text is End c rest e = absurd cc
+
+abbrev pub IsStep : Reached → Reached → List ℕ → List ℕ → Type 0
+IsStep r x g w = (at : ℕ) → step_first r (record { gap = g; kind = Word; word = w; start = at } ∷ []) ≡ Some x
+
+-- a word, whose step is known
+pub word : {r : Reached} {b : ℕ} {g : List ℕ} (x : Reached) → Gap (b ∷ g) → is_safe_byte b ≡ true → (w : List ℕ) → is_bare_word w ≡ true → IsStep r x (b ∷ g) w → Move r x ((b ∷ g) ∷ w ∷ [])
+unfolding is_sign
+word {r} {b} {g} x gap safe w is steps = record {
+  put = λ others follows e.
+      let bare = bare_word w is in
+      let t : Lexeme = record { gap = b ∷ g; kind = Word; word = w; start = 0 } in
+      same_text ((b ∷ g) ++ w) ((b ∷ g) ++ (w ++ [])) (ap (λ (x : List ℕ). (b ∷ g) ++ x) (sym (append-nil w)))
+      (one_put (moves r x) tt t others (a_word w (spelled others) gap bare.0 bare.1 (admitted Words Safe (spelled others) refl e)) (inl refl) (λ at. steps _) follows);
+  begins = safely b (g ++ (w ++ [])) safe;
+}
+
+pub number : (f : Field) (c : Clauses) (z : ℤ) → IsInt z → Move (reached c (Due f)) (reached (with_number f z c) Between) ((32 ∷ []) ∷ signed_decimal z ∷ [])
+number f c z is = record {
+  put = λ others follows e.
+      put_as whole_number (moves (reached c (Due f)) (reached (with_number f z c) Between)) z tt ((32 ∷ []) ++ (signed_decimal z ++ [])) others ((number_as space).put z is others follows e) (number_runs f c z);
+  begins = safely 32 (signed_decimal z ++ []) refl;
+}
+
+-- ---- the clauses as they are written
+
+abbrev pub bound_of : Bool → ℤ → Bound
+bound_of true n = Usual
+bound_of false n = Given n
+
+abbrev pub typed : Option SequenceKind → Clauses
+typed k = record no_clauses { kind = k }
+
+abbrev pub started : Option SequenceKind → ℤ → Clauses
+started k a = record (typed k) { start = Some a }
+
+abbrev pub stepping : Option SequenceKind → ℤ → ℤ → Clauses
+stepping k a b = record (started k a) { step = Some b }
+
+abbrev pub bounded : Option SequenceKind → ℤ → ℤ → Bound → Clauses
+bounded k a b l = record (stepping k a b) { least = l }
+
+abbrev pub limited : Option SequenceKind → ℤ → ℤ → Bound → Bound → Clauses
+limited k a b l g = record (bounded k a b l) { greatest = g }
+
+abbrev pub cached : Option SequenceKind → ℤ → ℤ → Bound → Bound → ℤ → Clauses
+cached k a b l g n = record (limited k a b l g) { cache = Some n }
+
+abbrev pub cycled : Option SequenceKind → ℤ → ℤ → Bound → Bound → ℤ → Bool → Clauses
+cycled k a b l g n cycle = record (cached k a b l g n) { cycle = cycle }
+
+abbrev pub between : Clauses → Reached
+between c = reached c Between
+
+-- the type that is written
+abbrev pub said : SequenceKind → Option SequenceKind
+said SmallInt = Some SmallInt
+said Integer = Some Integer
+said BigInt = None
+
+-- a word behind a line feed and four spaces, or behind a space
+abbrev pub line_word : {r : Reached} → (x : Reached) → (w : List ℕ) → is_bare_word w ≡ true → IsStep r x indent w → Move r x (indent ∷ w ∷ [])
+line_word x w is steps = word x indented refl w is steps
+
+abbrev pub next_word : {r : Reached} → (x : Reached) → (w : List ℕ) → is_bare_word w ≡ true → IsStep r x (32 ∷ []) w → Move r x ((32 ∷ []) ∷ w ∷ [])
+next_word x w is steps = word x space refl w is steps
+
+pub type_moves : (kind : SequenceKind) → Move first_reached (between (typed (said kind))) (type_words kind ∷ [])
+unfolding is_bare_word is_keyword_of is_word step_first clause_first kind_first
+type_moves SmallInt = so refl (both (line_word (reached no_clauses BehindAs) (codes "AS") refl (λ at. refl)) (next_word (between (typed (Some SmallInt))) (codes "smallint") refl (λ at. refl)))
+type_moves Integer = so refl (both (line_word (reached no_clauses BehindAs) (codes "AS") refl (λ at. refl)) (next_word (between (typed (Some Integer))) (codes "integer") refl (λ at. refl)))
+type_moves BigInt = so refl (stay first_reached)
+
+pub start_moves : (k : Option SequenceKind) (a : ℤ) → IsInt a → Move (between (typed k)) (between (started k a)) (codes "\n    START WITH " ∷ signed_decimal a ∷ [])
+unfolding is_bare_word is_keyword_of is_word step_first clause_first
+start_moves k a is = let c = typed k in so refl (both (line_word (reached c BehindStart) (codes "START") refl (λ at. refl)) (both (next_word (reached c (Due First)) (codes "WITH") refl (λ at. refl)) (number First c a is)))
+
+pub step_moves : (k : Option SequenceKind) (a b : ℤ) → IsInt b → Move (between (started k a)) (between (stepping k a b)) (codes "\n    INCREMENT BY " ∷ signed_decimal b ∷ [])
+unfolding is_bare_word is_keyword_of is_word step_first clause_first
+step_moves k a b is = let c = started k a in so refl (both (line_word (reached c BehindIncrement) (codes "INCREMENT") refl (λ at. refl)) (both (next_word (reached c (Due Step)) (codes "BY") refl (λ at. refl)) (number Step c b is)))
+
+pub min_moves : (k : Option SequenceKind) (a b : ℤ) (u : Bool) (m : ℤ) → IsInt m → Move (between (stepping k a b)) (between (bounded k a b (bound_of u m))) (bound u (codes "\n    NO MINVALUE") (codes "\n    MINVALUE ") m ∷ [])
+unfolding is_bare_word is_keyword_of is_word step_first clause_first usual_first bound
+min_moves k a b true m is = so refl (both (line_word (reached (stepping k a b) (BehindNo Both)) (codes "NO") refl (λ at. refl)) (next_word (between (bounded k a b Usual)) (codes "MINVALUE") refl (λ at. refl)))
+min_moves k a b false m is = let c = stepping k a b in so refl (both (line_word (reached c (Due Least)) (codes "MINVALUE") refl (λ at. refl)) (number Least c m is))
+
+-- NO, where a bound below was said
+pub no_steps : (k : Option SequenceKind) (a b : ℤ) (usual : Bool) (l : ℤ) → IsStep (between (bounded k a b (bound_of usual l))) (reached (bounded k a b (bound_of usual l)) (BehindNo Upper)) indent (codes "NO")
+unfolding is_keyword_of is_word step_first clause_first
+no_steps k a b true l at = refl
+no_steps k a b false l at = refl
+
+pub max_moves : (k : Option SequenceKind) (a b : ℤ) (usual : Bool) (l : ℤ) (u : Bool) (m : ℤ) → IsInt m
+    → Move (between (bounded k a b (bound_of usual l))) (between (limited k a b (bound_of usual l) (bound_of u m))) (bound u (codes "\n    NO MAXVALUE") (codes "\n    MAXVALUE ") m ∷ [])
+unfolding is_bare_word is_keyword_of is_word step_first clause_first usual_first bound
+max_moves k a b usual l true m is =
+    let c = bounded k a b (bound_of usual l) in
+    so refl (both (line_word (reached c (BehindNo Upper)) (codes "NO") refl (no_steps k a b usual l)) (next_word (between (limited k a b (bound_of usual l) Usual)) (codes "MAXVALUE") refl (λ at. refl)))
+max_moves k a b usual l false m is = let c = bounded k a b (bound_of usual l) in so refl (both (line_word (reached c (Due Greatest)) (codes "MAXVALUE") refl (λ at. refl)) (number Greatest c m is))
+
+pub cache_moves : (k : Option SequenceKind) (a b : ℤ) (l g : Bound) (n : ℤ) → IsInt n → Move (between (limited k a b l g)) (between (cached k a b l g n)) (codes "\n    CACHE " ∷ signed_decimal n ∷ [])
+unfolding is_bare_word is_keyword_of is_word step_first clause_first
+cache_moves k a b l g n is = let c = limited k a b l g in so refl (both (line_word (reached c (Due Cache)) (codes "CACHE") refl (λ at. refl)) (number Cache c n is))
+
+pub cycle_moves : (k : Option SequenceKind) (a b : ℤ) (l g : Bound) (n : ℤ) (cycle : Bool) → Move (between (cached k a b l g n)) (between (cycled k a b l g n cycle)) (words_if cycle (codes "\n    CYCLE") ∷ [])
+unfolding is_bare_word is_keyword_of is_word step_first clause_first
+cycle_moves k a b l g n false = so refl (stay (between (cached k a b l g n)))
+cycle_moves k a b l g n true = so refl (line_word (between (cycled k a b l g n true)) (codes "CYCLE") refl (λ at. refl))
+
+-- a sequence's type and numbers, and whether it cycles
+pub record Values : Type 0 where
+  pub kind : SequenceKind
+  pub start : ℤ
+  pub step : ℤ
+  pub min : ℤ
+  pub max : ℤ
+  pub cache : ℤ
+  pub cycle : Bool
+
+abbrev pub AreInts : Values → Type 0
+AreInts v = IsInt v.start × IsInt v.step × IsInt v.min × IsInt v.max × IsInt v.cache
+
+abbrev pub written : Values → Clauses
+written v = cycled (said v.kind) v.start v.step (bound_of (int_eq v.min (usual_min v.kind v.step)) v.min) (bound_of (int_eq v.max (usual_max v.kind v.step)) v.max) v.cache v.cycle
+
+abbrev pub clause_pieces : Values → List (List ℕ)
+clause_pieces v =
+    type_words v.kind ∷ codes "\n    START WITH " ∷ signed_decimal v.start ∷ codes "\n    INCREMENT BY " ∷ signed_decimal v.step ∷ min_text v.kind v.step v.min ∷ max_text v.kind v.step v.max
+    ∷ codes "\n    CACHE " ∷ signed_decimal v.cache ∷ words_if v.cycle (codes "\n    CYCLE") ∷ []
+
+-- clause by clause
+pub clauses_move : (v : Values) → AreInts v → Move first_reached (between (written v)) (clause_pieces v)
+clauses_move v is =
+    let k = said v.kind in
+    let u = int_eq v.min (usual_min v.kind v.step) in
+    let w = int_eq v.max (usual_max v.kind v.step) in
+    let l = bound_of u v.min in
+    let g = bound_of w v.max in
+    let last = both (cache_moves k v.start v.step l g v.cache is.4) (cycle_moves k v.start v.step l g v.cache v.cycle) in
+    let bounds = both (min_moves k v.start v.step u v.min is.2) (both (max_moves k v.start v.step u v.min w v.max is.3) last) in
+    both (type_moves v.kind) (both (start_moves k v.start is.0) (both (step_moves k v.start v.step is.1) bounds))
+
+pub said_is : (kind : SequenceKind) → given_or BigInt (said kind) ≡ kind
+said_is SmallInt = refl
+said_is x = refl
+
+pub bound_is : (usual n : ℤ) → bound_or usual (bound_of (int_eq n usual) n) ≡ n
+bound_is usual n = by (int_eq n usual) refl
+  where
+    by : (u : Bool) → int_eq n usual ≡ u → bound_or usual (bound_of u n) ≡ n
+    by true e = sym ((Decides-int_eq n usual).0 e)
+    by false e = refl
+
+pub sequence_is : (q : QName) (v : Values) → sequence_of q (written v) ≡ stmt.CreateSequence q v.kind v.start v.step v.min v.max v.cache v.cycle
+unfolding sequence_of
+sequence_is q v = rw (said_is v.kind, bound_is (usual_min v.kind v.step) v.min, bound_is (usual_max v.kind v.step) v.max) refl
+
+-- ---- the numbers so far
+
+abbrev pub IsGiven : Option ℤ → Type 0
+IsGiven None = Unit {0}
+IsGiven (Some z) = IsInt z
+
+abbrev pub IsBound : Bound → Type 0
+IsBound (Given z) = IsInt z
+IsBound Unsaid = Unit {0}
+IsBound Usual = Unit {0}
+
+abbrev pub AreGiven : Clauses → Type 0
+AreGiven c = IsGiven c.start × (IsGiven c.step × (IsBound c.least × (IsBound c.greatest × IsGiven c.cache)))
+
+abbrev pub KeptBy : Option Reached → Type 0
+KeptBy None = Unit {0}
+KeptBy (Some r) = AreGiven r.clauses
+
+pub record Keeps (o : Option Reached) : Type 0 where
+  kept : KeptBy o
+
+pub keeps : (r : Reached) → AreGiven r.clauses → Keeps (Some r)
+keeps r k = record { kept = k }
+
+pub nothing : Keeps None
+nothing = record { kept = tt }
+
+pub if_keeps : (b : Bool) (p q : Option Reached) → Keeps p → Keeps q → Keeps (cond b p q)
+if_keeps true p q kp kq = kp
+if_keeps false p q kp kq = kq
+
+pub only_keeps : (b : Bool) (r : Reached) → AreGiven r.clauses → Keeps (only_if b r)
+only_keeps true r k = keeps r k
+only_keeps false r k = nothing
+
+pub no_keeps : (c : Clauses) (a b : Bool) → AreGiven c → Keeps (behind_no c a b)
+no_keeps c true true k = keeps (reached c (BehindNo Both)) k
+no_keeps c true false k = keeps (reached c (BehindNo Lower)) k
+no_keeps c false true k = keeps (reached c (BehindNo Upper)) k
+no_keeps c false false k = nothing
+
+pub clause_keeps : (c : Clauses) (ts : List Lexeme) → AreGiven c → Keeps (clause_first c ts)
+unfolding clause_first
+clause_keeps c ts k =
+    if_keeps (starts (is_word (codes "as")) ts) _ _ (only_keeps (not (is_some c.kind)) (reached c BehindAs) k)
+    (if_keeps (starts (is_word (codes "start")) ts) _ _ (only_keeps (not (is_some c.start)) (reached c BehindStart) k)
+    (if_keeps (starts (is_word (codes "increment")) ts) _ _ (only_keeps (not (is_some c.step)) (reached c BehindIncrement) k)
+    (if_keeps (starts (is_word (codes "no")) ts) _ _ (no_keeps c (is_unsaid c.least) (is_unsaid c.greatest) k)
+    (if_keeps (starts (is_word (codes "minvalue")) ts) _ _ (only_keeps (is_unsaid c.least) (reached c (Due Least)) k)
+    (if_keeps (starts (is_word (codes "maxvalue")) ts) _ _ (only_keeps (is_unsaid c.greatest) (reached c (Due Greatest)) k)
+    (if_keeps (starts (is_word (codes "cache")) ts) _ _ (only_keeps (not (is_some c.cache)) (reached c (Due Cache)) k)
+    (only_keeps (starts (is_word (codes "cycle")) ts && not c.cycle) (reached (record c { cycle = true }) Between) k)))))))
+
+pub kind_keeps : (c : Clauses) (ts : List Lexeme) → AreGiven c → Keeps (kind_first c ts)
+unfolding kind_first
+kind_keeps c ts k =
+    if_keeps (starts (is_word (codes "smallint")) ts) (Some (reached (record c { kind = Some SmallInt }) Between)) (only_if (starts (is_word (codes "integer")) ts) (reached (record c { kind = Some Integer }) Between))
+    (keeps (reached (record c { kind = Some SmallInt }) Between) k)
+    (only_keeps (starts (is_word (codes "integer")) ts) (reached (record c { kind = Some Integer }) Between) k)
+
+pub with_lower : (c : Clauses) → AreGiven c → AreGiven (record c { least = Usual })
+with_lower c k = (k.0, (k.1.0, (tt, k.1.1.1)))
+
+pub with_upper : (c : Clauses) → AreGiven c → AreGiven (record c { greatest = Usual })
+with_upper c k = (k.0, (k.1.0, (k.1.1.0, (tt, k.1.1.1.1))))
+
+pub with_given : (f : Field) (z : ℤ) (c : Clauses) → IsInt z → AreGiven c → AreGiven (with_number f z c)
+with_given First z c is k = (is, k.1)
+with_given Step z c is k = (k.0, (is, k.1.1))
+with_given Least z c is k = (k.0, (k.1.0, (is, k.1.1.1)))
+with_given Greatest z c is k = (k.0, (k.1.0, (k.1.1.0, (is, k.1.1.1.1))))
+with_given Cache z c is k = (k.0, (k.1.0, (k.1.1.0, (k.1.1.1.0, is))))
+
+pub number_keeps : (f : Field) (sign : ℕ → ℤ) (limit : ℕ) (c : Clauses) (o : Option ℕ) → ((n : ℕ) → n < limit → IsInt (sign n)) → AreGiven c → IsBelow limit o → Keeps (numbered f sign c o)
+number_keeps f sign limit c None ints k below = nothing
+number_keeps f sign limit c (Some n) ints k below = keeps (reached (with_number f (sign n) c) Between) (with_given f (sign n) c (ints n below) k)
+
+pub lower_keeps : (c : Clauses) (ts : List Lexeme) → AreGiven c → Keeps (lower c ts)
+lower_keeps c ts k = only_keeps (starts (is_word (codes "minvalue")) ts) (reached (record c { least = Usual }) Between) (with_lower c k)
+
+pub upper_keeps : (c : Clauses) (ts : List Lexeme) → AreGiven c → Keeps (upper c ts)
+upper_keeps c ts k = only_keeps (starts (is_word (codes "maxvalue")) ts) (reached (record c { greatest = Usual }) Between) (with_upper c k)
+
+pub step_keeps : (spot : ClauseSpot) (c : Clauses) (ts : List Lexeme) → AreGiven c → Keeps (step_first (reached c spot) ts)
+unfolding step_first usual_first
+step_keeps Between c ts k = clause_keeps c ts k
+step_keeps BehindAs c ts k = kind_keeps c ts k
+step_keeps BehindStart c ts k = only_keeps (starts (is_word (codes "with")) ts) (reached c (Due First)) k
+step_keeps BehindIncrement c ts k = only_keeps (starts (is_word (codes "by")) ts) (reached c (Due Step)) k
+step_keeps (BehindNo Both) c ts k = if_keeps (starts (is_word (codes "minvalue")) ts) _ _ (lower_keeps c ts k) (upper_keeps c ts k)
+step_keeps (BehindNo Lower) c ts k = lower_keeps c ts k
+step_keeps (BehindNo Upper) c ts k = upper_keeps c ts k
+step_keeps (Due f) c ts k = if_keeps (starts (is_sign 45) ts) (Some (reached c (BehindMinus f))) (numbered f pos c (count_first (2 ^ 63) ts)) (keeps (reached c (BehindMinus f)) k) (number_keeps f pos (2 ^ 63) c (count_first (2 ^ 63) ts) positive_is k (count_below (2 ^ 63) ts))
+step_keeps (BehindMinus f) c ts k = number_keeps f opposite (2 ^ 63 + 1) c (count_first (2 ^ 63 + 1) ts) opposite_is k (count_below (2 ^ 63 + 1) ts)
+
+pub one_keeps : (o : Option Reached) (t : Lexeme) → Keeps o → Keeps (option_and_then (λ r. clausing.step r t) o)
+one_keeps None t k = nothing
+one_keeps (Some r) t k = step_keeps r.spot r.clauses (t ∷ []) k.kept
+
+pub run_keeps : (o : Option Reached) (ts : List Lexeme) → Keeps o → Keeps (run clausing o ts)
+run_keeps o [] k = k
+run_keeps o (t ∷ ts) k = run_keeps (option_and_then (λ r. clausing.step r t) o) ts (one_keeps o t k)
+
+pub none_given : AreGiven no_clauses
+none_given = (tt, (tt, (tt, (tt, tt))))
+
+pub clauses_keep : (o : Option Reached) → Keeps o → AreGiven (clauses_of o)
+clauses_keep None k = none_given
+clauses_keep (Some r) k = k.kept
+
+pub sequence_clauses_yield : Yields AreGiven sequence_clauses
+unfolding sequence_clauses
+sequence_clauses_yield c ts r came spells =
+    subst AreGiven (sym spells.1) (clauses_keep (run clausing (Some first_reached) spells.0) (run_keeps (Some first_reached) spells.0 (keeps first_reached none_given)))
+
+-- ---- the usual numbers
+
+pub one_is : IsInt (pos 1)
+one_is = lt-ltb 1 (2 ^ 63) (omega arith)
+
+pub usual_min_is : (kind : SequenceKind) (step : ℤ) → IsInt (usual_min kind step)
+unfolding usual_min
+usual_min_is kind (pos n) = one_is
+usual_min_is SmallInt (negsuc n) = lt-ltb 32767 (2 ^ 63) (omega arith)
+usual_min_is Integer (negsuc n) = lt-ltb 2147483647 (2 ^ 63) (omega arith)
+usual_min_is BigInt (negsuc n) = lt-ltb 9223372036854775807 (2 ^ 63) (omega arith)
+
+pub usual_max_is : (kind : SequenceKind) (step : ℤ) → IsInt (usual_max kind step)
+unfolding usual_max
+usual_max_is kind (negsuc n) = lt-ltb 0 (2 ^ 63) (omega arith)
+usual_max_is SmallInt (pos n) = lt-ltb 32767 (2 ^ 63) (omega arith)
+usual_max_is Integer (pos n) = lt-ltb 2147483647 (2 ^ 63) (omega arith)
+usual_max_is BigInt (pos n) = lt-ltb 9223372036854775807 (2 ^ 63) (omega arith)
+
+pub given_is : (usual : ℤ) (o : Option ℤ) → IsInt usual → IsGiven o → IsInt (given_or usual o)
+given_is usual None u k = u
+given_is usual (Some z) u k = k
+
+pub bound_given : (usual : ℤ) (b : Bound) → IsInt usual → IsBound b → IsInt (bound_or usual b)
+bound_given usual Unsaid u k = u
+bound_given usual Usual u k = u
+bound_given usual (Given z) u k = k
+
+pub start_is : (step min max : ℤ) → IsInt min → IsInt max → IsInt (usual_start step min max)
+start_is (pos n) min max a b = a
+start_is (negsuc n) min max a b = b
+
+pub writable : (q : QName) (c : Clauses) → IsPath q → AreGiven c → IsWritable (sequence_of q c)
+unfolding sequence_of
+writable q c path k =
+    let kind = given_or BigInt c.kind in
+    let step = given_or (pos 1) c.step in
+    let min = bound_or (usual_min kind step) c.least in
+    let max = bound_or (usual_max kind step) c.greatest in
+    let min_is = bound_given (usual_min kind step) c.least (usual_min_is kind step) k.1.1.0 in
+    let max_is = bound_given (usual_max kind step) c.greatest (usual_max_is kind step) k.1.1.1.0 in
+    (path, given_is (usual_start step min max) c.start (start_is step min max min_is max_is) k.0, given_is (pos 1) c.step one_is k.1.0, min_is, max_is, given_is (pos 1) c.cache one_is k.1.1.1.1)
+
+-- ---- the statement
+
+-- what brings the clauses from the first state to another spells them
+pub clauses_put : (c : Clauses) (v : Values) (is : AreInts v) → written v ≡ c → (others : List Lexeme) → Follows others → admits Safe (spelled others) ≡ true → IsPut sequence_clauses c (joined (clause_pieces v)) others
+unfolding sequence_clauses
+clauses_put c v is e others follows h =
+    put_as (moves first_reached (between (written v))) sequence_clauses tt c (joined (clause_pieces v)) others ((clauses_move v is).put others follows h)
+    (λ ts runs. (ts, sym e ∙ ap clauses_of (sym runs), (refl, record { last = between (written v); runs = runs; done = refl })))
+
+abbrev pub clauses_as : Written sequence_clauses
+clauses_as = record {
+  Fit = λ c. (v : Values) × AreInts v × (written v ≡ c);
+  Is = AreGiven;
+  pieces = λ c fit. clause_pieces fit.0;
+  after = Safe;
+  opens = Safe;
+  lacks = true;
+  closed = false;
+  put = λ c fit. clauses_put c fit.0 fit.1 fit.2;
+  begins = λ c fit. (clauses_move fit.0 fit.1).begins;
+  made = sequence_clauses_yield;
+  closes = not_closed sequence_clauses;
+}
+
+unfoldable pub create_sequence_as : Kinds IsWritable create_sequence
+unfolding create_sequence
+create_sequence_as = kind_as (λ x. sequence_of x.0 x.1) (then_as (path_as space) (end_as clauses_as refl) refl) (λ x is. writable x.0 x.1 is.0 is.1)
