@@ -1,119 +1,684 @@
 -- The grammar of statements has the laws of a part: what is read is spelled so, what is spelled so is read, and where
 -- reading stops nothing goes on.
-use Rattle.std.proofs.Common.{◌≡◌, ℕ, false, List, [], ◌∷◌, Some, None, refl, codes}
+use Rattle.std.proofs.Common.{◌≡◌, Bool, true, false, ◌||◌, List, [], ◌∷◌, Some, None, refl, ap, codes, ℕ, ◌+◌, ◌<◌, ◌^◌, pos, arith, ◌++◌, append-nil, Ok, Err, sym, ◌∙◌, eqb-true, not, cond, Result, Option, subst}
+use Rattle.std.proofs.lemmas.Bool.{or_parts, lt-ltb, not-true}
+use Rattle.std.specs.Str.{is_utf8, chars}
+use Rattle.std.proofs.Math.Utf8.{encode}
+use Rattle.std.specs.Prelude.{◌==◌, is_some}
+use Rattle.sql_lex.specs.Meaning.{is_keyword_of, name_of, inside, undoubled, literal_of, spelling}
+use Rattle.ddl_parts.specs.Lexemes.{Lexeme, is_word, is_sign, source, starts, is_sign_kind}
+use Rattle.ddl_parts.specs.Parts.{Runs, run, runs_of, seen, Part, Reading, Stop, stop, choose_at, ◌then◌, Many, no_more, one_more, many, passes, ◌◂◌}
+use Rattle.ddl_parts.specs.Laws.{Lawful, Begins, Apart, Found, Stopped, Avoids}
+use Rattle.ddl_parts.specs.Lists.{comma, listed}
+use Rattle.ddl_parts.specs.Leaves.{name_in, name_value, is_name, is_name_kind, qualified, literal, is_literal, text_in, literal_value}
+use Rattle.ddl_parts.proofs.Repeated.{many_laws}
+use Rattle.ddl_parts.proofs.Machines.{CanEnd, run_none, machine_laws}
+use Rattle.ddl_parts.proofs.Leads.{a_word, a_sign, name_laws, qualified_laws, sign_is, words_apart, qualified_begins, literal_laws, literal_begins, word_no_sign}
+use Rattle.ddl_parts.proofs.Telling.{sign_no_word, signs_apart, free, stop_no_type, sign_no_name, sign_no_literal}
+use Rattle.ddl_parts.proofs.Composing.{Headed, lawful_seen, lawful_ended, lawful_next, headed_sign, headed_seen, lawful_unless, lawful_word, lawful_sign, headed_word, lawful_either, headed_next, lawful_choose, lawful_then, one_word, lawful_worded, one_sign, ◌also◌}
+use Rattle.ddl_read.specs.declared.rests.RestSpot.{RestSpot}
+use Rattle.ddl_read.specs.declared.rests.RestSpot.TheVariants.{Begin, Deferrable, Initially, Ended, Foreign, FirstOn, Update, UpdateNo, UpdateSet, Updated, SecondOn, Delete, DeleteNo, DeleteSet, Chosen, Opened, Named, Deleted}
+use Rattle.ddl_read.specs.Columns.{more_names, names_of, columns}
+use Rattle.ddl_read.specs.Rests.{only_if, either, rest_step, rest_done, rest_goes_on, resting, key_rest, begins_foreign, foreign_rest}
+use Rattle.ddl_read.proofs.ColumnLaws.{names_apart}
+use Rattle.sql_lex.specs.Bytes.{is_digit, is_blank, begins_word, in_word, is_sign as is_sign_byte, marks_escapes, in_line, next_is}
+use Rattle.sql_lex.specs.declared.token.TokenKind.TheVariants.{Number, Word, Sign, QuotedName, Literal}
+use Rattle.cat_model.specs.declared.constraint.SequenceKind.TheVariants.{SmallInt}
+use Rattle.ddl_numbers.specs.Numbers.{digits_below, whole_number}
+use Rattle.ddl_read.specs.declared.sequences.Bound.TheVariants.{Usual}
+use Rattle.ddl_read.specs.declared.sequences.Field.TheVariants.{First, Step}
+use Rattle.ddl_read.specs.declared.sequences.Open.TheVariants.{Both, Lower, Upper}
+use Rattle.ddl_read.specs.declared.sequences.ClauseSpot.{ClauseSpot}
+use Rattle.ddl_read.specs.declared.sequences.ClauseSpot.TheVariants.{Between, BehindAs, BehindStart, BehindIncrement, BehindNo, Due, BehindMinus}
+use Rattle.ddl_read.specs.declared.sequences.Clauses.{Clauses}
+use Rattle.ddl_read.specs.SequenceGrammar.{with_number, reached, clause_first, kind_first, usual_first, step_first, is_between, begins_clause, first_reached, clausing, clauses_of, sequence_clauses, sequence_of, create_sequence}
+use Rattle.sql_lex.specs.declared.token.TokenKind.{TokenKind}
+use Rattle.ddl_parts.specs.Expressions.{expression, nested, nest_step, nest_done, ends_run, default_text, is_end_kind}
+use Rattle.ddl_parts.specs.declared.runs.Spot.TheVariants.{Inside}
+use Rattle.ddl_parts.proofs.Steps.{starts-append, starts_again, err_is}
+use Rattle.ddl_parts.proofs.RunLaws.{expression_laws, expression_ends, expression_ends_bracket, default_text_laws, run_ends, not_false}
+use Rattle.ddl_parts.proofs.Tables.{one_of_laws, one_of_avoids, one_of_avoids_others}
+use Rattle.ddl_read.specs.Clauses.{semicolon, new_owner}
+use Rattle.ddl_read.specs.RelationGrammar.{owned_by, its_role, its_column, sequence_changed, sequence_change, altered_sequence, view_and_body, create_view, replace_view, begun_by, bracketed, index_parts, index_of, unique_index_of, create_index, create_unique_index, view_branch, more_relations}
+use Rattle.ddl_parts.proofs.Simple.{one_laws, one_begins, seen_avoids}
+use Rattle.ddl_read.specs.declared.alters.Constraint.TheVariants.{Check}
+use Rattle.ddl_read.specs.declared.alters.TableChange.TheVariants.{Owner}
+use Rattle.ddl_read.specs.AlterGrammar.{check_body, primary_of, primary_body, unique_of, unique_body, foreign_of, foreign_body, constraint_body, added_of, added, default_of, new_default, own_change, table_change, table_changed, only_value, only_name, other_value, other_name, path_of, other_path, in_schema, key_word, behind_only, only_changed, altered_table}
+use Rattle.ddl_parts.proofs.Listing.{listed_laws}
+use Rattle.cat_model.specs.declared.table.CheckDef.{CheckDef}
+use Rattle.ddl_read.specs.TableGrammar.{create_enum, enum_of, attributes, typed, checking, domain_of, create_domain, more_elements, elements, parted, table_elements, table_of, create_table}
+use Rattle.ddl_read.proofs.TableLaws.{named_check_is, checks_apart, typed_laws, attributes_end, sign_end, column_ends, elements_apart, named_check_free}
+use Rattle.sql_lex.specs.Ends.{run_end, quote_end, escape_end, comment_end, fraction_end, number_end}
+use Rattle.sql_lex.specs.Pieces.{begins_line, closed, begun, in_utf8, piece_at}
+use Rattle.sql_lex.specs.Next.{next_within, next_token_of}
+use Rattle.sql_lex.specs.declared.fault.LexFault.{LexFault}
 use Rattle.cat_model.specs.declared.object.QName.{QName}
-use Rattle.cat_model.specs.declared.grant.Owned.{Owned}
-use Rattle.cat_model.specs.declared.grant.Owned.TheVariants as owned
-use Rattle.cat_model.specs.declared.stmt.Stmt.TheVariants as stmt
-use Rattle.ddl_parts.specs.Lexemes.{Lexeme, is_word, is_sign}
-use Rattle.ddl_parts.specs.Laws.{Lawful, Avoids}
-use Rattle.ddl_parts.proofs.Simple.{seen_avoids}
-use Rattle.ddl_parts.proofs.Leads.{name_laws, literal_laws, qualified_laws, word_no_sign, words_apart}
-use Rattle.ddl_parts.proofs.RunLaws.{expression_laws, expression_ends}
-use Rattle.ddl_parts.proofs.Telling.{free}
-use Rattle.ddl_parts.proofs.Composing.{lawful_seen, lawful_word, lawful_sign, lawful_ended, lawful_worded, lawful_next, headed_word, headed_seen, one_word, one_sign, lawful_choose, lawful_either, ◌also◌}
-use Rattle.ddl_parts.proofs.Tables.{one_of_laws, one_of_avoids_others}
+use Rattle.ddl_parts.specs.Pieces.{lexemes}
+use Rattle.ddl_parts.specs.Collecting.{collected_within, collected}
+use Rattle.ddl_numbers.proofs.NumberLaws.{whole_number_laws}
+use Rattle.ddl_read.specs.ValueGrammar.{if_last, whole_path, path_in, path_value, literal_path, truth, value_of_sequence, set_value}
+use Rattle.ddl_read.specs.CopyGrammar.{some_columns, copy_from}
 use Rattle.ddl_rights.proofs.GrantLaws.{granted_laws, revoked_laws}
 use Rattle.ddl_admin.specs.Roles.{create_role, alter_role}
 use Rattle.ddl_admin.specs.Databases.{create_database}
 use Rattle.ddl_admin.proofs.CommentLaws.{comment_on_laws}
 use Rattle.ddl_admin.proofs.RoleLaws.{create_role_laws, alter_role_laws}
 use Rattle.ddl_admin.proofs.DatabaseLaws.{create_database_laws}
-use Rattle.ddl_laws.proofs.CopyLaws.{copy_from_laws}
-use Rattle.ddl_read.specs.TableGrammar.{create_enum, create_domain, create_table}
-use Rattle.ddl_read.specs.RelationGrammar.{altered_sequence, view_branch, more_relations}
-use Rattle.ddl_laws.proofs.RelationLaws.{altered_sequence_laws, relations_lawful}
-use Rattle.ddl_read.specs.ValueGrammar.{set_value}
-use Rattle.ddl_laws.proofs.ValueLaws.{set_value_laws}
-use Rattle.ddl_laws.proofs.TableLaws.{create_enum_laws, create_domain_laws, create_table_laws}
-use Rattle.ddl_read.proofs.TableLaws.{named_check_is, named_check_free}
-use Rattle.ddl_read.specs.AlterGrammar.{altered_table}
-use Rattle.ddl_laws.proofs.AlterLaws.{new_owner_is, altered_table_laws}
-use Rattle.ddl_read.specs.Grammar.{semicolon, create_schema, created, new_check, its_owner, one_more_check, domain_changed, domain_change, altered_domain, name_and_owner, path_and_owner, owned_name, owned_path, altered, set_config, catalog_calls, selected, equals_or_to, setting, more_commands, command, statement}
+use Rattle.ddl_read.specs.Grammar.{create_schema, created, new_check, its_owner, one_more_check, domain_changed, domain_change, altered_domain, name_and_owner, path_and_owner, owned_name, owned_path, altered, set_config, catalog_calls, selected, equals_or_to, setting, more_commands, command, statement}
+use Rattle.cat_model.specs.declared.stmt.Stmt.TheVariants as stmt
+use Rattle.cat_model.specs.declared.grant.Owned.TheVariants as owned
 
-create_schema_laws : Lawful create_schema
-unfolding create_schema
-create_schema_laws = lawful_seen stmt.CreateSchema (lawful_ended 59 name_laws (free semicolon))
+-- ---- columns
+
+columns_are : Headed (is_sign 40) columns
+unfolding columns
+columns_are = headed_sign 40 (lawful_ended 41 (lawful_seen names_of (lawful_next name_laws (many_laws comma more_names names_apart) (λ t. refl))) (signs_apart 41 44 refl))
+
+columns_free : (t : Lexeme) → columns.goes_on t ≡ false
+unfolding columns
+columns_free t = refl
+
+-- ---- what follows
+
+rest_finish : RestSpot → List Lexeme
+rest_finish Begin = a_word (codes "deferrable") ∷ []
+rest_finish Deferrable = []
+rest_finish Initially = a_word (codes "deferred") ∷ []
+rest_finish Foreign = a_word (codes "deferrable") ∷ []
+rest_finish FirstOn = a_word (codes "delete") ∷ a_word (codes "cascade") ∷ []
+rest_finish Update = a_word (codes "cascade") ∷ []
+rest_finish UpdateNo = a_word (codes "action") ∷ []
+rest_finish UpdateSet = a_word (codes "null") ∷ []
+rest_finish SecondOn = a_word (codes "delete") ∷ a_word (codes "cascade") ∷ []
+rest_finish Delete = a_word (codes "cascade") ∷ []
+rest_finish DeleteNo = a_word (codes "action") ∷ []
+rest_finish DeleteSet = a_word (codes "null") ∷ []
+rest_finish Opened = a_word (codes "a") ∷ a_sign 41 ∷ []
+rest_finish Named = a_sign 41 ∷ []
+rest_finish x = []
+
+rest_last : RestSpot → RestSpot
+rest_last Begin = Deferrable
+rest_last Deferrable = Deferrable
+rest_last Initially = Ended
+rest_last Ended = Ended
+rest_last Foreign = Deferrable
+rest_last FirstOn = Deleted
+rest_last Update = Updated
+rest_last UpdateNo = Updated
+rest_last UpdateSet = Updated
+rest_last Updated = Updated
+rest_last DeleteSet = Chosen
+rest_last Chosen = Chosen
+rest_last x = Deleted
+
+rest_finished : (s s' : RestSpot) → run (resting s) (Some s') (rest_finish s') ≡ Some (rest_last s')
+unfolding rest_step rest_finish rest_last is_word is_sign is_keyword_of name_value name_in name_of is_utf8 chars encode
+rest_finished s Begin = refl
+rest_finished s x = refl
+
+rest_is_done : (s : RestSpot) → rest_done (rest_last s) ≡ true
+unfolding rest_done rest_last
+rest_is_done Begin = refl
+rest_is_done x = refl
+
+-- a token with which nothing goes on is none of these
+record IsFree (t : Lexeme) : Type 0 where
+  initially : is_word (codes "initially") t ≡ false
+  on : is_word (codes "on") t ≡ false
+  deferrable : is_word (codes "deferrable") t ≡ false
+  bracket : is_sign 40 t ≡ false
+
+is_free : (t : Lexeme) → rest_goes_on t ≡ false → IsFree t
+unfolding rest_goes_on
+is_free t e =
+    let a = or_parts (is_word (codes "initially") t) (is_word (codes "on") t || (is_word (codes "deferrable") t || is_sign 40 t)) e in
+    let b = or_parts (is_word (codes "on") t) (is_word (codes "deferrable") t || is_sign 40 t) a.1 in
+    let c = or_parts (is_word (codes "deferrable") t) (is_sign 40 t) b.1 in
+    record { initially = a.0; on = b.0; deferrable = c.0; bracket = c.1 }
+
+free_step : (s : RestSpot) (t : Lexeme) → rest_done s ≡ true → IsFree t → rest_step s t ≡ None
+unfolding rest_step rest_done
+free_step Deferrable t d free = rw free.initially refl
+free_step Ended t d free = refl
+free_step Updated t d free = rw (free.on, free.deferrable) refl
+free_step Chosen t d free = rw (free.bracket, free.deferrable) refl
+free_step Deleted t d free = rw free.deferrable refl
+free_step _ t d free = absurd cc
+
+rest_covers : (s : RestSpot) (t : Lexeme) → rest_done s ≡ true → rest_goes_on t ≡ false → rest_step s t ≡ None
+rest_covers s t d free = free_step s t d (is_free t free)
+
+resting_ends : (s : RestSpot) → CanEnd (resting s)
+resting_ends s = record { finish = rest_finish; last = rest_last; finished = rest_finished s; done = rest_is_done; covers = rest_covers }
+
+start_goes : (s x : RestSpot) (us : List Lexeme) (last : RestSpot) (b : Bool) → run (resting s) (only_if b x) us ≡ Some last → b ≡ true
+start_goes s x us last true e = refl
+start_goes s x us last false e = absurd (cc (e, run_none (resting s) us))
+
+one_goes : (s x y : RestSpot) (us : List Lexeme) (last : RestSpot) (b c : Bool) → run (resting s) (either b x c y) us ≡ Some last → (b || c) ≡ true
+one_goes s x y us last true c e = refl
+one_goes s x y us last false c e = start_goes s y us last c e
+
+rest_begins : Begins (is_word (codes "deferrable")) (runs_of (resting Begin))
+unfolding rest_step rest_done
+rest_begins v ts spells = by ts spells.1
+  where
+    by : (us : List Lexeme) → Runs (resting Begin) us → starts (is_word (codes "deferrable")) us ≡ true
+    by [] r = let same : Begin ≡ r.last = cc r.runs in absurd (cc (ap rest_done same, r.done))
+    by (u ∷ us) r = start_goes Begin Deferrable us r.last (is_word (codes "deferrable") u) r.runs
+
+foreign_begins : Begins begins_foreign (runs_of (resting Foreign))
+unfolding rest_step rest_done begins_foreign
+foreign_begins v ts spells = by ts spells.1
+  where
+    by : (us : List Lexeme) → Runs (resting Foreign) us → starts begins_foreign us ≡ true
+    by [] r = let same : Foreign ≡ r.last = cc r.runs in absurd (cc (ap rest_done same, r.done))
+    by (u ∷ us) r = one_goes Foreign FirstOn Deferrable us r.last (is_word (codes "on") u) (is_word (codes "deferrable") u) r.runs
+
+some_rest : (s : RestSpot) (test : Lexeme → Bool) → Begins test (runs_of (resting s)) → Headed test (seen source (runs_of (resting s)))
+some_rest s test begins = let h : Headed test (runs_of (resting s)) = record { laws = machine_laws (resting s) (resting_ends s); begins = begins } in headed_seen source h
+
+key_rest_laws : Lawful key_rest
+unfolding key_rest
+key_rest_laws = lawful_unless [] (some_rest Begin (is_word (codes "deferrable")) rest_begins)
+
+foreign_rest_laws : Lawful foreign_rest
+unfolding foreign_rest
+foreign_rest_laws = lawful_unless [] (some_rest Foreign begins_foreign foreign_begins)
+
+ends_goes_on : (t : Lexeme) → is_sign 59 t ≡ true → rest_goes_on t ≡ false
+unfolding rest_goes_on
+ends_goes_on t e = rw (sign_no_word 59 (codes "initially") t e, sign_no_word 59 (codes "on") t e, sign_no_word 59 (codes "deferrable") t e, signs_apart 59 40 refl t e) refl
+
+key_rest_ends : (t : Lexeme) → is_sign 59 t ≡ true → key_rest.goes_on t ≡ false
+unfolding key_rest
+key_rest_ends t e = rw (ends_goes_on t e, sign_no_word 59 (codes "deferrable") t e) refl
+
+foreign_rest_ends : (t : Lexeme) → is_sign 59 t ≡ true → foreign_rest.goes_on t ≡ false
+unfolding foreign_rest begins_foreign
+foreign_rest_ends t e = rw (ends_goes_on t e, sign_no_word 59 (codes "on") t e, sign_no_word 59 (codes "deferrable") t e) refl
+
+-- ---- each state can be brought to an end
+
+abbrev a_zero : Lexeme
+a_zero = record { gap = 32 ∷ []; kind = Number; word = 48 ∷ []; start = 0 }
+
+zero_below : (limit : ℕ) → 0 < limit → digits_below limit (48 ∷ []) ≡ Some 0
+unfolding digits_below is_digit
+zero_below limit some = rw (lt-ltb 0 limit some) refl
+
+below : digits_below (2 ^ 63) (48 ∷ []) ≡ Some 0
+below = zero_below (2 ^ 63) (omega arith)
+
+below_more : digits_below (2 ^ 63 + 1) (48 ∷ []) ≡ Some 0
+below_more = zero_below (2 ^ 63 + 1) (omega arith)
+
+finish_at : ClauseSpot → List Lexeme
+finish_at Between = []
+finish_at BehindAs = a_word (codes "smallint") ∷ []
+finish_at BehindStart = a_word (codes "with") ∷ a_zero ∷ []
+finish_at BehindIncrement = a_word (codes "by") ∷ a_zero ∷ []
+finish_at (BehindNo Both) = a_word (codes "minvalue") ∷ []
+finish_at (BehindNo Lower) = a_word (codes "minvalue") ∷ []
+finish_at (BehindNo Upper) = a_word (codes "maxvalue") ∷ []
+finish_at (Due field) = a_zero ∷ []
+finish_at (BehindMinus field) = a_zero ∷ []
+
+abbrev with_none : Clauses → Clauses
+with_none c = record c { least = Usual }
+
+last_at : ClauseSpot → Clauses → Clauses
+last_at Between c = c
+last_at BehindAs c = record c { kind = Some SmallInt }
+last_at BehindStart c = with_number First (pos 0) c
+last_at BehindIncrement c = with_number Step (pos 0) c
+last_at (BehindNo Both) c = with_none c
+last_at (BehindNo Lower) c = with_none c
+last_at (BehindNo Upper) c = record c { greatest = Usual }
+last_at (Due field) c = with_number field (pos 0) c
+last_at (BehindMinus field) c = with_number field (pos 0) c
+
+finished_at : (spot : ClauseSpot) (c : Clauses) → run clausing (Some (reached c spot)) (finish_at spot) ≡ Some (reached (last_at spot c) Between)
+unfolding step_first kind_first usual_first finish_at last_at is_word is_keyword_of is_sign
+finished_at Between c = refl
+finished_at BehindAs c = refl
+finished_at BehindStart c = rw below refl
+finished_at BehindIncrement c = rw below refl
+finished_at (BehindNo Both) c = refl
+finished_at (BehindNo Lower) c = refl
+finished_at (BehindNo Upper) c = refl
+finished_at (Due field) c = rw below refl
+finished_at (BehindMinus field) c = rw below_more refl
+
+-- where no clause begins, none goes on
+none_begins : (c : Clauses) (t : Lexeme) → begins_clause t ≡ false → clause_first c (t ∷ []) ≡ None
+unfolding clause_first
+none_begins c t e =
+    let h1 = or_parts (is_word (codes "as") t) _ e in
+    let h2 = or_parts (is_word (codes "start") t) _ h1.1 in
+    let h3 = or_parts (is_word (codes "increment") t) _ h2.1 in
+    let h4 = or_parts (is_word (codes "no") t) _ h3.1 in
+    let h5 = or_parts (is_word (codes "minvalue") t) _ h4.1 in
+    let h6 = or_parts (is_word (codes "maxvalue") t) _ h5.1 in
+    let h7 = or_parts (is_word (codes "cache") t) (is_word (codes "cycle") t) h6.1 in
+    rw (h1.0, h2.0, h3.0, h4.0, h5.0, h6.0, h7.0, h7.1) refl
+
+covers_at : (spot : ClauseSpot) (c : Clauses) (t : Lexeme) → is_between spot ≡ true → begins_clause t ≡ false → step_first (reached c spot) (t ∷ []) ≡ None
+unfolding step_first
+covers_at Between c t d e = none_begins c t e
+covers_at spot c t d e = absurd cc
+
+clausing_ends : CanEnd clausing
+clausing_ends = record {
+  finish = λ r. finish_at r.spot;
+  last = λ r. reached (last_at r.spot r.clauses) Between;
+  finished = λ r. finished_at r.spot r.clauses;
+  done = λ r. refl;
+  covers = λ r t d e. covers_at r.spot r.clauses t d e;
+}
+
+-- ---- the statement
+
+clauses_end : Apart (is_sign 59) sequence_clauses.goes_on
+unfolding sequence_clauses
+clauses_end t e =
+    rw (
+      sign_no_word 59 (codes "as") t e,
+      sign_no_word 59 (codes "start") t e,
+      sign_no_word 59 (codes "increment") t e,
+      sign_no_word 59 (codes "no") t e,
+      sign_no_word 59 (codes "minvalue") t e,
+      sign_no_word 59 (codes "maxvalue") t e,
+      sign_no_word 59 (codes "cache") t e,
+      sign_no_word 59 (codes "cycle") t e,
+    ) refl
+
+create_sequence_laws : Lawful create_sequence
+unfolding create_sequence sequence_clauses
+create_sequence_laws =
+    let clauses = lawful_seen (λ ts. clauses_of (run clausing (Some first_reached) ts)) (machine_laws clausing clausing_ends) in
+    lawful_seen (λ x. sequence_of x.0 x.1) (lawful_next qualified_laws (lawful_ended 59 clauses clauses_end) (λ t. refl))
+
+-- ---- an index's brackets
+
+-- A part has the laws where the next token passes a test, if it takes a token at least, and some of its spellings begin
+-- with each token that passes.
+begun_by_laws : {A : Type 0} (test : Lexeme → Bool) (p : Part A) → Lawful p → ((v : A) → p.Spells v [] → ⊥) → ((t : Lexeme) → test t ≡ true → (v : A) × (more : List Lexeme) × p.Spells v (t ∷ more)) → (t : Lexeme) → test t ≡ true → Lawful (begun_by test p)
+begun_by_laws {A} test p lp some goes x passes = record {
+  found = λ ts v rest e. found ts v rest (starts test ts) refl e;
+  only = λ v front rest spells free. ap (λ b. choose_at b (p.read (front ++ rest)) (stop (front ++ rest))) (starts-append test front rest spells.0) ∙ lp.only v front rest spells.1 free;
+  stopped = λ ts s e. stopped ts s (starts test ts) refl e;
+  example = let w = goes x passes in record { value = w.0; tokens = x ∷ w.1; spells = (passes, w.2) };
+}
+  where
+    begun : (v : A) (ts front rest : List Lexeme) → starts test ts ≡ true → ts ≡ front ++ rest → p.Spells v front → starts test front ≡ true
+    begun v ts [] rest is parts spells = absurd (some v spells)
+    begun v ts (t ∷ front) rest is parts spells = ap (starts test) (sym parts) ∙ is
+
+    found : (ts : List Lexeme) (v : A) (rest : List Lexeme) (b : Bool) → starts test ts ≡ b → choose_at b (p.read ts) (stop ts) ≡ Ok (v, rest) → Found (begun_by test p) ts v rest
+    found ts v rest false is h = absurd cc
+    found ts v rest true is h =
+        let f = lp.found ts v rest h in
+        record {
+          front = f.front;
+          parts = f.parts;
+          spells = (begun v ts f.front rest is f.parts f.spells, f.spells);
+          local = λ t behind e other. ap (λ b. choose_at b (p.read (f.front ++ t ∷ other)) (stop (f.front ++ t ∷ other))) (starts_again test true ts f.front rest t behind other is f.parts e) ∙ f.local t behind e other;
+        }
+
+    not_both : (r : Reading A) (v : A) (rest : List Lexeme) (s : Stop) → r ≡ Ok (v, rest) → r ≡ Err s → ⊥
+    not_both r v rest s e f = absurd (cc (e, f))
+
+    -- where reading stops something was read before
+    moved : (s : Stop) (ts front : List Lexeme) → starts test ts ≡ true → ts ≡ front ++ s.rest
+        → ((t : Lexeme) (behind : List Lexeme) → s.rest ≡ t ∷ behind → (other : List Lexeme) → p.read (front ++ t ∷ other) ≡ Err (record { long = s.long; rest = t ∷ other })) → starts test front ≡ true
+    moved s [] [] is parts local = absurd cc
+    moved s (t ∷ ts) [] is parts local =
+        let w = goes t is in
+        let read : p.read (t ∷ w.1) ≡ Ok (w.0, []) = ap p.read (sym (append-nil (t ∷ w.1))) ∙ lp.only w.0 (t ∷ w.1) [] w.2 refl in
+        absurd (not_both (p.read (t ∷ w.1)) w.0 [] (record { long = s.long; rest = t ∷ w.1 }) read (local t ts (sym parts) w.1))
+    moved s ts (t ∷ front) is parts local = ap (starts test) (sym parts) ∙ is
+
+    stopped : (ts : List Lexeme) (s : Stop) (b : Bool) → starts test ts ≡ b → choose_at b (p.read ts) (stop ts) ≡ Err s → Stopped (begun_by test p) ts s
+    stopped ts s true is h =
+        let f = lp.stopped ts s h in
+        record {
+          front = f.front;
+          parts = f.parts;
+          value = f.value;
+          more = f.more;
+          finished = (starts-append test f.front f.more (moved s ts f.front is f.parts f.local), f.finished);
+          local = λ t behind e other. ap (λ b. choose_at b (p.read (f.front ++ t ∷ other)) (stop (f.front ++ t ∷ other))) (starts_again test true ts f.front s.rest t behind other is f.parts e) ∙ f.local t behind e other;
+        }
+    stopped ts s false is h =
+        let w = goes x passes in
+        let same = err_is {A = A × List Lexeme} (record { long = false; rest = ts }) s h in
+        let whole : ts ≡ s.rest = ap (λ (u : Stop). u.rest) same in
+        record {
+          front = [];
+          parts = whole;
+          value = w.0;
+          more = x ∷ w.1;
+          finished = (passes, w.2);
+          local = λ t behind e other.
+              ap (λ b. choose_at b (p.read (t ∷ other)) (stop (t ∷ other))) (ap (starts test) (sym (whole ∙ e)) ∙ is)
+              ∙ ap (λ (b : Bool). failed_at b (t ∷ other)) (ap (λ (u : Stop). u.long) same);
+        }
+      where
+        failed_at : Bool → List Lexeme → Reading A
+        failed_at long rest = Err (record { long = long; rest = rest })
+
+-- what a bracket opens is closed again
+opened : (t : Lexeme) → is_sign 40 t ≡ true → (v : List ℕ) × (more : List Lexeme) × expression.Spells v (t ∷ more)
+unfolding expression is_sign nest_step nest_done ends_run
+opened t e =
+    let kind = by t.kind e in
+    let ts = t ∷ a_sign 41 ∷ [] in
+    (source ts, a_sign 41 ∷ [], (ts, refl, (refl, record { last = record { brackets = []; spot = Inside }; runs = rw kind refl; done = refl })))
+  where
+    by : (k : TokenKind) → is_sign_kind 40 k ≡ true → k ≡ Sign 40
+    by (Sign c) e = ap Sign (sym (eqb-true 40 c e))
+    by Word e = absurd cc
+    by x e = absurd cc
+
+some_token : (v : List ℕ) → expression.Spells v [] → ⊥
+unfolding expression nest_done
+some_token v spells =
+    let runs = spells.2.1 in
+    let same : (nested false false).start ≡ runs.last = cc runs.runs in
+    absurd (let d = runs.done in let e = ap nest_done same ∙ d in cc)
+
+index_parts_laws : Lawful index_parts
+unfolding index_parts bracketed
+index_parts_laws =
+    let bracket = begun_by_laws (is_sign 40) expression expression_laws some_token opened (a_sign 40) (sign_is 40) in
+    let method = lawful_next name_laws (lawful_ended 59 bracket expression_ends) (λ t. refl) in
+    lawful_next name_laws (lawful_word (codes "on") (lawful_next qualified_laws (lawful_word (codes "using") method) (λ t. refl))) (λ t. refl)
+
+-- ---- ALTER TABLE
+
+new_owner_is : Headed (is_word (codes "owner")) new_owner
+unfolding new_owner
+new_owner_is = headed_word (codes "owner") (lawful_word (codes "to") (lawful_ended 59 name_laws (free semicolon)))
+
+keyed_laws : Lawful (columns then key_rest)
+keyed_laws = lawful_next columns_are.laws key_rest_laws columns_free
+
+pub constraint_body_laws : Lawful constraint_body
+unfolding constraint_body check_body primary_body unique_body foreign_body
+constraint_body_laws =
+    let check = lawful_seen Check (lawful_sign 40 (lawful_ended 41 expression_laws expression_ends_bracket)) in
+    let parents = lawful_word (codes "references") (lawful_next qualified_laws (lawful_next columns_are.laws foreign_rest_laws columns_free) (λ t. refl)) in
+    let foreign = lawful_seen foreign_of (lawful_word (codes "key") (lawful_next columns_are.laws parents columns_free)) in
+    one_of_laws (record { key = codes "check"; part = check_body })
+    (record { key = codes "primary"; part = primary_body } ∷ record { key = codes "unique"; part = unique_body } ∷ record { key = codes "foreign"; part = foreign_body } ∷ [])
+    refl (check also lawful_seen primary_of (lawful_word (codes "key") keyed_laws) also lawful_seen unique_of keyed_laws also foreign)
+
+constraint_ends : Apart semicolon constraint_body.goes_on
+unfolding constraint_body check_body primary_body unique_body foreign_body
+constraint_ends t e = rw (key_rest_ends t e, foreign_rest_ends t e) refl
+
+default_ends : Apart semicolon default_text.goes_on
+unfolding default_text
+default_ends = run_ends true 59 refl
+
+own_change_laws : Lawful own_change
+unfolding own_change added new_default
+own_change_laws =
+    let constraint = lawful_seen added_of (lawful_word (codes "constraint") (lawful_next name_laws (lawful_ended 59 constraint_body_laws constraint_ends) (λ t. refl))) in
+    let value = lawful_word (codes "set") (lawful_word (codes "default") (lawful_ended 59 default_text_laws default_ends)) in
+    one_of_laws (record { key = codes "add"; part = added }) (record { key = codes "alter"; part = new_default } ∷ []) refl
+    (constraint also lawful_seen default_of (lawful_word (codes "column") (lawful_next name_laws value (λ t. refl))))
+
+own_change_avoids : Avoids (is_word (codes "owner")) own_change
+unfolding own_change
+own_change_avoids = one_of_avoids (codes "owner") (record { key = codes "add"; part = added }) (record { key = codes "alter"; part = new_default } ∷ []) refl
+
+table_change_laws : Lawful table_change
+unfolding table_change
+table_change_laws = lawful_choose (headed_seen Owner new_owner_is) own_change_laws own_change_avoids
+
+-- ---- which table
+
+abbrev is_no_only : Lexeme → Bool
+is_no_only t = not (is_word (codes "only") t)
+
+pub only_is : (t : Lexeme) (v : List ℕ) → only_value t ≡ Ok v → (is_word (codes "only") t ≡ true) × (name_value t ≡ Ok v)
+unfolding only_value
+only_is t v e = by (is_word (codes "only") t) refl e
+  where
+    by : (b : Bool) → is_word (codes "only") t ≡ b → cond b (name_value t) (Err false) ≡ Ok v → (is_word (codes "only") t ≡ true) × (name_value t ≡ Ok v)
+    by true is e = (is, e)
+    by false is e = absurd cc
+
+pub other_is : (t : Lexeme) (v : List ℕ) → other_value t ≡ Ok v → (is_word (codes "only") t ≡ false) × (name_value t ≡ Ok v)
+unfolding other_value
+other_is t v e = by (is_word (codes "only") t) refl e
+  where
+    by : (b : Bool) → is_word (codes "only") t ≡ b → cond b (Err false) (name_value t) ≡ Ok v → (is_word (codes "only") t ≡ false) × (name_value t ≡ Ok v)
+    by true is e = absurd cc
+    by false is e = (is, e)
+
+only_name_is : Headed (is_word (codes "only")) only_name
+unfolding only_value is_word is_keyword_of name_value name_in name_of is_utf8 chars encode
+only_name_is = record { laws = one_laws only_value (a_word (codes "only")) (codes "only") refl; begins = one_begins only_value (is_word (codes "only")) (λ t v e. (only_is t v e).0) }
+
+other_name_is : Headed is_no_only other_name
+unfolding other_value is_word is_keyword_of name_value name_in name_of is_utf8 chars encode
+other_name_is = record { laws = one_laws other_value (a_word (codes "a")) (codes "a") refl; begins = one_begins other_value is_no_only (λ t v e. ap not (other_is t v e).0) }
+
+other_path_is : Headed is_no_only other_path
+unfolding other_path
+other_path_is = headed_seen path_of (headed_next other_name_is (lawful_sign 46 name_laws) (λ t. refl))
+
+name_no_sign_by : (k : TokenKind) (b : ℕ) → is_name_kind k ≡ true → is_sign_kind b k ≡ false
+name_no_sign_by Word b e = refl
+name_no_sign_by QuotedName b e = refl
+name_no_sign_by Literal b e = absurd cc
+name_no_sign_by x b e = absurd cc
+
+name_no_sign : (b : ℕ) → Apart is_name (is_sign b)
+unfolding is_name is_sign
+name_no_sign b t e = name_no_sign_by t.kind b e
+
+altered_table_laws : Lawful altered_table
+unfolding altered_table other_path behind_only
+altered_table_laws =
+    let path : Headed is_name qualified = record { laws = qualified_laws; begins = qualified_begins } in
+    let schema = headed_seen (λ x. in_schema x.0 x.1) (headed_sign 46 (lawful_next name_laws table_change_laws (λ t. refl))) in
+    let behind = lawful_either schema (headed_seen (λ x. key_word x.0 x.1) (headed_next path own_change_laws (λ t. refl))) (name_no_sign 46) in
+    lawful_either (headed_seen (λ x. only_changed x.0 x.1) (headed_next only_name_is behind (λ t. refl)))
+    (headed_seen (λ x. table_changed x.0 x.1) (headed_next other_path_is table_change_laws (λ t. refl))) (λ t e. not-true (is_word (codes "only") t) e)
+
+labels_end : Apart (is_sign 41) (listed is_literal literal).goes_on
+labels_end t e = rw (sign_no_literal 41 t e, signs_apart 41 44 refl t e) refl
+
+-- ---- what ends a type with what may follow it
+
+closing_ends : (b : ℕ) → (b == 41 || b == 93 || b == 59) ≡ true → (t : Lexeme) → is_sign b t ≡ true → ends_run true t ≡ true
+closing_ends b ends t e = not_false (ends_run true t) (run_ends true b ends t e)
+
+word_ends : (t : Lexeme) → is_word (codes "constraint") t ≡ true → ends_run true t ≡ true
+unfolding ends_run
+word_ends t e = rw e (by (is_end_kind t.kind) (is_sign 44 t) (is_word (codes "default") t))
+  where
+    by : (a b c : Bool) → (a || ((b || c) || true)) ≡ true
+    by true b c = refl
+    by false true c = refl
+    by false false true = refl
+    by false false false = refl
+
+bracket_no_attributes : Apart (is_sign 41) attributes.goes_on
+bracket_no_attributes = sign_end 41 (closing_ends 41 refl) refl refl refl
+
+semicolon_no_attributes : Apart semicolon attributes.goes_on
+semicolon_no_attributes = sign_end 59 (closing_ends 59 refl) refl refl refl
+
+constraint_no_attributes : Apart (is_word (codes "constraint")) attributes.goes_on
+constraint_no_attributes t e = attributes_end t (word_ends t e) (words_apart (codes "constraint") (codes "not") refl t e) (words_apart (codes "constraint") (codes "default") refl t e) (stop_no_type (codes "constraint") refl t e)
+
+-- ---- CREATE DOMAIN
+
+abbrev checks : Part (List CheckDef)
+checks = many (is_word (codes "constraint")) checking
+
+passes_by : (test : Lexeme → Bool) (t : Lexeme) → passes test t ≡ Ok tt → test t ≡ true
+passes_by test t e = by (test t) e
+  where
+    made : Unit {0} → Result (Unit {0}) Bool
+    made u = Ok u
+
+    by : (b : Bool) → cond b (made tt) (Err false) ≡ Ok tt → b ≡ true
+    by true e = refl
+    by false e = absurd cc
+
+-- checks and a semicolon begin with neither
+checks_avoid : (test : Lexeme → Bool) → Apart (is_word (codes "constraint")) test → Apart semicolon test → Avoids test (checks ◂ semicolon)
+checks_avoid test word sign v ts rest spells free = by spells.2.4.0 spells.2.4.2 (spells.2.0) (spells.2.1) spells.2.2 spells.2.4.1 spells.2.3
+  where
+    by : (t : Lexeme) → passes semicolon t ≡ Ok tt → (a b : List Lexeme) → ts ≡ a ++ b → b ≡ t ∷ [] → Many checking tt spells.0.0 a → starts test (ts ++ rest) ≡ false
+    by t is a b parts last all = ap (λ (us : List Lexeme). starts test (us ++ rest)) (parts ∙ ap (λ (us : List Lexeme). a ++ us) last) ∙ first spells.0.0 a all
+      where
+        first : (vs : List CheckDef) (a : List Lexeme) → Many checking tt vs a → starts test ((a ++ t ∷ []) ++ rest) ≡ false
+        first _ _ (no_more _) = sign t (passes_by semicolon t is)
+        first _ _ (one_more _ w ws c d one others) =
+            let begun = starts-append (is_word (codes "constraint")) (c ++ d) (t ∷ []) (starts-append (is_word (codes "constraint")) c d (named_check_is.begins w c one)) in
+            apart_first (((c ++ d) ++ t ∷ []) ++ rest) (starts-append (is_word (codes "constraint")) ((c ++ d) ++ t ∷ []) rest begun)
+          where
+            apart_first : (us : List Lexeme) → starts (is_word (codes "constraint")) us ≡ true → starts test us ≡ false
+            apart_first [] e = refl
+            apart_first (u ∷ us) e = word u e
+
+bracket_no_elements : Apart (is_sign 41) table_elements.goes_on
+unfolding table_elements
+bracket_no_elements t e = rw (sign_no_name 41 t e, signs_apart 41 44 refl t e, column_ends t (bracket_no_attributes t e)) refl
+
+-- ---- a path in a literal
+
+-- 'a.b'
+abbrev a_literal_path : Lexeme
+a_literal_path = record { gap = 32 ∷ []; kind = Literal; word = 39 ∷ 97 ∷ 46 ∷ 98 ∷ 39 ∷ []; start = 0 }
+
+literal_path_laws : Lawful literal_path
+unfolding path_value path_in literal_value text_in literal_of undoubled inside is_utf8 chars encode is_blank is_digit begins_word in_word is_sign_byte marks_escapes in_line next_is run_end quote_end escape_end comment_end fraction_end number_end begins_line closed begun in_utf8 piece_at next_within next_token_of name_of spelling is_sign name_in name_value collected_within collected
+literal_path_laws = one_laws path_value a_literal_path (record { schema = codes "a"; name = codes "b" }) refl
+
+abbrev read_as : QName → List Lexeme → Reading QName
+read_as q rest = Ok (q, rest)
+
+whole_is : (r : Reading QName) (q : QName) → whole_path r ≡ Ok q → r ≡ Ok (q, [])
+whole_is (Ok x) q e = by x.1 refl e
+  where
+    by : (ts : List Lexeme) → x.1 ≡ ts → if_last x.0 ts ≡ Ok q → read_as x.0 x.1 ≡ Ok (q, [])
+    by [] is e = let same : x.0 ≡ q = cc in ap (λ (p : QName). read_as p x.1) same ∙ ap (read_as q) is
+    by (t ∷ ts) is e = absurd cc
+whole_is (Err s) q e = absurd cc
+
+-- a text's path is what all of its tokens spell, with no fault behind them
+abbrev pub SpellsPath : List ℕ → QName → Type 0
+SpellsPath text q = ((collected text 0).fault ≡ None) × qualified.Spells q (lexemes text (collected text 0).pieces)
+
+pub path_found : (text : List ℕ) (q : QName) → path_in text ≡ Ok q → SpellsPath text q
+unfolding path_in
+path_found text q e = by (collected text 0).fault refl e
+  where
+    ts : List Lexeme
+    ts = lexemes text (collected text 0).pieces
+
+    by : (o : Option LexFault) → (collected text 0).fault ≡ o → cond (is_some o) (Err false) (whole_path (qualified.read ts)) ≡ (let r : Result QName Bool = Ok q in r) → SpellsPath text q
+    by (Some f) is e = absurd cc
+    by None is e =
+        let f = qualified_laws.found ts q [] (whole_is (qualified.read ts) q e) in
+        (is, subst (qualified.Spells q) (sym (f.parts ∙ append-nil f.front)) f.spells)
+
+pub path_only : (text : List ℕ) (q : QName) → SpellsPath text q → path_in text ≡ Ok q
+unfolding path_in
+path_only text q h =
+    let ts = lexemes text (collected text 0).pieces in
+    let read : qualified.read ts ≡ Ok (q, []) = ap qualified.read (sym (append-nil ts)) ∙ qualified_laws.only q ts [] h.1 refl in
+    rw h.0 (ap whole_path read)
+
+-- ---- the statement
+
+truth_laws : Lawful truth
+unfolding truth
+truth_laws = lawful_either (headed_seen (λ u. true) (one_word (codes "true"))) (headed_seen (λ u. false) (one_word (codes "false"))) (words_apart (codes "false") (codes "true") refl)
+
+set_value_laws : Lawful set_value
+unfolding set_value whole_number truth
+set_value_laws =
+    let truth_end = lawful_ended 59 (lawful_ended 41 truth_laws (λ t e. refl)) (free (is_sign 59)) in
+    let values = lawful_next literal_path_laws (lawful_sign 44 (lawful_next whole_number_laws (lawful_sign 44 truth_end) (λ t. refl))) (λ t. refl) in
+    lawful_seen value_of_sequence (lawful_sign 40 values)
+
+-- ---- CREATE ..
 
 created_laws : Lawful created
-unfolding created
+unfolding created create_schema create_enum create_domain typed create_table table_elements create_view replace_view create_index create_unique_index
 created_laws =
+    let schema = lawful_seen stmt.CreateSchema (lawful_ended 59 name_laws (free semicolon)) in
+    let labels = lawful_ended 59 (lawful_ended 41 (listed_laws is_literal literal literal_laws literal_begins (free comma)) labels_end) (free semicolon) in
+    let enum = lawful_seen enum_of (lawful_next qualified_laws (lawful_word (codes "as") (lawful_word (codes "enum") (lawful_sign 40 labels))) (λ t. refl)) in
+    let checked = lawful_ended 59 (many_laws (is_word (codes "constraint")) checking checks_apart) (sign_no_word 59 (codes "constraint")) in
+    let base = lawful_then typed_laws checked (checks_avoid attributes.goes_on constraint_no_attributes semicolon_no_attributes) in
+    let domain = lawful_seen domain_of (lawful_next qualified_laws (lawful_word (codes "as") base) (λ t. refl)) in
+    let body = lawful_ended 59 (lawful_ended 41 (lawful_seen parted (many_laws more_elements elements elements_apart)) bracket_no_elements) (free semicolon) in
+    let table = lawful_seen table_of (lawful_next qualified_laws (lawful_sign 40 body) (λ t. refl)) in
+    let viewed : Lawful view_and_body = lawful_next qualified_laws (lawful_word (codes "as") (lawful_ended 59 expression_laws expression_ends)) (λ t. refl) in
+    let view = lawful_seen (λ x. stmt.CreateView x.0 x.1) viewed in
+    let replaced = lawful_word (codes "replace") (lawful_word (codes "view") (lawful_seen (λ x. stmt.ReplaceView x.0 x.1) viewed)) in
+    let unique = lawful_word (codes "index") (lawful_seen unique_index_of index_parts_laws) in
     one_of_laws (record { key = codes "schema"; part = create_schema })
     (record { key = codes "type"; part = create_enum } ∷ record { key = codes "domain"; part = create_domain } ∷ record { key = codes "table"; part = create_table }
     ∷ record { key = codes "role"; part = create_role } ∷ record { key = codes "database"; part = create_database } ∷ view_branch ∷ more_relations)
-    refl (create_schema_laws also create_enum_laws also create_domain_laws also create_table_laws also create_role_laws also create_database_laws also relations_lawful)
+    refl (schema also enum also domain also table also create_role_laws also create_database_laws also view also replaced also lawful_seen index_of index_parts_laws also unique also create_sequence_laws)
 
-name_and_owner_laws : Lawful name_and_owner
-unfolding name_and_owner
-name_and_owner_laws = lawful_next name_laws new_owner_is.laws (λ t. refl)
-
-path_and_owner_laws : Lawful path_and_owner
-unfolding path_and_owner
-path_and_owner_laws = lawful_next qualified_laws new_owner_is.laws (λ t. refl)
-
-altered_domain_laws : Lawful altered_domain
-unfolding altered_domain domain_change new_check
-altered_domain_laws =
-    let check = headed_word (codes "add") (lawful_ended 59 named_check_is.laws (λ t e. named_check_free t)) in
-    let change = lawful_either (headed_seen its_owner new_owner_is) (headed_seen one_more_check check) (words_apart (codes "add") (codes "owner") refl) in
-    lawful_seen (λ x. domain_changed x.0 x.1) (lawful_next qualified_laws change (λ t. refl))
-
-owned_name_laws : (key : List ℕ) (kind : List ℕ → Owned) → Lawful (owned_name key kind).part
-owned_name_laws key kind = lawful_seen (λ x. stmt.OwnerTo (kind x.0) x.1) name_and_owner_laws
-
-owned_path_laws : (key : List ℕ) (kind : QName → Owned) → Lawful (owned_path key kind).part
-owned_path_laws key kind = lawful_seen (λ x. stmt.OwnerTo (kind x.0) x.1) path_and_owner_laws
+-- ---- ALTER ..
 
 altered_laws : Lawful altered
-unfolding altered
+unfolding altered name_and_owner path_and_owner altered_domain domain_change new_check altered_sequence sequence_change owned_by
 altered_laws =
+    let name : Lawful name_and_owner = lawful_next name_laws new_owner_is.laws (λ t. refl) in
+    let path : Lawful path_and_owner = lawful_next qualified_laws new_owner_is.laws (λ t. refl) in
+    let check = headed_word (codes "add") (lawful_ended 59 named_check_is.laws (λ t e. named_check_free t)) in
+    let changed = lawful_either (headed_seen its_owner new_owner_is) (headed_seen one_more_check check) (words_apart (codes "add") (codes "owner") refl) in
+    let domain = lawful_seen (λ x. domain_changed x.0 x.1) (lawful_next qualified_laws changed (λ t. refl)) in
+    let column = lawful_next qualified_laws (lawful_sign 46 (lawful_ended 59 name_laws (free semicolon))) (λ t. refl) in
+    let given = lawful_either (headed_seen its_role new_owner_is) (headed_seen its_column (headed_word (codes "owned") (lawful_word (codes "by") column))) (words_apart (codes "owned") (codes "owner") refl) in
+    let sequence = lawful_seen (λ x. sequence_changed x.0 x.1) (lawful_next qualified_laws given (λ t. refl)) in
     one_of_laws (owned_name (codes "schema") owned.Schema)
     (owned_path (codes "type") owned.Type ∷ record { key = codes "domain"; part = altered_domain } ∷ record { key = codes "table"; part = altered_table }
     ∷ record { key = codes "sequence"; part = altered_sequence } ∷ owned_path (codes "view") owned.View ∷ owned_name (codes "database") owned.Database
     ∷ record { key = codes "role"; part = alter_role } ∷ [])
     refl
-    (owned_name_laws (codes "schema") owned.Schema also owned_path_laws (codes "type") owned.Type also altered_domain_laws also altered_table_laws also altered_sequence_laws
-    also owned_path_laws (codes "view") owned.View also owned_name_laws (codes "database") owned.Database also alter_role_laws)
+    (lawful_seen (λ x. stmt.OwnerTo (owned.Schema x.0) x.1) name also lawful_seen (λ x. stmt.OwnerTo (owned.Type x.0) x.1) path also domain also altered_table_laws also sequence
+    also lawful_seen (λ x. stmt.OwnerTo (owned.View x.0) x.1) path also lawful_seen (λ x. stmt.OwnerTo (owned.Database x.0) x.1) name also alter_role_laws)
 
-set_config_laws : Lawful set_config
-unfolding set_config
-set_config_laws =
-    let not_local = lawful_worded (codes "false") (lawful_ended 44 literal_laws (free (is_sign 44))) (free (is_word (codes "false"))) in
-    let value = lawful_ended 59 (lawful_ended 41 not_local (free (is_sign 41))) (free semicolon) in
-    lawful_seen (λ x. stmt.SetConfig x.0 x.1) (lawful_sign 40 (lawful_next literal_laws (lawful_sign 44 value) (λ t. refl)))
+-- ---- all statements
 
-selected_laws : Lawful selected
-unfolding selected
-selected_laws =
-    let calls : Lawful catalog_calls = one_of_laws (record { key = codes "set_config"; part = set_config }) (record { key = codes "setval"; part = set_value } ∷ []) refl (set_config_laws, set_value_laws) in
-    lawful_word (codes "pg_catalog") (lawful_sign 46 calls)
-
-equals_or_to_laws : Lawful equals_or_to
-unfolding equals_or_to
-equals_or_to_laws = lawful_either (one_sign 61) (one_word (codes "to")) (word_no_sign (codes "to") 61)
-
-equals_or_to_ends : (t : Lexeme) → equals_or_to.goes_on t ≡ false
-unfolding equals_or_to
-equals_or_to_ends t = refl
-
-setting_laws : Lawful setting
-unfolding setting
-setting_laws =
-    lawful_seen (λ x. stmt.Set x.0 x.1.1)
-    (lawful_next name_laws (lawful_next equals_or_to_laws (lawful_ended 59 expression_laws expression_ends) equals_or_to_ends) (λ t. refl))
+some_columns_ends : Apart (is_word (codes "from")) some_columns.goes_on
+unfolding some_columns
+some_columns_ends t e = rw (columns_free t, word_no_sign (codes "from") 40 t e) refl
 
 command_laws : Lawful command
-unfolding command
+unfolding command selected set_config setting equals_or_to copy_from some_columns columns
 command_laws =
-    one_of_laws (record { key = codes "create"; part = created })
-    more_commands
-    refl (created_laws also altered_laws also selected_laws also setting_laws also copy_from_laws also granted_laws also revoked_laws also comment_on_laws)
+    let not_local = lawful_worded (codes "false") (lawful_ended 44 literal_laws (free (is_sign 44))) (free (is_word (codes "false"))) in
+    let value = lawful_ended 59 (lawful_ended 41 not_local (free (is_sign 41))) (free semicolon) in
+    let config = lawful_seen (λ x. stmt.SetConfig x.0 x.1) (lawful_sign 40 (lawful_next literal_laws (lawful_sign 44 value) (λ t. refl))) in
+    let calls : Lawful catalog_calls = one_of_laws (record { key = codes "set_config"; part = set_config }) (record { key = codes "setval"; part = set_value } ∷ []) refl (config also set_value_laws) in
+    let equals : Lawful equals_or_to = lawful_either (one_sign 61) (one_word (codes "to")) (word_no_sign (codes "to") 61) in
+    let set = lawful_seen (λ x. stmt.Set x.0 x.1.1) (lawful_next name_laws (lawful_next equals (lawful_ended 59 expression_laws expression_ends) (λ t. refl)) (λ t. refl)) in
+    let from = lawful_worded (codes "from") (lawful_unless [] columns_are) some_columns_ends in
+    let stdin = lawful_ended 59 (lawful_worded (codes "stdin") from (free (is_word (codes "stdin")))) (free (is_sign 59)) in
+    one_of_laws (record { key = codes "create"; part = created }) more_commands refl
+    (created_laws also altered_laws also lawful_word (codes "pg_catalog") (lawful_sign 46 calls) also set also lawful_seen (λ x. stmt.CopyRows x.0 x.1 []) (lawful_next qualified_laws stdin (λ t. refl))
+    also granted_laws also revoked_laws also comment_on_laws)
 
 command_avoids : Avoids semicolon command
 unfolding command
-command_avoids =
-    one_of_avoids_others semicolon (λ key. word_no_sign key 59) (record { key = codes "create"; part = created })
-    more_commands
+command_avoids = one_of_avoids_others semicolon (λ key. word_no_sign key 59) (record { key = codes "create"; part = created }) more_commands
 
 -- the grammar of statements has the laws
 pub statement_laws : Lawful statement

@@ -21,7 +21,7 @@ use Rattle.ddl_forms.proofs.Kept.{have_come}
 use Rattle.ddl_forms.proofs.Standing.{Stood, placed, NoSemicolon, collects_all}
 use Rattle.ddl_forms.proofs.Tokens.{name_token, sign_token, Gap, none, a_name, is_single, a_sign, name_means, name_no_sign}
 use Rattle.ddl_forms.proofs.Written.{Written, literal_said, path_as}
-use Rattle.ddl_laws.proofs.ValueLaws.{path_found, path_only}
+use Rattle.ddl_laws.proofs.GrammarLaws.{path_found, path_only}
 
 pub name_utf8 : (n : List ℕ) → IsName n → IsUtf8 (written_name n)
 unfolding is_sound

@@ -1,19 +1,25 @@
--- A text reads as statements exactly where it is read so, and a fault is the first.
-use Rattle.std.proofs.Common.{◌≡◌, ℕ, zero, suc, ◌+◌, ◌-◌, ◌<◌, ◌≤◌, Bool, true, false, cond, List, [], ◌∷◌, ◌++◌, length, Option, Some, None, Result, Ok, Err, refl, sym, ap, subst, ◌∙◌, arith, append-nil, ◌⊎◌, inl, inr}
+-- A text reads as statements exactly where it is read so, and a fault is the first: reading fails where a text fails at a
+-- fault, at the same place.
+use Rattle.std.proofs.Common.{◌≡◌, ℕ, zero, suc, ◌+◌, Bool, true, false, not, cond, List, [], ◌∷◌, ◌++◌, Option, Some, None, Result, Ok, Err, refl, sym, ap, ◌∙◌, length, ◌-◌, ◌<◌, ◌≤◌, subst, arith, append-nil}
+use Rattle.std.proofs.lemmas.Bool.{and_from}
 use Rattle.sql_lex.specs.declared.token.Token.{Token}
+use Rattle.sql_lex.specs.declared.fault.LexFault.{LexFault}
+use Rattle.sql_lex.specs.Next.{next_token_of, LiesBehind}
+use Rattle.cat_model.specs.declared.stmt.Stmt.{Stmt}
+use Rattle.ddl_parts.specs.declared.pieces.Piece.{Piece}
+use Rattle.ddl_parts.specs.Lexemes.{Lexeme, is_sign, is_sign_kind, starts, is_word, start_of}
+use Rattle.ddl_parts.specs.Pieces.{lexeme_of, lexemes, value_of}
+use Rattle.ddl_parts.specs.Collecting.{Collected, collected, collected_within, collected_by, nothing_more, preceded}
+use Rattle.ddl_read.specs.Grammar.{semicolon, statement, command, created, altered, set_config, selected, setting, create_schema, altered_domain, domain_change, new_check, name_and_owner, path_and_owner, new_owner}
+use Rattle.ddl_forms.proofs.Tokens.{none as no_gap}
+use Rattle.ddl_laws.proofs.Whole.{statement_as}
+use Rattle.ddl_forms.proofs.Closing.{Closes, only_last, nothing_left}
 use Rattle.sql_lex.specs.declared.token.TokenKind.{TokenKind}
 use Rattle.sql_lex.specs.declared.token.TokenKind.TheVariants.{Word, MetaLine}
 use Rattle.sql_lex.specs.Meaning.{spelling, is_keyword_of}
 use Rattle.cat_model.specs.declared.object.QName.{QName}
-use Rattle.cat_model.specs.declared.stmt.Stmt.TheVariants as stmt
-use Rattle.sql_lex.specs.declared.fault.LexFault.{LexFault}
-use Rattle.sql_lex.specs.Next.{next_token_of, LiesBehind}
 use Rattle.sql_lex.proofs.Passing.{lies_behind}
-use Rattle.cat_model.specs.declared.stmt.Stmt.{Stmt}
-use Rattle.ddl_parts.specs.Lexemes.{Lexeme, starts, is_sign_kind, is_sign, is_word}
 use Rattle.ddl_parts.specs.Parts.{Stop, Reading}
-use Rattle.ddl_parts.specs.Pieces.{lexeme_of, lexemes, value_of}
-use Rattle.ddl_parts.specs.Collecting.{Collected, collected, collected_within, collected_by, nothing_more, preceded}
 use Rattle.ddl_read.specs.declared.located.Located.{Located}
 use Rattle.ddl_read.specs.declared.fault.DdlFault.{DdlFault}
 use Rattle.ddl_read.specs.declared.fault.DdlFault.TheVariants.{Lex}
@@ -26,23 +32,56 @@ use Rattle.ddl_admin.specs.Roles.{create_role, alter_role}
 use Rattle.ddl_admin.specs.Databases.{create_database}
 use Rattle.ddl_read.specs.TableGrammar.{create_enum, create_domain, create_table}
 use Rattle.ddl_read.specs.AlterGrammar.{added, new_default, own_change, table_change, behind_only, altered_table}
-use Rattle.ddl_read.specs.Grammar.{statement, command, created, altered, set_config, selected, setting, create_schema, altered_domain, domain_change, new_check, name_and_owner, path_and_owner, new_owner}
 use Rattle.ddl_lines.specs.CopyRows.{Copied, rows_behind}
 use Rattle.ddl_lines.specs.MetaLines.{meta_line}
 use Rattle.ddl_lines.proofs.RowTexts.{rows_bounds}
-use Rattle.ddl_read.specs.Reading.{◌>>=◌, Whole, whole, whole_of, with_rows, completed, is_line_kind, line_in, line_at, line_fault, line_said, statements_at, listed, first_start, fault_of, told, no_more, statement_of, statements_by, statements_within, statements_of}
-use Rattle.ddl_laws.specs.Readings.{IsStatement, line_token, Reads, all_read, one_read, line_read, IsStuck, FailsAt, no_token, stuck, no_rows, bad_line, later, later_line}
+use Rattle.ddl_read.specs.Reading.{◌>>=◌, Whole, whole, whole_of, with_rows, completed, is_line_kind, line_in, line_at, line_fault, line_said, statements_at, listed, first_start, fault_of, told, no_more, statement_of, statements_by, statements_within, statements_of, fault_by}
+use Rattle.ddl_laws.specs.Readings.{IsStatement, IsLine, line_token, Reads, all_read, one_read, line_read, IsStuck, FailsAt, no_token, stuck, no_rows, bad_line, later, later_line}
 use Rattle.ddl_rights.specs.Grants.{granted, revoked}
 use Rattle.ddl_laws.proofs.GrammarLaws.{statement_laws}
-use Rattle.ddl_laws.proofs.Closed.{takes_all}
+use Rattle.ddl_read.specs.Faults.{fault_place}
+use Rattle.cat_model.specs.declared.stmt.Stmt.TheVariants as stmt
+
+pub statement_closes : Closes semicolon statement
+unfolding statement_as
+statement_closes = (statement_as no_gap).closes refl
+
+-- ---- the tokens that are collected
+
+abbrev by_sign : (ℕ → Collected) → ℕ → Token → Bool → Collected
+by_sign behind at t semicolon = preceded (record { from = at; token = t }) (cond semicolon (nothing_more t.end None) (behind t.end))
+
+preceded_last : (text : List ℕ) (p : Piece) (ps : List Piece) → semicolon (lexeme_of text p) ≡ false → only_last semicolon (lexemes text ps) ≡ true → only_last semicolon (lexemes text (p ∷ ps)) ≡ true
+preceded_last text p [] none e = refl
+preceded_last text p (q ∷ ps) none e = and_from (not (semicolon (lexeme_of text p))) (only_last semicolon (lexemes text (q ∷ ps))) (ap not none) e
+
+last_within : (n : ℕ) (text : List ℕ) (at : ℕ) → only_last semicolon (lexemes text (collected_within n text at).pieces) ≡ true
+unfolding collected_within is_sign
+last_within zero text at = refl
+last_within (suc n) text at = by (next_token_of text at) (λ end. last_within n text end)
+  where
+    by_kind : (t : Token) → only_last semicolon (lexemes text (collected_within n text t.end).pieces) ≡ true → (b : Bool) → is_sign_kind 59 t.kind ≡ b → only_last semicolon (lexemes text (by_sign (collected_within n text) at t b).pieces) ≡ true
+    by_kind t e true is = refl
+    by_kind t e false is = preceded_last text (record { from = at; token = t }) (collected_within n text t.end).pieces is e
+
+    by : (r : Result (Option Token) LexFault) → ((end : ℕ) → only_last semicolon (lexemes text (collected_within n text end).pieces) ≡ true) → only_last semicolon (lexemes text (collected_by (collected_within n text) at r).pieces) ≡ true
+    by (Err fault) e = refl
+    by (Ok None) e = refl
+    by (Ok (Some t)) e = by_kind t (e t.end) (is_sign_kind 59 t.kind) refl
+
+collected_last : (text : List ℕ) (at : ℕ) → only_last semicolon (lexemes text (collected text at).pieces) ≡ true
+unfolding collected
+collected_last text at = last_within (length text + 1) text at
+
+-- what a statement's tokens begin with is all of them
+takes_all : (text : List ℕ) (at : ℕ) (s : Option Stmt) (front rest : List Lexeme) → lexemes text (collected text at).pieces ≡ front ++ rest → statement.Spells s front → rest ≡ []
+takes_all text at s front rest parts spells =
+    nothing_left semicolon front rest (ap (only_last semicolon) (sym parts) ∙ collected_last text at) (statement_closes s front spells)
 
 -- ---- where collected tokens end
 
 abbrev pub Bounds : List ℕ → ℕ → Collected → Type 0
 Bounds text at c = (at ≤ c.end) × (c.end ≤ length text) × ((start : ℕ) → first_start c.pieces ≡ Some start → at < c.end)
-
-abbrev by_sign : (ℕ → Collected) → ℕ → Token → Bool → Collected
-by_sign behind at t semicolon = preceded (record { from = at; token = t }) (cond semicolon (nothing_more t.end None) (behind t.end))
 
 sign_bounds : (behind : ℕ → Collected) (text : List ℕ) (at : ℕ) (t : Token) → at ≤ t.start → t.start < t.end → t.end ≤ length text → Bounds text t.end (behind t.end) → (b : Bool) → Bounds text at (by_sign behind at t b)
 sign_bounds behind text at t low long high rest true = (omega arith, high, λ start e. omega arith)
@@ -247,35 +286,11 @@ begun_by n text at line e = ap (by_line n text at) e
 pub begun : (n : ℕ) (text : List ℕ) (at : ℕ) (start : Option ℕ) → line_at text at ≡ None → first_start (collected text at).pieces ≡ start → statements_within (suc n) text at ≡ by_start n text at start
 begun n text at start plain e = begun_by n text at None plain ∙ ap (by_start n text at) e
 
-bind_ok : {A B : Type 0} (r : Result A DdlFault) (f : A → Result B DdlFault) (y : B) → (r >>= f) ≡ Ok y → (x : A) × (r ≡ Ok x) × (f x ≡ Ok y)
-bind_ok (Ok x) f y e = (x, refl, e)
-bind_ok (Err s) f y e = absurd cc
-
-bind_err : {A B : Type 0} (r : Result A DdlFault) (f : A → Result B DdlFault) (s : DdlFault) → (r >>= f) ≡ Err s → (r ≡ Err s) ⊎ ((x : A) × (r ≡ Ok x) × (f x ≡ Err s))
-bind_err (Ok x) f s e = inr (x, refl, e)
-bind_err (Err d) f s e = inl cc
-
 pub spelled_whole : (text : List ℕ) (at : ℕ) (h : Option Stmt) → header text at ≡ Ok h → statement.Spells h (lexemes text (collected text at).pieces)
 spelled_whole text at h e =
     let p = is_spelled (length text) (lexemes text (collected text at).pieces) (collected text at).fault h e in
     let all : lexemes text (collected text at).pieces ≡ p.0 = p.2 ∙ ap (λ (r : List Lexeme). p.0 ++ r) (takes_all text at h p.0 p.1 p.2 p.3) ∙ append-nil p.0 in
     subst (λ (ts : List Lexeme). statement.Spells h ts) (sym all) p.3
-
-a_statement : (text : List ℕ) (at : ℕ) (w : Whole) (start : ℕ) → first_start (collected text at).pieces ≡ Some start → parsed text at ≡ Ok w → IsStatement text at w.stmt start w.end
-a_statement text at w start first e =
-    let b = bind_ok (header text at) (completed text (collected text at).end) w e in
-    record { first = first; header = b.0; spells = spelled_whole text at b.0 b.1; all = b.2 }
-
-no_more_ok : (fault : Option LexFault) (more : List Located) → no_more fault ≡ Ok more → (fault ≡ None) × ([] ≡ more)
-no_more_ok None more e = (refl, cc)
-no_more_ok (Some fault) more e = absurd cc
-
-no_more_err : (fault : Option LexFault) (f : DdlFault) → no_more fault ≡ Err f → (x : LexFault) × (fault ≡ Some x) × (Lex x ≡ f)
-no_more_err None f e = absurd cc
-no_more_err (Some fault) f e = (fault, refl, cc)
-
-ok_is : (a b : List Located) → read_all a ≡ read_all b → a ≡ b
-ok_is a b e = cc
 
 -- a statement ends behind its place
 pub ends_past : (text : List ℕ) (at : ℕ) (s : Option Stmt) (start end : ℕ) → at ≤ length text → IsStatement text at s start end → (at < end) × (end ≤ length text)
@@ -290,128 +305,220 @@ line_past text at start end le e =
     let lies = lies_behind text at (Ok (Some (line_token start end))) le (sym e) in
     (omega (arith, lies.0, lies.1), lies.2)
 
-said_ok : (at : ℕ) (r : Result (Option Stmt) Bool) (s : Option Stmt) → line_said at r ≡ Ok s → r ≡ Ok s
-said_ok at (Ok x) s e = cc e
-said_ok at (Err long) s e = absurd cc
+-- ---- what reading comes to
 
-said_err : (at : ℕ) (r : Result (Option Stmt) Bool) (f : DdlFault) → line_said at r ≡ Err f → (long : Bool) × (r ≡ Err long) × (f ≡ line_fault long at)
-said_err at (Ok x) f e = absurd cc
-said_err at (Err long) f e = (long, refl, sym (let is : line_fault long at ≡ f = cc e in is))
+-- what was told of a text from a place on: it reads as statements, or fails at a fault
+abbrev Told : List ℕ → ℕ → Result (List Located) DdlFault → Type 0
+Told text at (Ok found) = Reads text at found
+Told text at (Err fault) = FailsAt text at fault
 
-abbrev FindsAll : ℕ → Type 0
-FindsAll n = (text : List ℕ) (at : ℕ) → at ≤ length text → length text - at < n → (found : List Located) → statements_within n text at ≡ Ok found → Reads text at found
+-- what stands behind a statement, or a line, goes on with it
+told_on : (text : List ℕ) (at : ℕ) (s : Option Stmt) (start end : ℕ) → IsStatement text at s start end → (r : Result (List Located) DdlFault) → Told text end r → Told text at (r >>= λ more. Ok (listed s start end more))
+told_on text at s start end is (Ok more) others = one_read at s start end more is others
+told_on text at s start end is (Err fault) others = later at s start end fault is others
 
-finds_by : (n : ℕ) → FindsAll n → (text : List ℕ) (at : ℕ) → at ≤ length text → length text - at < suc n → (found : List Located) → (start : Option ℕ) → first_start (collected text at).pieces ≡ start → by_start n text at start ≡ Ok found → Reads text at found
-finds_by n behind text at le enough found None first e =
-    let h = no_more_ok (collected text at).fault found e in
-    subst (Reads text at) h.1 (all_read at first h.0)
-finds_by n behind text at le enough found (Some start) first e =
-    let a = bind_ok (parsed text at) (λ w. statements_within n text w.end >>= λ more. Ok (listed w.stmt start w.end more)) found e in
-    let w = a.0 in
-    let b = bind_ok (statements_within n text w.end) (λ more. Ok (listed w.stmt start w.end more)) found a.2 in
-    let is = a_statement text at w start first a.1 in
-    let past = ends_past text at w.stmt start w.end le is in
-    subst (Reads text at) (ok_is (listed w.stmt start w.end b.0) found b.2)
-    (one_read at w.stmt start w.end b.0 is (behind text w.end past.1 (omega (arith, past.0)) b.0 b.1))
+line_told_on : (text : List ℕ) (at : ℕ) (s : Option Stmt) (start end : ℕ) → IsLine text at s start end → (r : Result (List Located) DdlFault) → Told text end r → Told text at (r >>= λ more. Ok (listed s start end more))
+line_told_on text at s start end is (Ok more) others = line_read at s start end more is others
+line_told_on text at s start end is (Err fault) others = later_line at s start end fault is others
 
-finds_line : (n : ℕ) → FindsAll n → (text : List ℕ) (at : ℕ) → at ≤ length text → length text - at < suc n → (found : List Located) → (line : Option Token) → line_at text at ≡ line → by_line n text at line ≡ Ok found → Reads text at found
-finds_line n behind text at le enough found None plain e = finds_by n behind text at le enough found (first_start (collected text at).pieces) refl e
-finds_line n behind text at le enough found (Some t) line e =
-    let next = a_line text at t line in
-    let a = bind_ok (line_said t.start (meta_line (spelling text t))) (λ s. statements_within n text t.end >>= λ more. Ok (listed s t.start t.end more)) found e in
-    let b = bind_ok (statements_within n text t.end) (λ more. Ok (listed a.0 t.start t.end more)) found a.2 in
-    let past = line_past text at t.start t.end le next in
-    subst (Reads text at) (ok_is (listed a.0 t.start t.end b.0) found b.2)
-    (line_read at a.0 t.start t.end b.0 (record { next = next; says = same_spelling text t ∙ said_ok t.start (meta_line (spelling text t)) a.0 a.1 }) (behind text t.end past.1 (omega (arith, past.0)) b.0 b.1))
+told_within : (n : ℕ) (text : List ℕ) (at : ℕ) → at ≤ length text → length text - at < n → Told text at (statements_within n text at)
+told_within zero text at le enough = absurd (omega arith)
+told_within (suc n) text at le enough = subst (Told text at) (sym (begun_by n text at (line_at text at) refl)) (by_lines (line_at text at) refl (told_within n text))
+  where
+    by_rows : (start : ℕ) (h : Option Stmt) → first_start (collected text at).pieces ≡ Some start → header text at ≡ Ok h → ((end : ℕ) → end ≤ length text → length text - end < n → Told text end (statements_within n text end)) → (r : Result Whole DdlFault) → completed text (collected text at).end h ≡ r
+        → Told text at (r >>= λ w. statements_within n text w.end >>= λ more. Ok (listed w.stmt start w.end more))
+    by_rows start h first is behind (Err fault) e = no_rows at fault (record { header = h; spells = spelled_whole text at h is; none = e })
+    by_rows start h first is behind (Ok w) e =
+        let s : IsStatement text at w.stmt start w.end = record { first = first; header = h; spells = spelled_whole text at h is; all = e } in
+        let past = ends_past text at w.stmt start w.end le s in
+        told_on text at w.stmt start w.end s (statements_within n text w.end) (behind w.end past.1 (omega (arith, past.0)))
 
-finds_all : (n : ℕ) → FindsAll n
-finds_all zero text at le enough found e = absurd (omega arith)
-finds_all (suc n) text at le enough found e = finds_line n (finds_all n) text at le enough found (line_at text at) refl (sym (begun_by n text at (line_at text at) refl) ∙ e)
+    by_header : (start : ℕ) → line_at text at ≡ None → first_start (collected text at).pieces ≡ Some start → ((end : ℕ) → end ≤ length text → length text - end < n → Told text end (statements_within n text end)) → (r : Result (Option Stmt) DdlFault) → header text at ≡ r
+        → Told text at (whole_of text (collected text at).end r >>= λ w. statements_within n text w.end >>= λ more. Ok (listed w.stmt start w.end more))
+    by_header start plain first behind (Err fault) e = stuck at start fault plain first (is_stuck text at fault e)
+    by_header start plain first behind (Ok h) e = by_rows start h first e behind (completed text (collected text at).end h) refl
+
+    by_end : first_start (collected text at).pieces ≡ None → (fault : Option LexFault) → (collected text at).fault ≡ fault → Told text at (no_more fault)
+    by_end first None e = all_read at first e
+    by_end first (Some x) e = no_token at x first e
+
+    by_starts : line_at text at ≡ None → ((end : ℕ) → end ≤ length text → length text - end < n → Told text end (statements_within n text end)) → (start : Option ℕ) → first_start (collected text at).pieces ≡ start → Told text at (by_start n text at start)
+    by_starts plain behind None first = by_end first (collected text at).fault refl
+    by_starts plain behind (Some start) first = by_header start plain first behind (header text at) refl
+
+    by_said : (t : Token) → next_token_of text at ≡ Ok (Some (line_token t.start t.end)) → ((end : ℕ) → end ≤ length text → length text - end < n → Told text end (statements_within n text end)) → (r : Result (Option Stmt) Bool) → meta_line (spelling text t) ≡ r
+        → Told text at (line_said t.start r >>= λ s. statements_within n text t.end >>= λ more. Ok (listed s t.start t.end more))
+    by_said t next behind (Ok s) e =
+        let past = line_past text at t.start t.end le next in
+        line_told_on text at s t.start t.end (record { next = next; says = same_spelling text t ∙ e }) (statements_within n text t.end) (behind t.end past.1 (omega (arith, past.0)))
+    by_said t next behind (Err long) e = bad_line at (line_fault long t.start) (record { start = t.start; end = t.end; next = next; long = long; none = same_spelling text t ∙ e; is = refl })
+
+    by_lines : (line : Option Token) → line_at text at ≡ line → ((end : ℕ) → end ≤ length text → length text - end < n → Told text end (statements_within n text end)) → Told text at (by_line n text at line)
+    by_lines None plain behind = by_starts plain behind (first_start (collected text at).pieces) refl
+    by_lines (Some t) line behind = by_said t (a_line text at t line) behind (meta_line (spelling text t)) refl
+
+-- ---- and back
 
 pub some_fuel : (n k : ℕ) → k < n → (m : ℕ) × (n ≡ suc m)
 some_fuel zero k lt = absurd (omega arith)
 some_fuel (suc n) k lt = (n, refl)
+
+-- behind a statement, or a line, reading goes on
+record Step (text : List ℕ) (at n : ℕ) (s : Option Stmt) (start end : ℕ) : Type 0 where
+  fuel : ℕ
+  low : end ≤ length text
+  enough : length text - end < fuel
+  same : statements_within n text at ≡ (statements_within fuel text end >>= λ more. Ok (listed s start end more))
+
+abbrev with_others : ℕ → List ℕ → ℕ → Result Whole DdlFault → Result (List Located) DdlFault
+with_others n text start r = r >>= λ w. statements_within n text w.end >>= λ more. Ok (listed w.stmt start w.end more)
+
+header_is : (text : List ℕ) (at : ℕ) (s : Option Stmt) → statement.Spells s (lexemes text (collected text at).pieces) → header text at ≡ Ok s
+header_is text at s spells = let ts = lexemes text (collected text at).pieces in is_read (length text) ts (collected text at).fault s ts [] (sym (append-nil ts)) spells
+
+statement_step : (text : List ℕ) (at n : ℕ) (s : Option Stmt) (start end : ℕ) → at ≤ length text → length text - at < n → IsStatement text at s start end → Step text at n s start end
+statement_step text at n s start end le enough is =
+    let k = some_fuel n (length text - at) enough in
+    let past = ends_past text at s start end le is in
+    let plain = no_line_of text at is.header is.spells (line_at text at) refl in
+    let read : parsed text at ≡ Ok (whole s end) = ap (whole_of text (collected text at).end) (header_is text at is.header is.spells) ∙ is.all in
+    record { fuel = k.0; low = past.1; enough = omega (arith, past.0, k.1); same = ap (λ m. statements_within m text at) k.1 ∙ begun k.0 text at (Some start) plain is.first ∙ ap (with_others k.0 text start) read }
+
+line_step : (text : List ℕ) (at n : ℕ) (s : Option Stmt) (start end : ℕ) → at ≤ length text → length text - at < n → IsLine text at s start end → Step text at n s start end
+line_step text at n s start end le enough is =
+    let k = some_fuel n (length text - at) enough in
+    let past = line_past text at start end le is.next in
+    let says = ap (λ (r : Result (Option Stmt) Bool). line_said start r >>= λ s. statements_within k.0 text end >>= λ more. Ok (listed s start end more)) is.says in
+    record { fuel = k.0; low = past.1; enough = omega (arith, past.0, k.1); same = ap (λ m. statements_within m text at) k.1 ∙ begun_by k.0 text at (Some (line_token start end)) (line_next text at start end is.next) ∙ says }
+
+abbrev going_on : Option Stmt → ℕ → ℕ → Result (List Located) DdlFault → Result (List Located) DdlFault
+going_on s start end r = r >>= λ more. Ok (listed s start end more)
 
 reads_only : (text : List ℕ) (at : ℕ) (found : List Located) → Reads text at found → at ≤ length text → (n : ℕ) → length text - at < n → statements_within n text at ≡ Ok found
 reads_only text _ _ (all_read at first none) le n enough =
     let k = some_fuel n (length text - at) enough in
     ap (λ m. statements_within m text at) k.1 ∙ begun k.0 text at None (no_line_left text at first) first ∙ ap no_more none
 reads_only text _ _ (one_read at s start end more is others) le n enough =
-    let k = some_fuel n (length text - at) enough in
-    let c = collected text at in
-    let past = ends_past text at s start end le is in
-    let plain = no_line_of text at is.header is.spells (line_at text at) refl in
-    let rest : statements_within k.0 text end ≡ Ok more = reads_only text end more others past.1 k.0 (omega (arith, past.0, k.1)) in
-    let read : parsed text at ≡ Ok (whole s end) = ap (whole_of text c.end) (is_read (length text) (lexemes text c.pieces) c.fault is.header (lexemes text c.pieces) [] (sym (append-nil (lexemes text c.pieces))) is.spells) ∙ is.all in
-    ap (λ m. statements_within m text at) k.1 ∙ begun k.0 text at (Some start) plain is.first
-    ∙ ap (λ (r : Result Whole DdlFault). r >>= λ w. statements_within k.0 text w.end >>= λ more. Ok (listed w.stmt start w.end more)) read
-    ∙ ap (λ (r : Result (List Located) DdlFault). r >>= λ more. Ok (listed s start end more)) rest
+    let k = statement_step text at n s start end le enough is in
+    k.same ∙ ap (going_on s start end) (reads_only text end more others k.low k.fuel k.enough)
 reads_only text _ _ (line_read at s start end more is others) le n enough =
+    let k = line_step text at n s start end le enough is in
+    k.same ∙ ap (going_on s start end) (reads_only text end more others k.low k.fuel k.enough)
+
+-- ---- where tokens stop
+
+-- no token that stands next can be gone on with
+abbrev Ends : (List Lexeme → Type 0) → List Lexeme → List Lexeme → Type 0
+Ends S front rest = (t : Lexeme) (behind : List Lexeme) → rest ≡ t ∷ behind → (more : List Lexeme) → S (front ++ t ∷ more) → ⊥
+
+abbrev behind_first : List Lexeme → List Lexeme
+behind_first [] = []
+behind_first (t ∷ ts) = ts
+
+abbrev first_or : Lexeme → List Lexeme → Lexeme
+first_or u [] = u
+first_or u (t ∷ ts) = t
+
+-- tokens stop at one place: the fronts that can be finished and not gone on with leave the same
+same_rest : (S : List Lexeme → Type 0) (a b r q m n : List Lexeme) → a ++ r ≡ b ++ q → Ends S a r → Ends S b q → S (a ++ m) → S (b ++ n) → r ≡ q
+same_rest S [] [] r q m n e ends ends' one other = e
+same_rest S [] (x ∷ b) r q m n e ends ends' one other = absurd (ends x (b ++ q) e (b ++ n) other)
+same_rest S (x ∷ a) [] r q m n e ends ends' one other = absurd (ends' x (a ++ r) (sym e) (a ++ m) one)
+same_rest S (x ∷ a) (y ∷ b) r q m n e ends ends' one other =
+    let first : y ≡ x = sym (ap (first_or x) e) in
+    same_rest (λ ts. S (x ∷ ts)) a b r q m n (ap behind_first e) ends (λ t behind is more s. ends' t behind is more (subst (λ z. S (z ∷ (b ++ t ∷ more))) (sym first) s)) one (subst (λ z. S (z ∷ (b ++ n))) first other)
+
+place_by : (limit : ℕ) (fault : Option LexFault) (long long' : Bool) (at : Option ℕ) → fault_place (fault_by limit fault long at) ≡ fault_place (fault_by limit fault long' at)
+place_by limit fault long long' None = refl
+place_by limit fault true true (Some at) = refl
+place_by limit fault true false (Some at) = refl
+place_by limit fault false true (Some at) = refl
+place_by limit fault false false (Some at) = refl
+
+abbrev Spelled : List Lexeme → Type 0
+Spelled ts = (s : Option Stmt) × statement.Spells s ts
+
+stuck_once : (text : List ℕ) (at : ℕ) (f g : DdlFault) → IsStuck text at f → IsStuck text at g → fault_place f ≡ fault_place g
+stuck_once text at f g h k =
+    let ends : Ends Spelled h.front h.rest = λ t behind is more s. h.none t behind is s.0 more s.1 in
+    let ends' : Ends Spelled k.front k.rest = λ t behind is more s. k.none t behind is s.0 more s.1 in
+    let rest = same_rest Spelled h.front k.front h.rest k.rest h.finished.1 k.finished.1 (sym h.tokens ∙ k.tokens) ends ends' (h.finished.0, h.finished.2) (k.finished.0, k.finished.2) in
+    let limit = length text in
+    let fault = (collected text at).fault in
+    ap fault_place h.place ∙ place_by limit fault h.long k.long (start_of h.rest) ∙ ap (λ (r : List Lexeme). fault_place (fault_by limit fault k.long (start_of r))) rest ∙ sym (ap fault_place k.place)
+
+-- a read fails, at the place of this fault
+abbrev Fails : {A : Type 0} → Result A DdlFault → DdlFault → Type 0
+Fails r fault = (g : DdlFault) × (r ≡ Err g) × (fault_place g ≡ fault_place fault)
+
+not_stuck : (text : List ℕ) (at : ℕ) (fault : DdlFault) (s : Option Stmt) → IsStuck text at fault → statement.Spells s (lexemes text (collected text at).pieces) → ⊥
+not_stuck text at fault s h spells = by h.rest refl
+  where
+    by : (rest : List Lexeme) → h.rest ≡ rest → ⊥
+    by [] is = h.short is s (subst (statement.Spells s) (h.tokens ∙ ap (λ (r : List Lexeme). h.front ++ r) is ∙ append-nil h.front) spells)
+    by (t ∷ behind) is = h.none t behind is s behind (subst (statement.Spells s) (h.tokens ∙ ap (λ (r : List Lexeme). h.front ++ r) is) spells)
+
+header_fails : (text : List ℕ) (at : ℕ) (fault : DdlFault) → IsStuck text at fault → Fails (header text at) fault
+header_fails text at fault h = by (header text at) refl
+  where
+    by : (r : Result (Option Stmt) DdlFault) → header text at ≡ r → Fails r fault
+    by (Ok s) e = absurd (not_stuck text at fault s h (spelled_whole text at s e))
+    by (Err g) e = (g, refl, stuck_once text at g fault (is_stuck text at g e) h)
+
+-- ---- a statement has a token
+
+reads_nothing : statement.read [] ≡ Err (record { long = false; rest = [] })
+unfolding statement command
+reads_nothing = refl
+
+some_first : (text : List ℕ) (s : Option Stmt) (ps : List Piece) → statement.Spells s (lexemes text ps) → (start : ℕ) × (first_start ps ≡ Some start)
+some_first text s [] spells = absurd (not_both (statement.read []) s (record { long = false; rest = [] }) (read_whole s [] spells) reads_nothing)
+some_first text s (p ∷ ps) spells = (p.token.start, refl)
+
+fails_only : (text : List ℕ) (at : ℕ) (fault : DdlFault) → FailsAt text at fault → at ≤ length text → (n : ℕ) → length text - at < n → Fails (statements_within n text at) fault
+fails_only text _ _ (no_token at fault first is) le n enough =
     let k = some_fuel n (length text - at) enough in
-    let t = line_token start end in
-    let past = line_past text at start end le is.next in
-    let rest : statements_within k.0 text end ≡ Ok more = reads_only text end more others past.1 k.0 (omega (arith, past.0, k.1)) in
-    ap (λ m. statements_within m text at) k.1 ∙ begun_by k.0 text at (Some t) (line_next text at start end is.next)
-    ∙ ap (λ (r : Result (Option Stmt) Bool). line_said start r >>= λ s. statements_within k.0 text end >>= λ more. Ok (listed s start end more)) is.says
-    ∙ ap (λ (r : Result (List Located) DdlFault). r >>= λ more. Ok (listed s start end more)) rest
-
-abbrev FailsAll : ℕ → Type 0
-FailsAll n = (text : List ℕ) (at : ℕ) → at ≤ length text → length text - at < n → (fault : DdlFault) → statements_within n text at ≡ Err fault → FailsAt text at fault
-
-fails_by : (n : ℕ) → FailsAll n → (text : List ℕ) (at : ℕ) → at ≤ length text → length text - at < suc n → (fault : DdlFault) → line_at text at ≡ None → (start : Option ℕ) → first_start (collected text at).pieces ≡ start → by_start n text at start ≡ Err fault → FailsAt text at fault
-fails_by n behind text at le enough fault plain None first e =
-    let h = no_more_err (collected text at).fault fault e in
-    subst (FailsAt text at) h.2 (no_token at h.0 first h.1)
-fails_by n behind text at le enough fault plain (Some start) first e = by_statement (bind_err (parsed text at) (λ w. statements_within n text w.end >>= λ more. Ok (listed w.stmt start w.end more)) fault e)
-  where
-    by_others : (w : Whole) → parsed text at ≡ Ok w → (statements_within n text w.end ≡ Err fault) ⊎ ((more : List Located) × (statements_within n text w.end ≡ Ok more) × (read_all (listed w.stmt start w.end more) ≡ Err fault)) → FailsAt text at fault
-    by_others w is (inl f) =
-        let s = a_statement text at w start first is in
-        let past = ends_past text at w.stmt start w.end le s in
-        later at w.stmt start w.end fault s (behind text w.end past.1 (omega (arith, past.0)) fault f)
-    by_others w is (inr f) = absurd (cc f.2)
-
-    by_rows : (header text at ≡ Err fault) ⊎ ((h : Option Stmt) × (header text at ≡ Ok h) × (completed text (collected text at).end h ≡ Err fault)) → FailsAt text at fault
-    by_rows (inl f) = stuck at start fault plain first (is_stuck text at fault f)
-    by_rows (inr f) = no_rows at fault (record { header = f.0; spells = spelled_whole text at f.0 f.1; none = f.2 })
-
-    by_statement : (parsed text at ≡ Err fault) ⊎ ((w : Whole) × (parsed text at ≡ Ok w) × ((statements_within n text w.end >>= λ more. Ok (listed w.stmt start w.end more)) ≡ Err fault)) → FailsAt text at fault
-    by_statement (inl f) = by_rows (bind_err (header text at) (completed text (collected text at).end) fault f)
-    by_statement (inr f) = by_others f.0 f.1 (bind_err (statements_within n text f.0.end) (λ more. Ok (listed f.0.stmt start f.0.end more)) fault f.2)
-
-fails_line : (n : ℕ) → FailsAll n → (text : List ℕ) (at : ℕ) → at ≤ length text → length text - at < suc n → (fault : DdlFault) → (line : Option Token) → line_at text at ≡ line → by_line n text at line ≡ Err fault → FailsAt text at fault
-fails_line n behind text at le enough fault None plain e = fails_by n behind text at le enough fault plain (first_start (collected text at).pieces) refl e
-fails_line n behind text at le enough fault (Some t) line e = by_said (bind_err (line_said t.start (meta_line (spelling text t))) (λ s. statements_within n text t.end >>= λ more. Ok (listed s t.start t.end more)) fault e)
-  where
-    next : next_token_of text at ≡ Ok (Some (line_token t.start t.end))
-    next = a_line text at t line
-
-    by_others : (s : Option Stmt) → line_said t.start (meta_line (spelling text t)) ≡ Ok s → (statements_within n text t.end ≡ Err fault) ⊎ ((more : List Located) × (statements_within n text t.end ≡ Ok more) × (read_all (listed s t.start t.end more) ≡ Err fault)) → FailsAt text at fault
-    by_others s is (inl f) =
-        let past = line_past text at t.start t.end le next in
-        later_line at s t.start t.end fault (record { next = next; says = same_spelling text t ∙ said_ok t.start (meta_line (spelling text t)) s is }) (behind text t.end past.1 (omega (arith, past.0)) fault f)
-    by_others s is (inr f) = absurd (cc f.2)
-
-    by_said : (line_said t.start (meta_line (spelling text t)) ≡ Err fault) ⊎ ((s : Option Stmt) × (line_said t.start (meta_line (spelling text t)) ≡ Ok s) × ((statements_within n text t.end >>= λ more. Ok (listed s t.start t.end more)) ≡ Err fault)) → FailsAt text at fault
-    by_said (inl f) =
-        let h = said_err t.start (meta_line (spelling text t)) fault f in
-        bad_line at fault (record { start = t.start; end = t.end; next = next; long = h.0; none = same_spelling text t ∙ h.1; is = h.2 })
-    by_said (inr f) = by_others f.0 f.1 (bind_err (statements_within n text t.end) (λ more. Ok (listed f.0 t.start t.end more)) fault f.2)
-
-fails_all : (n : ℕ) → FailsAll n
-fails_all zero text at le enough fault e = absurd (omega arith)
-fails_all (suc n) text at le enough fault e = fails_line n (fails_all n) text at le enough fault (line_at text at) refl (sym (begun_by n text at (line_at text at) refl) ∙ e)
+    (Lex fault, ap (λ m. statements_within m text at) k.1 ∙ begun k.0 text at None (no_line_left text at first) first ∙ ap no_more is, refl)
+fails_only text _ _ (stuck at start fault plain first h) le n enough =
+    let k = some_fuel n (length text - at) enough in
+    let f = header_fails text at fault h in
+    let end = (collected text at).end in
+    (f.0, ap (λ m. statements_within m text at) k.1 ∙ begun k.0 text at (Some start) plain first ∙ ap (λ r. with_others k.0 text start (whole_of text end r)) f.1, f.2)
+fails_only text _ _ (no_rows at fault h) le n enough =
+    let k = some_fuel n (length text - at) enough in
+    let end = (collected text at).end in
+    let plain = no_line_of text at h.header h.spells (line_at text at) refl in
+    let first = some_first text h.header (collected text at).pieces h.spells in
+    let read : parsed text at ≡ Err fault = ap (whole_of text end) (header_is text at h.header h.spells) ∙ h.none in
+    (fault, ap (λ m. statements_within m text at) k.1 ∙ begun k.0 text at (Some first.0) plain first.1 ∙ ap (with_others k.0 text first.0) read, refl)
+fails_only text _ _ (bad_line at fault h) le n enough =
+    let k = some_fuel n (length text - at) enough in
+    let t = line_token h.start h.end in
+    let said = ap (λ (r : Result (Option Stmt) Bool). line_said h.start r >>= λ s. statements_within k.0 text h.end >>= λ more. Ok (listed s h.start h.end more)) h.none in
+    (line_fault h.long h.start, ap (λ m. statements_within m text at) k.1 ∙ begun_by k.0 text at (Some t) (line_next text at h.start h.end h.next) ∙ said, sym (ap fault_place h.is))
+fails_only text _ _ (later at s start end fault is others) le n enough =
+    let k = statement_step text at n s start end le enough is in
+    let rest = fails_only text end fault others k.low k.fuel k.enough in
+    (rest.0, k.same ∙ ap (going_on s start end) rest.1, rest.2)
+fails_only text _ _ (later_line at s start end fault is others) le n enough =
+    let k = line_step text at n s start end le enough is in
+    let rest = fails_only text end fault others k.low k.fuel k.enough in
+    (rest.0, k.same ∙ ap (going_on s start end) rest.1, rest.2)
 
 -- ---- whole texts
 
 pub found : (text : List ℕ) (statements : List Located) → statements_of text ≡ Ok statements → Reads text 0 statements
 unfolding statements_of
-found text statements e = finds_all (length text + 1) text 0 (omega arith) (omega arith) statements e
+found text statements e = subst (Told text 0) e (told_within (length text + 1) text 0 (omega arith) (omega arith))
+
+pub fails : (text : List ℕ) (fault : DdlFault) → statements_of text ≡ Err fault → FailsAt text 0 fault
+unfolding statements_of
+fails text fault e = subst (Told text 0) e (told_within (length text + 1) text 0 (omega arith) (omega arith))
 
 pub only : (text : List ℕ) (statements : List Located) → Reads text 0 statements → statements_of text ≡ Ok statements
 unfolding statements_of
 only text statements reads = reads_only text 0 statements reads (omega arith) (length text + 1) (omega arith)
 
-pub fails : (text : List ℕ) (fault : DdlFault) → statements_of text ≡ Err fault → FailsAt text 0 fault
+pub one_place : (text : List ℕ) (fault : DdlFault) → FailsAt text 0 fault → (found : DdlFault) × (statements_of text ≡ Err found) × (fault_place found ≡ fault_place fault)
 unfolding statements_of
-fails text fault e = fails_all (length text + 1) text 0 (omega arith) (omega arith) fault e
+one_place text fault f = fails_only text 0 fault f (omega arith) (length text + 1) (omega arith)

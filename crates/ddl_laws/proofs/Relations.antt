@@ -1,13 +1,30 @@
--- Owners, checks and changes of domains and sequences, settings and calls, views, indexes and COPY: each part of their
--- grammar with the text that it is written in.
-use Rattle.std.proofs.Common.{◌≡◌, ℕ, Bool, true, false, cond, List, [], ◌∷◌, ◌++◌, append_assoc, append-nil, refl, sym, ap, subst, ◌∙◌, inl, inr, codes}
-use Rattle.std.specs.List.{AllByRecursion}
+-- Owners, checks and changes of domains and sequences, settings and calls, views, indexes, COPY and ALTER TABLE: each part
+-- of their grammar with the text that it is written in.
+use Rattle.std.proofs.Common.{◌≡◌, ℕ, Bool, false, List, [], ◌∷◌, ◌++◌, append_assoc, append-nil, None, refl, ap, ◌∙◌, ◌⊎◌, inl, inr, codes, true, cond, sym, subst, Result, Ok, Err}
+use Rattle.std.specs.List.{flat_map, AllByRecursion}
+use Rattle.std.specs.Str.{is_utf8, chars}
+use Rattle.std.proofs.Math.Utf8.{encode}
+use Rattle.sql_lex.specs.declared.token.TokenKind.TheVariants.{Sign, MetaLine, Word}
+use Rattle.sql_lex.specs.Meaning.{is_keyword_of, name_of}
 use Rattle.sql_lex.specs.Written.{written_name}
 use Rattle.copy_text.specs.Texts.{IsName}
+use Rattle.ddl_parts.specs.Lexemes.{Lexeme, source, never, is_sign, is_word, spelled, starts, is_sign_kind}
+use Rattle.ddl_parts.specs.Leaves.{name, name_value, name_in}
+use Rattle.ddl_parts.specs.Parts.{nothing, seen, choose, runs_of, ◌then◌, ◌▸◌, ◌◂◌}
+use Rattle.ddl_write.specs.Keys.{rest_text}
+use Rattle.ddl_write.specs.Paths.{listed, joined, path}
+use Rattle.ddl_read.specs.Columns.{further, names_of, columns}
+use Rattle.ddl_read.specs.declared.rests.RestSpot.{RestSpot}
+use Rattle.ddl_read.specs.declared.rests.RestSpot.TheVariants.{Begin, Foreign}
+use Rattle.ddl_read.specs.Rests.{rest_step, rest_done, resting, key_rest, foreign_rest}
+use Rattle.ddl_forms.proofs.Behind.{Words, Safe, admits}
+use Rattle.ddl_forms.proofs.Putting.{joined-append, Follows, IsPut, Yields}
+use Rattle.ddl_forms.proofs.RunTexts.{plain_by, kinds, run_read}
+use Rattle.ddl_forms.proofs.Tokens.{Gap, none, space, newline, spaced, indented, no_key, value_name}
+use Rattle.ddl_forms.proofs.Written.{Written, opening_as, closing_as, comma_as, name_as, then_as, lead_as, close_as, like_as, shown_as, pieces_as, choose_as, nothing_as, alike_as, either_pieces, run_as, Kinds, leaf_as, is_key, dot_as, equals_as, word_as, mark_as, literal_as, path_as, word_then, end_as, seen_as, heard_as, run_put, kind_as, is_bare_word, word_said, name_said, is_as, path_same, led_as, or_as}
+use Rattle.ddl_laws.specs.Respelling.{IsRunText, IsRest, AreColumns, IsCheck, IsWritable}
 use Rattle.copy_text.specs.Lines.{before_end_mark}
 use Rattle.copy_text.proofs.LineLemmas.{lines_nil}
-use Rattle.cat_model.specs.declared.stmt.Stmt.TheVariants as stmt
-use Rattle.ddl_parts.specs.Lexemes.{Lexeme, spelled, source, starts, is_sign, is_sign_kind}
 use Rattle.ddl_parts.specs.Expressions.{expression, nested}
 use Rattle.ddl_parts.specs.Pieces.{lexemes}
 use Rattle.ddl_parts.specs.Collecting.{collected}
@@ -19,17 +36,101 @@ use Rattle.ddl_read.specs.CopyGrammar.{some_columns, copy_from}
 use Rattle.ddl_read.specs.Grammar.{new_check, its_owner, one_more_check, domain_changed, domain_change, altered_domain, set_config, equals_or_to, setting}
 use Rattle.ddl_read.specs.RelationGrammar.{owned_by, its_role, its_column, sequence_changed, sequence_change, altered_sequence, view_and_body, bracketed, index_parts}
 use Rattle.ddl_read.specs.ValueGrammar.{truth, value_of_sequence, set_value}
-use Rattle.ddl_forms.specs.Texts.{IsExpressionText, IsBracketText}
-use Rattle.ddl_forms.proofs.Behind.{Safe, admits}
-use Rattle.ddl_forms.proofs.Expressions.{nested_plain, expression_as}
+use Rattle.ddl_forms.specs.Texts.{IsExpressionText, IsBracketText, IsPath, IsDefaultText}
+use Rattle.ddl_forms.proofs.Expressions.{nested_plain, expression_as, default_as}
 use Rattle.ddl_forms.proofs.Numbers.{number_as}
-use Rattle.ddl_forms.proofs.Putting.{Follows, IsPut, Yields}
-use Rattle.ddl_forms.proofs.RunTexts.{kinds, run_read}
-use Rattle.ddl_forms.proofs.Tokens.{Gap, none, space, newline, spaced, indented}
-use Rattle.ddl_forms.proofs.Written.{Written, Kinds, leaf_as, is_key, opening_as, closing_as, comma_as, dot_as, equals_as, word_as, mark_as, name_as, literal_as, path_as, then_as, lead_as, close_as, word_then, end_as, seen_as, shown_as, pieces_as, choose_as, heard_as, nothing_as, run_put, kind_as}
-use Rattle.ddl_laws.specs.Respelling.{AreColumns, IsCheck, IsWritable}
 use Rattle.ddl_laws.proofs.Paths.{literal_path_as}
-use Rattle.ddl_laws.proofs.Columns.{columns_as}
+use Rattle.sql_lex.specs.declared.token.TokenKind.{TokenKind}
+use Rattle.sql_lex.specs.Reserved.{is_reserved}
+use Rattle.sql_lex.specs.ReadBack.{written_kind}
+use Rattle.cat_model.specs.declared.object.QName.{QName}
+use Rattle.ddl_read.specs.declared.alters.Constraint.{Constraint}
+use Rattle.ddl_read.specs.declared.alters.Constraint.TheVariants.{Check, Primary, Unique, Foreign as ForeignKey}
+use Rattle.ddl_read.specs.declared.alters.TableChange.{TableChange}
+use Rattle.ddl_read.specs.declared.alters.TableChange.TheVariants.{Owner, Default, Added}
+use Rattle.ddl_read.specs.AlterGrammar.{check_body, primary_of, primary_body, unique_of, unique_body, foreign_of, foreign_body, constraint_body, added_of, added, default_of, new_default, own_change, table_change, table_changed, only_value, only_name, other_value, path_of, other_path, BehindOnly, in_schema, key_word, behind_only, only_changed, altered_table}
+use Rattle.ddl_laws.proofs.GrammarLaws.{only_is, other_is}
+use Rattle.cat_model.specs.declared.stmt.Stmt.TheVariants as stmt
+
+-- ---- columns
+
+abbrev pub further_as : Written further
+further_as = alike_as (λ s. lead_as comma_as (name_as space) refl) IsName (λ s n is. is) (λ s n is. is) Words (λ s. refl)
+
+abbrev pub first_and_more : (ns : List (List ℕ)) → AreColumns ns → (y : List ℕ × List (List ℕ)) × (IsName y.0 × AllByRecursion IsName y.1) × (names_of y ≡ ns)
+first_and_more [] is = absurd is
+first_and_more (n ∷ ns) is = ((n, ns), is, refl)
+
+abbrev pub in_brackets_as : {g : List ℕ} → Gap g → Written (is_sign 40 ▸ (seen names_of (name then further) ◂ is_sign 41))
+in_brackets_as gap =
+    lead_as (opening_as gap) (close_as (shown_as names_of (then_as (name_as none) further_as refl) AreColumns first_and_more (λ x is. is)) (closing_as none) refl) refl
+
+abbrev pub in_line : List ℕ → List ℕ
+in_line n = codes ", " ++ written_name n
+
+pub more_is : (ns : List (List ℕ)) (all : AllByRecursion IsName ns) → joined (further_as.pieces ns all) ≡ flat_map in_line ns
+more_is [] all = refl
+more_is (n ∷ ns) all = ap (λ (x : List ℕ). in_line n ++ x) (more_is ns all.1)
+
+pub columns_regrouped : (g o n w c : List ℕ) → (g ++ o) ++ (n ++ (w ++ c)) ≡ g ++ ((((o ++ n) ++ w) ++ c) ++ [])
+columns_regrouped g o n w c = simp (append_assoc, append-nil)
+
+pub listed_is : {g : List ℕ} (gap : Gap g) (ns : List (List ℕ)) (is : AreColumns ns) → joined ((in_brackets_as gap).pieces ns is) ≡ g ++ (listed ns ++ [])
+unfolding listed
+listed_is {g} gap [] is = absurd is
+listed_is {g} gap (n ∷ ns) is =
+    ap (λ (x : List ℕ). (g ++ 40 ∷ []) ++ (written_name n ++ x)) (joined-append (further_as.pieces ns is.1) ((41 ∷ []) ∷ []) ∙ ap (λ (x : List ℕ). x ++ 41 ∷ []) (more_is ns is.1))
+    ∙ columns_regrouped g (40 ∷ []) (written_name n) (flat_map in_line ns) (41 ∷ [])
+
+unfoldable pub columns_as : {g : List ℕ} → Gap g → Written columns
+unfolding columns
+columns_as {g} gap = pieces_as (in_brackets_as gap) (λ ns is. g ∷ listed ns ∷ []) (listed_is gap)
+
+-- ---- what follows them
+
+pub same_rest_step : (s : RestSpot) (gap : List ℕ) (start : ℕ) (t : Lexeme) → rest_step s (record { gap = gap; kind = t.kind; word = t.word; start = start }) ≡ rest_step s t
+unfolding rest_step is_word is_sign name_value
+same_rest_step Begin gap start t = refl
+same_rest_step x gap start t = refl
+
+pub semicolon_none : (s : RestSpot) (word : List ℕ) → rest_step s (record { gap = []; kind = Sign 59; word = word; start = 0 }) ≡ None
+unfolding rest_step is_word is_sign is_keyword_of name_value name_in name_of
+semicolon_none Begin word = refl
+semicolon_none x word = refl
+
+pub line_none : (s : RestSpot) (word : List ℕ) → rest_step s (record { gap = []; kind = MetaLine; word = word; start = 0 }) ≡ None
+unfolding rest_step is_word is_sign is_keyword_of name_value name_in name_of
+line_none Begin word = refl
+line_none x word = refl
+
+pub begins : (rest_done Begin ≡ false) × (rest_done Foreign ≡ false)
+unfolding rest_done
+begins = (refl, refl)
+
+abbrev pub rest_to : (s : RestSpot) → (v : List ℕ) → IsRest s v → IsRunText (resting s) v ⊎ (v ≡ [])
+rest_to s [] is = inr refl
+rest_to s (b ∷ v) is = inl is
+
+pub rest_from : (s : RestSpot) (v : List ℕ) → IsRunText (resting s) v ⊎ (v ≡ []) → IsRest s v
+rest_from s [] h = tt
+rest_from s (b ∷ v) (inl is) = is
+rest_from s (b ∷ v) (inr e) = absurd cc
+
+pub rest_same : (s : RestSpot) (start : rest_done s ≡ false) (v : List ℕ) (is : IsRest s v) → joined (either_pieces (run_as (plain_by (resting s) same_rest_step semicolon_none line_none start) space) (nothing_as {test = never} []) v (rest_to s v is)) ≡ joined (rest_text v ∷ [])
+rest_same s start [] is = refl
+rest_same s start (b ∷ v) is = refl
+
+-- a run's text behind a space, or nothing
+abbrev pub rest_as : {test : Lexeme → Bool} → (s : RestSpot) → rest_done s ≡ false → Written (choose test (seen source (runs_of (resting s))) (nothing test []))
+rest_as s start = pieces_as (like_as (choose_as (run_as (plain_by (resting s) same_rest_step semicolon_none line_none start) space) (nothing_as [])) (IsRest s) (rest_to s) (rest_from s)) (λ v is. rest_text v ∷ []) (rest_same s start)
+
+unfoldable pub key_rest_as : Written key_rest
+unfolding key_rest
+key_rest_as = rest_as Begin begins.0
+
+unfoldable pub foreign_rest_as : Written foreign_rest
+unfolding foreign_rest
+foreign_rest_as = rest_as Foreign begins.1
 
 -- ---- owners and checks
 
@@ -152,3 +253,104 @@ copy_from_as =
     let stdin = close_as (close_as columns (word_as space (codes "FROM") refl) refl) (word_as space (codes "stdin") refl) refl in
     kind_as (λ x. stmt.CopyRows x.0 x.1 []) (then_as (path_as space) (end_as stdin refl) refl)
     (λ x h. (h.0, elim h.1 [ inl is ↦ are_names x.1 is | inr e ↦ subst (AllByRecursion IsName) (sym e) tt ], no_rows))
+
+-- ---- constraints
+
+abbrev pub IsConstraint : Constraint → Type 0
+IsConstraint (Check v) = IsExpressionText v
+IsConstraint (Primary ns rest) = AreColumns ns × IsRest Begin rest
+IsConstraint (Unique ns rest) = AreColumns ns × IsRest Begin rest
+IsConstraint (ForeignKey ns parent theirs rest) = AreColumns ns × (IsPath parent × (AreColumns theirs × IsRest Foreign rest))
+
+unfoldable pub constraint_body_as : Kinds IsConstraint constraint_body
+unfolding constraint_body check_body primary_body unique_body foreign_body is_key expression_as columns_as key_rest_as foreign_rest_as
+constraint_body_as =
+    let check = led_as (word_as space (codes "CHECK") refl) (kind_as Check (lead_as (opening_as space) (close_as (expression_as none) (closing_as none) refl) refl) (λ v is. is)) refl in
+    let primary = led_as (word_as space (codes "PRIMARY") refl) (kind_as primary_of (word_then (codes "KEY") refl (then_as (columns_as space) key_rest_as refl) refl) (λ v is. is)) refl in
+    let unique = led_as (word_as space (codes "UNIQUE") refl) (kind_as unique_of (then_as (columns_as space) key_rest_as refl) (λ v is. is)) refl in
+    let parents = word_then (codes "REFERENCES") refl (then_as (path_as space) (then_as (columns_as none) foreign_rest_as refl) refl) refl in
+    let foreign = led_as (word_as space (codes "FOREIGN") refl) (kind_as foreign_of (word_then (codes "KEY") refl (then_as (columns_as space) parents refl) refl) (λ v is. is)) refl in
+    or_as check (or_as primary (or_as unique foreign))
+
+-- ---- changes
+
+abbrev pub IsChange : TableChange → Type 0
+IsChange (Owner r) = IsName r
+IsChange (Default n v) = IsName n × IsDefaultText v
+IsChange (Added n c) = IsName n × IsConstraint c
+
+unfoldable pub own_change_as : Kinds IsChange own_change
+unfolding own_change added new_default is_key constraint_body_as default_as
+own_change_as =
+    let constraint : Written (constraint_body) = is_as constraint_body_as.written IsConstraint constraint_body_as.is in
+    let add = kind_as added_of (word_then (codes "CONSTRAINT") refl (then_as (name_as space) (end_as constraint refl) refl) refl) (λ x is. is) in
+    let value = word_then (codes "SET") refl (word_then (codes "DEFAULT") refl (end_as default_as refl) refl) refl in
+    let alter = kind_as default_of (word_then (codes "COLUMN") refl (then_as (name_as space) value refl) refl) (λ x is. is) in
+    or_as (led_as (word_as indented (codes "ADD") refl) add refl) (led_as (word_as space (codes "ALTER") refl) alter refl)
+
+unfoldable pub table_change_as : Kinds IsChange table_change
+unfolding table_change new_owner_as own_change_as
+table_change_as = or_as (kind_as Owner new_owner_as (λ r is. is)) own_change_as
+
+pub change_is : (q : QName) (x : TableChange) → IsPath q → IsChange x → IsWritable (table_changed q x)
+change_is q (Owner r) named is = (named, is)
+change_is q (Default n v) named is = (named, is.0, is.1)
+change_is q (Added n (Check v)) named is = (named, is.0, is.1)
+change_is q (Added n (Primary ns rest)) named is = (named, is.0, is.1.0, is.1.1)
+change_is q (Added n (Unique ns rest)) named is = (named, is.0, is.1.0, is.1.1)
+change_is q (Added n (ForeignKey ns parent theirs rest)) named is = (named, is.0, is.1.0, is.1.1.0, is.1.1.1.0, is.1.1.1.1)
+
+-- ---- the table
+
+abbrev pub name_is : List ℕ → Result (List ℕ) Bool
+name_is n = Ok n
+
+pub only_word : is_bare_word (codes "ONLY") ≡ true
+unfolding is_bare_word
+only_word = refl
+
+-- what a token means by its kind and its word
+abbrev pub only_by : TokenKind → List ℕ → Result (List ℕ) Bool
+only_by k w = cond (is_keyword_of k w (codes "only")) (name_in (name_of k w)) (Err false)
+
+pub only_is_read : only_by Word (codes "ONLY") ≡ Ok (codes "only")
+unfolding is_keyword_of name_in name_of is_utf8 chars encode
+only_is_read = refl
+
+pub only_means : (n : List ℕ) → n ≡ codes "only" → (t : Lexeme) → t.kind ≡ Word → t.word ≡ codes "ONLY" → only_value t ≡ Ok n
+unfolding only_value is_word name_value
+only_means n is t kind word = ap (λ (k : TokenKind). only_by k t.word) kind ∙ ap (only_by Word) word ∙ only_is_read ∙ ap name_is (sym is)
+
+-- the bare word ONLY
+abbrev pub only_name_as : Written only_name
+only_name_as = word_said space (λ n. n ≡ codes "only") IsName (λ n is. codes "ONLY") (λ n is. only_word) only_means (λ t n e. value_name t n (only_is t n e).1)
+
+pub other_means : (n : List ℕ) → IsName n → (t : Lexeme) → t.kind ≡ written_kind n → t.word ≡ written_name n → name_value t ≡ Ok n → other_value t ≡ Ok n
+unfolding other_value is_reserved
+other_means n is t kind word e = ap (λ (b : Bool). cond b (Err false) (name_value t)) (no_key (codes "only") n is.utf8 refl t kind word) ∙ e
+
+unfoldable pub other_path_as : Written other_path
+unfolding other_path
+other_path_as =
+    let other = name_said space IsName IsName (λ n. n) (λ n is. is) other_means (λ t n e. value_name t n (other_is t n e).1) in
+    pieces_as (shown_as path_of (then_as other (lead_as dot_as (name_as none) refl) refl) IsPath (λ q is. ((q.schema, q.name), is, refl)) (λ x is. is)) (λ q is. (32 ∷ []) ∷ path q ∷ []) (λ q is. path_same (32 ∷ []) q)
+
+abbrev pub IsBehind : BehindOnly → Type 0
+IsBehind (in_schema n x) = IsName n × IsChange x
+IsBehind (key_word q x) = IsPath q × IsChange x
+
+unfoldable pub behind_only_as : Kinds IsBehind behind_only
+unfolding behind_only table_change_as own_change_as
+behind_only_as =
+    or_as (kind_as (λ x. in_schema x.0 x.1) (lead_as dot_as (then_as (name_as none) table_change_as.written refl) refl) (λ x is. (is.0, table_change_as.is x.1 is.1)))
+    (kind_as (λ x. key_word x.0 x.1) (then_as (path_as space) own_change_as.written refl) (λ x is. (is.0, own_change_as.is x.1 is.1)))
+
+pub only_changes : (n : List ℕ) (x : BehindOnly) → IsName n → IsBehind x → IsWritable (only_changed n x)
+only_changes n (in_schema m x) is behind = change_is (record { schema = n; name = m }) x (is, behind.0) behind.1
+only_changes n (key_word q x) is behind = change_is q x behind.0 behind.1
+
+unfoldable pub altered_table_as : Kinds IsWritable altered_table
+unfolding altered_table behind_only_as other_path_as table_change_as
+altered_table_as =
+    or_as (kind_as (λ x. only_changed x.0 x.1) (then_as only_name_as behind_only_as.written refl) (λ x is. only_changes x.0 x.1 is.0 (behind_only_as.is x.1 is.1)))
+    (kind_as (λ x. table_changed x.0 x.1) (then_as other_path_as table_change_as.written refl) (λ x is. change_is x.0 x.1 is.0 (table_change_as.is x.1 is.1)))

@@ -1,39 +1,202 @@
--- Written statements, joined, read as the same statements.
-use Rattle.std.proofs.Common.{◌≡◌, ℕ, suc, ◌+◌, ◌<◌, Bool, true, List, [], ◌∷◌, ◌++◌, length, length-append, append_assoc, append-nil, Option, Some, None, Result, Ok, refl, sym, ap, subst, ◌∙◌, arith, inl, inr}
-use Rattle.std.specs.List.{list_all}
-use Rattle.std.specs.Str.{is_utf8, chars}
+-- Written statements, joined, read as the same statements; and what is read of a text can be written.
+use Rattle.std.proofs.lemmas.Bool.{cases_Bool, and_parts, and_from, or_right}
+use Rattle.std.proofs.lemmas.List.{drop_all}
+use Rattle.std.proofs.lemmas.List.Folds.{list_all-append}
+use Rattle.std.proofs.lemmas.Str.{IsUtf8-append, IsUtf8-from_is_utf8, is_utf8-from_IsUtf8}
+use Rattle.std.proofs.Common.{◌≡◌, ℕ, suc, ◌+◌, Bool, true, false, cond, not, ◌&&◌, ◌-◌, List, [], ◌∷◌, ◌++◌, length, length-append, append_assoc, append-nil, Option, Some, None, Result, Ok, Err, refl, sym, ap, subst, ◌∙◌, arith, ◌⊎◌, inl, inr, codes, ◌<◌, ◌≤◌}
+use Rattle.std.specs.Prelude.{◌==◌, slice_index}
+use Rattle.std.specs.List.{list_all, AllByRecursion}
+use Rattle.std.specs.Str.{is_utf8, IsUtf8, chars}
 use Rattle.std.proofs.Math.Utf8.{encode}
-use Rattle.sql_lex.specs.Bytes.{is_blank, in_line, next_is}
+use Rattle.sql_lex.specs.declared.token.Token.{Token}
+use Rattle.sql_lex.specs.declared.fault.LexFault.{LexFault}
 use Rattle.sql_lex.specs.Next.{next_token_of}
+use Rattle.sql_lex.specs.Meaning.{spelling as token_text}
+use Rattle.sql_lex.specs.Spelling.{IsMetaLine, goes_on}
+use Rattle.sql_lex.specs.Reserved.{is_reserved}
+use Rattle.sql_lex.specs.ReadBack.{token_at, written_kind}
 use Rattle.sql_lex.proofs.Passing.{next_at_end}
-use Rattle.sql_lex.proofs.WriteLaws.{gap_is_passed}
-use Rattle.cat_model.specs.declared.stmt.Stmt.{Stmt}
-use Rattle.cat_model.specs.declared.stmt.Stmt.TheVariants as stmt
+use Rattle.sql_lex.proofs.WriteLaws.{name_is_read, spelling_is_read, gap_is_passed}
 use Rattle.ddl_parts.specs.declared.pieces.Piece.{Piece}
-use Rattle.ddl_parts.specs.Lexemes.{Lexeme, spelled, is_sign, start_of}
-use Rattle.ddl_parts.specs.Pieces.{lexemes}
-use Rattle.ddl_parts.specs.Collecting.{Collected, collected, collected_within, collected_by}
+use Rattle.ddl_parts.specs.Lexemes.{is_sign_kind, Lexeme, spelled, is_sign, start_of}
+use Rattle.ddl_parts.specs.Leaves.{name_value}
+use Rattle.ddl_parts.specs.Pieces.{lexeme_of, lexemes}
+use Rattle.ddl_parts.specs.Collecting.{Collected, collected, collected_within, collected_by, nothing_more, preceded}
+use Rattle.ddl_laws.specs.Readings.{IsLine, Reads, all_read, one_read, line_read, line_token}
+use Rattle.ddl_laws.proofs.ReadingLaws.{collected_first, statement_closes, only, found, ends_past, line_past}
+use Rattle.ddl_laws.proofs.Paths.{name_utf8}
+use Rattle.ddl_forms.proofs.Tokens.{Gap, space, Begun, gap_stands, name_begun, name_no_sign, name_means, none, newline, spaced, indented, tabbed, indent}
+use Rattle.copy_text.specs.Texts.{IsName}
+use Rattle.sql_lex.specs.Bytes.{is_blank, is_digit, begins_word, in_word, marks_escapes, in_line, next_is}
+use Rattle.sql_lex.specs.Pieces.{begins_line}
+use Rattle.sql_lex.specs.Written.{is_bare, doubled, quoted, written_name}
+use Rattle.sql_lex.specs.declared.token.TokenKind.TheVariants.{MetaLine}
+use Rattle.ddl_write.specs.Roles.{connect_text}
+use Rattle.ddl_lines.specs.MetaLines.{stands_alone, one_name, name_alone, connected, command_len, said_by, meta_line, IsSaid}
+use Rattle.cat_model.specs.declared.stmt.Stmt.{Stmt}
 use Rattle.ddl_write.specs.Spelling.{spelling}
 use Rattle.ddl_read.specs.declared.located.Located.{Located}
 use Rattle.ddl_read.specs.Grammar.{semicolon, statement}
-use Rattle.ddl_read.specs.Reading.{Whole, whole, with_rows, completed, first_start, listed, statements_of}
+use Rattle.ddl_read.specs.Reading.{Whole, whole, with_rows, completed, first_start, listed, statements_of, listed as listed_before}
 use Rattle.ddl_read.specs.declared.fault.DdlFault.{DdlFault}
 use Rattle.ddl_lines.specs.CopyRows.{AreRows, Copied, rows_behind}
-use Rattle.ddl_lines.proofs.RowTexts.{rows_read_back}
-use Rattle.copy_text.specs.Texts.{IsName}
+use Rattle.ddl_lines.proofs.RowTexts.{rows_read_back, read_are_rows}
 use Rattle.copy_text.specs.Marks.{newline as line_feed, end_mark}
 use Rattle.cat_model.specs.declared.object.QName.{QName}
-use Rattle.ddl_laws.proofs.LineTexts.{IsFresh, connect_line, connect_is, line_stands}
 use Rattle.ddl_forms.proofs.Putting.{nothing_follows, joined-append}
-use Rattle.ddl_laws.proofs.Whole.{command_as, statement_as}
-use Rattle.ddl_laws.proofs.Spelled.{IsSpelled, given, spelled_so, copy_head, copy_is, copy_spelled}
-use Rattle.ddl_laws.specs.Readings.{IsLine, Reads, all_read, one_read, line_read}
-use Rattle.ddl_laws.specs.Respelling.{IsWritable, AllWritable, joined, spellings, said}
+use Rattle.ddl_laws.proofs.Whole.{command_as, statement_as, IsSpelled, given, spelled_so, copy_head, copy_is, copy_spelled}
+use Rattle.ddl_laws.specs.Respelling.{IsWritable, AllWritable, joined, spellings, said, IsPath}
 use Rattle.ddl_forms.proofs.Closing.{ends_with, only_last}
-use Rattle.ddl_laws.proofs.Closed.{statement_closes}
-use Rattle.ddl_laws.proofs.ReadingLaws.{only}
 use Rattle.ddl_forms.proofs.Standing.{Stood, placed, collects}
-use Rattle.ddl_forms.proofs.Tokens.{Gap, none, space, newline, spaced, indented, tabbed, indent}
+use Rattle.ddl_read.specs.Columns.{columns}
+use Rattle.ddl_lines.proofs.LineNames.{said_is_a_name}
+use Rattle.ddl_forms.proofs.Kept.{AllCame, have_come, came_token}
+use Rattle.cat_model.specs.declared.stmt.Stmt.TheVariants as stmt
+
+-- the line without its line feed
+abbrev pub connect_line : List ℕ → List ℕ
+connect_line n = codes "\\connect " ++ written_name n
+
+pub connect_is : (n : List ℕ) → connect_text n ≡ connect_line n ++ 10 ∷ []
+unfolding connect_text
+connect_is n = ap (λ (x : List ℕ). codes "\\connect " ++ x) refl
+
+-- ---- the name behind the command
+
+abbrev behind_space : List ℕ → List ℕ
+behind_space n = 32 ∷ written_name n
+
+abbrev name_at : List ℕ → Token
+name_at n = token_at (written_kind n) 1 (written_name n)
+
+in_10 : in_word 10 ≡ false
+unfolding in_word begins_word is_digit
+in_10 = refl
+
+-- a written name ends where its text does
+ends_alone : (n : List ℕ) → goes_on (written_kind n) (written_name n) [] ≡ false
+unfolding written_kind goes_on next_is
+ends_alone n = elim (cases_Bool (is_bare n && not (is_reserved n))) [ inl is ↦ rw is (and_false (length (written_name n) == 1 && next_is marks_escapes (written_name n))) | inr isnt ↦ rw isnt refl ]
+  where
+    and_false : (x : Bool) → (x && false) ≡ false
+    and_false true = refl
+    and_false false = refl
+
+name_next : (n : List ℕ) → IsUtf8 n → (next_token_of (behind_space n) 0 ≡ Ok (Some (name_at n))) × (token_text (behind_space n) (name_at n) ≡ written_name n)
+unfolding token_text
+name_next n utf8 =
+    let whole : (32 ∷ []) ++ (written_name n ++ []) ≡ behind_space n = ap (λ (x : List ℕ). 32 ∷ x) (append-nil (written_name n)) in
+    let there = (name_is_read (32 ∷ []) n [] utf8 (ends_alone n)).0 in
+    let passed : next_token_of (behind_space n) 0 ≡ next_token_of (behind_space n) 1 =
+    subst (λ (x : List ℕ). next_token_of (32 ∷ x) 0 ≡ next_token_of (32 ∷ x) 1) (append-nil (written_name n ++ []) ∙ append-nil (written_name n)) (gap_stands (32 ∷ []) (written_name n) [] space (name_begun n) [] [] refl) in (
+      passed ∙ subst (λ (x : List ℕ). next_token_of x 1 ≡ Ok (Some (name_at n))) whole there.found,
+      subst (λ (x : List ℕ). token_text x (name_at n) ≡ written_name n) whole there.spelled,
+    )
+
+abbrev piece : List ℕ → Piece
+piece n = record { from = 0; token = name_at n }
+
+abbrev by_sign : List ℕ → Bool → Collected
+by_sign n b = preceded (piece n) (cond b (nothing_more (name_at n).end None) (collected_within (length (behind_space n)) (behind_space n) (name_at n).end))
+
+nothing_behind : (text : List ℕ) (n : ℕ) → (collected_within (suc n) text (length text)).pieces ≡ []
+unfolding collected_within
+nothing_behind text n = ap (λ (r : Result (Option Token) LexFault). (collected_by (collected_within n text) (length text) r).pieces) (next_at_end text (length text) refl)
+
+one_piece : (n : List ℕ) → IsUtf8 n → (collected (behind_space n) 0).pieces ≡ piece n ∷ []
+one_piece n utf8 =
+    let text = behind_space n in
+    let is : collected text 0 ≡ by_sign n (is_sign_kind 59 (written_kind n)) = collected_first text 0 ∙ ap (collected_by (collected_within (length text) text) 0) (name_next n utf8).0 in
+    ap (λ (c : Collected). c.pieces) (is ∙ ap (by_sign n) (name_no_sign 59 n))
+    ∙ ap (λ k. piece n ∷ (collected_within (length text) text k).pieces) (let one : 1 + length (written_name n) ≡ length text = omega arith in one) ∙ ap (λ (ps : List Piece). piece n ∷ ps) (nothing_behind text (length (written_name n)))
+
+alone : (n : List ℕ) → stands_alone (behind_space n) (piece n) ≡ true
+unfolding stands_alone is_blank
+alone n = ap (λ (x : List ℕ). list_all is_blank x) (drop_all (1 + length (written_name n)) (behind_space n) (omega arith))
+
+name_found : (n : List ℕ) → IsName n → name_alone (behind_space n) ≡ Ok n
+unfolding name_alone
+name_found n is =
+    ap (one_name (behind_space n)) (one_piece n is.utf8)
+    ∙ ap (λ (b : Bool). cond b (name_value (lexeme_of (behind_space n) (piece n))) (Err false)) (alone n)
+    ∙ name_means n is (lexeme_of (behind_space n) (piece n)) refl (name_next n is.utf8).1
+
+pub line_says : (n : List ℕ) → IsName n → meta_line (connect_line n) ≡ Ok (Some (stmt.Connect n))
+unfolding meta_line command_len said_by is_blank
+line_says n is = ap connected (name_found n is)
+
+-- ---- the line as a token
+
+in_one_line : (q : ℕ) (n : List ℕ) → in_line q ≡ true → list_all in_line n ≡ true → list_all in_line (doubled q n) ≡ true
+unfolding doubled
+in_one_line q [] mark all = refl
+in_one_line q (b ∷ n) mark all =
+    let parts = and_parts (in_line b) (list_all in_line n) all in
+    let more = in_one_line q n mark parts.1 in
+    elim (cases_Bool (b == q)) [
+      | inl is ↦ rw is (and_from (in_line q) (in_line q && list_all in_line (doubled q n)) mark (and_from (in_line q) (list_all in_line (doubled q n)) mark more))
+      | inr isnt ↦ rw isnt (and_from (in_line b) (list_all in_line (doubled q n)) parts.0 more)
+    ]
+
+in_34 : in_line 34 ≡ true
+unfolding in_line
+in_34 = refl
+
+name_in_line : (n : List ℕ) → list_all in_line n ≡ true → list_all in_line (written_name n) ≡ true
+unfolding written_name quoted
+name_in_line n all =
+    elim (cases_Bool (is_bare n && not (is_reserved n))) [
+      | inl is ↦ rw is all
+      | inr isnt ↦ rw isnt (and_from (in_line 34) (list_all in_line (doubled 34 n ++ 34 ∷ [])) in_34 (list_all-append in_line (doubled 34 n) (34 ∷ []) ∙ and_from (list_all in_line (doubled 34 n)) (in_line 34 && true) (in_one_line 34 n in_34 all) (and_from (in_line 34) true in_34 refl)))
+    ]
+
+words_utf8 : IsUtf8 (codes "\\connect ")
+unfolding is_utf8 chars encode
+words_utf8 = IsUtf8-from_is_utf8 (codes "\\connect ") refl
+
+-- a place where a line begins: the text begins there, or a line feed stands before it
+abbrev pub IsFresh : List ℕ → Type 0
+IsFresh front = (front ≡ []) ⊎ ((before : List ℕ) × (front ≡ before ++ 10 ∷ []))
+
+fresh_begins : (front rest : List ℕ) → IsFresh front → begins_line (front ++ rest) (length front) ≡ true
+unfolding begins_line
+fresh_begins front rest (inl is) = rw is refl
+fresh_begins front rest (inr h) =
+    let len : length front ≡ length h.0 + 1 = ap (λ (x : List ℕ). length x) h.1 ∙ length-append h.0 (10 ∷ []) in
+    let less : length front - 1 ≡ length h.0 = omega (arith, len) in
+    let whole : front ++ rest ≡ h.0 ++ 10 ∷ rest = ap (λ (x : List ℕ). x ++ rest) h.1 ∙ append_assoc h.0 (10 ∷ []) rest in
+    let byte : slice_index (front ++ rest) (length front - 1) ≡ 10 = ap (λ n. slice_index (front ++ rest) n) less ∙ ap (λ (x : List ℕ). slice_index x (length h.0)) whole ∙ index_at h.0 10 rest in
+    rw byte (or_right (length front == 0) true refl)
+  where
+    index_at : (before : List ℕ) (b : ℕ) (rest : List ℕ) → slice_index (before ++ b ∷ rest) (length before) ≡ b
+    index_at [] b rest = refl
+    index_at (x ∷ before) b rest = index_at before b rest
+
+starts_solid : (n : List ℕ) → Begun (connect_line n)
+unfolding is_blank
+starts_solid n = record { first = 92; rest = _; bytes = refl; solid = refl }
+
+pub line_stands : (front g n rest : List ℕ) → Gap g → IsFresh (front ++ g) → IsName n → list_all in_line n ≡ true
+    → IsLine (front ++ (g ++ (connect_line n ++ 10 ∷ rest))) (length front) (Some (stmt.Connect n)) (length front + length g) (length front + length g + length (connect_line n))
+unfolding goes_on next_is in_line
+line_stands front g n rest gap fresh is plain =
+    let line = connect_line n in
+    let text = front ++ (g ++ (line ++ 10 ∷ rest)) in
+    let whole : text ≡ (front ++ g) ++ (line ++ 10 ∷ rest) = sym (append_assoc front g (line ++ 10 ∷ rest)) in
+    let spells : IsMetaLine line = (_, name_line n (name_in_line n plain), refl) in
+    let utf8 = is_utf8-from_IsUtf8 line (IsUtf8-append (codes "\\connect ") (written_name n) words_utf8 (name_utf8 n is)) in
+    let there = spelling_is_read (front ++ g) line (10 ∷ rest) MetaLine spells refl utf8 (λ e. fresh_begins (front ++ g) (line ++ 10 ∷ rest) fresh) in
+    let place : length (front ++ g) ≡ length front + length g = length-append front g in
+    let passed : next_token_of text (length front) ≡ next_token_of text (length front + length g) =
+    subst (λ (x : List ℕ). next_token_of (front ++ (g ++ (x ++ 10 ∷ rest))) (length front) ≡ next_token_of (front ++ (g ++ (x ++ 10 ∷ rest))) (length front + length g)) (append-nil line) (gap_stands g line [] gap (starts_solid n) front (10 ∷ rest) refl) in
+    let found : next_token_of text (length front + length g) ≡ Ok (Some (token_at MetaLine (length front + length g) line)) =
+    subst (λ (x : List ℕ). next_token_of x (length front + length g) ≡ Ok (Some (token_at MetaLine (length front + length g) line))) (sym whole) (subst (λ k. next_token_of ((front ++ g) ++ (line ++ 10 ∷ rest)) k ≡ Ok (Some (token_at MetaLine k line))) place there.found) in
+    let same : token_text text (token_at MetaLine (length front + length g) line) ≡ line =
+    subst (λ (x : List ℕ). token_text x (token_at MetaLine (length front + length g) line) ≡ line) (sym whole) (subst (λ k. token_text ((front ++ g) ++ (line ++ 10 ∷ rest)) (token_at MetaLine k line) ≡ line) place there.spelled) in
+    record { next = passed ∙ found; says = ap meta_line same ∙ line_says n is }
+  where
+    name_line : (n : List ℕ) → list_all in_line (written_name n) ≡ true → list_all in_line (codes "connect " ++ written_name n) ≡ true
+    name_line n e = e
 
 -- ---- one statement
 
@@ -251,14 +414,14 @@ begins_with s more text whole e f = by (spellings more) refl (sym (ap (λ (o : O
     by (Some rest) is f = (rest, is, cc)
     by None is f = absurd cc
 
-nothing_more : (text : List ℕ) (at : ℕ) → next_token_of text at ≡ Ok None → ReadsAs text at []
-nothing_more text at e = let h = none_collected text at e in record { found = []; reads = all_read at h.0 h.1; same = refl }
+none_left : (text : List ℕ) (at : ℕ) → next_token_of text at ≡ Ok None → ReadsAs text at []
+none_left text at e = let h = none_collected text at e in record { found = []; reads = all_read at h.0 h.1; same = refl }
 
 pub reads_as : (text front g : List ℕ) (statements : List Stmt) (whole : List ℕ) → Gap g → IsFresh (front ++ g) → AllWritable statements → spellings statements ≡ Some whole → text ≡ front ++ (g ++ whole) → ReadsAs text (length front) statements
 reads_as text front g [] whole gap fresh all e is =
     let nothing : [] ≡ whole = cc in
     let text_is : text ≡ front ++ g = is ∙ ap (λ (x : List ℕ). front ++ (g ++ x)) (sym nothing) ∙ ap (λ (x : List ℕ). front ++ x) (append-nil g) in
-    nothing_more text (length front) (ap (λ (x : List ℕ). next_token_of x (length front)) text_is ∙ no_token front g gap)
+    none_left text (length front) (ap (λ (x : List ℕ). next_token_of x (length front)) text_is ∙ no_token front g gap)
 reads_as text front g (s ∷ more) whole gap fresh all e is =
     let c = can_be_written gap s all.0 in
     let h = begins_with s more c.text whole c.spells e in
@@ -272,3 +435,81 @@ pub joined_read : (statements : List Stmt) (text : List ℕ) → AllWritable sta
 joined_read statements text all e =
     let r = reads_as text [] [] statements text none (inl refl) all e refl in
     (r.found, only text r.found r.reads, r.same)
+
+-- ---- statements
+
+statement_yields : (s : Stmt) (ts : List Lexeme) (r : List ℕ) → AllCame ts r → statement.Spells (Some s) ts → IsWritable s
+unfolding statement_as
+statement_yields s ts r came spells = elim ((statement_as none).made (Some s) ts r came spells) [
+  | inl h ↦ absurd cc h.2
+  | inr h ↦ (let same : h.0 ≡ s = cc h.2 in subst IsWritable same ((command_as none).is h.0 h.1))
+]
+
+-- ---- whole texts
+
+-- a statement that is read with its rows can be written where it can without
+abbrev IsDone : Option Stmt → Type 0
+IsDone None = Unit {0}
+IsDone (Some s) = IsWritable s
+
+whole_is : (s t : Option Stmt) (end n : ℕ) → ends_at s end ≡ ends_at t n → s ≡ t
+whole_is s t end n e = ap stmt_of e
+  where
+    stmt_of : Result Whole DdlFault → Option Stmt
+    stmt_of (Ok w) = w.stmt
+    stmt_of (Err fault) = None
+
+with_rows_done : (text : List ℕ) (at : ℕ) (q : QName) (columns : List (List ℕ)) (s : Option Stmt) (end : ℕ) → IsPath q × AllByRecursion IsName columns → (r : Result Copied ℕ) → rows_behind text at ≡ r → with_rows q columns r ≡ ends_at s end → IsDone s
+with_rows_done text at q columns s end is (Ok c) e f = subst IsDone (whole_is (Some (stmt.CopyRows q columns c.rows)) s c.end end f) (is.0, is.1, read_are_rows text at c e)
+with_rows_done text at q columns s end is (Err place) e f = absurd cc
+
+done : (text : List ℕ) (at : ℕ) (h s : Option Stmt) (end : ℕ) → IsDone h → completed text at h ≡ ends_at s end → IsDone s
+done text at (Some (stmt.CopyRows q columns rows)) s end is e = with_rows_done text at q columns s end (is.0, is.1) (rows_behind text at) refl e
+done text at None s end is e = subst IsDone (whole_is None s at end e) is
+done text at (Some h) s end is e = subst IsDone (whole_is (Some h) s at end e) is
+
+header_done : (text : List ℕ) (at : ℕ) (h : Option Stmt) → at ≤ length text → statement.Spells h (lexemes text (collected text at).pieces) → IsDone h
+header_done text at None le spells = tt
+header_done text at (Some s) le spells = statement_yields s (lexemes text (collected text at).pieces) _ (have_come text at le) spells
+
+one_more : (start end : ℕ) (more : List Located) (s : Option Stmt) → IsDone s → AllWritable (said more) → AllWritable (said (listed_before s start end more))
+one_more start end more None is later = later
+one_more start end more (Some s) is later = (is, later)
+
+in_92 : in_line 92 ≡ true
+unfolding in_line
+in_92 = refl
+
+-- what a line with a backslash says can be written
+line_spelled : (text : List ℕ) (at start end : ℕ) → at ≤ length text → next_token_of text at ≡ Ok (Some (line_token start end)) → list_all in_line (token_text text (line_token start end)) ≡ true
+line_spelled text at start end le e =
+    let c = came_token text at (line_token start end) le e in
+    ap (list_all in_line) c.spells.2 ∙ and_from (in_line 92) (list_all in_line c.spells.0) in_92 c.spells.1
+
+line_done : (text : List ℕ) (at start end : ℕ) (s : Option Stmt) → at ≤ length text → IsLine text at s start end → IsDone s
+line_done text at start end s le is = by (said_is_a_name (token_text text (line_token start end)) s (line_spelled text at start end le is.next) is.says)
+  where
+    by : IsSaid s → IsDone s
+    by (inl passed) = subst IsDone (sym passed) tt
+    by (inr h) = subst IsDone (sym h.1) (h.2, h.3)
+
+all_writable : (text : List ℕ) (at : ℕ) (found : List Located) → at ≤ length text → Reads text at found → AllWritable (said found)
+all_writable text _ _ le (all_read at first sound) = tt
+all_writable text _ _ le (one_read at s start end more is others) =
+    one_more start end more s (done text (collected text at).end is.header s end (header_done text at is.header le is.spells) is.all) (all_writable text end more (ends_past text at s start end le is).1 others)
+all_writable text _ _ le (line_read at s start end more is others) =
+    one_more start end more s (line_done text at start end s le is) (all_writable text end more (line_past text at start end le is.next).1 others)
+
+all_spelled : (statements : List Stmt) → AllWritable statements → (text : List ℕ) × (spellings statements ≡ Some text)
+all_spelled [] all = ([], refl)
+all_spelled (s ∷ more) all =
+    let c = can_be_written none s all.0 in
+    let h = all_spelled more all.1 in
+    (c.text ++ h.0, ap (λ (o : Option (List ℕ)). joined o (spellings more)) c.spells ∙ ap (joined (Some c.text)) h.1)
+
+pub read_again : (text : List ℕ) (statements : List Located) → statements_of text ≡ Ok statements
+    → (again : List ℕ) × (spellings (said statements) ≡ Some again) × ((same : List Located) × (statements_of again ≡ Ok same) × (said same ≡ said statements))
+read_again text statements e =
+    let all = all_writable text 0 statements (omega arith) (found text statements e) in
+    let s = all_spelled (said statements) all in
+    (s.0, s.1, joined_read (said statements) s.0 all s.1)

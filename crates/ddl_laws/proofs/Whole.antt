@@ -1,19 +1,41 @@
--- A statement as one composition of its kinds: which statements can be written, and how.
-use Rattle.std.proofs.Common.{ℕ, List, Some, None, refl, codes}
+-- A statement as one composition of its kinds: which statements can be written, and that its text is its spelling behind
+-- a gap.
+use Rattle.std.proofs.Common.{ℕ, List, Some, None, refl, codes, ◌≡◌, suc, Bool, true, false, [], ◌∷◌, ◌++◌, map, append_assoc, Option, sym, ap, ◌∙◌, inl, inr}
+use Rattle.ddl_admin.specs.Roles.{create_role}
+use Rattle.ddl_read.specs.RelationGrammar.{create_view, replace_view, index_of, create_index, unique_index_of, create_unique_index, its_role, its_column}
+use Rattle.ddl_read.specs.Grammar.{create_schema, created, name_and_owner, path_and_owner, altered, selected, command, statement, its_owner, one_more_check}
+use Rattle.ddl_forms.proofs.Tokens.{Gap, none, space}
+use Rattle.ddl_forms.proofs.Written.{Written, Kinds, is_key, dot_as, word_as, ending as end_mark_as, mark_as, name_as, path_as, then_as, end_as, seen_as, choose_as, kind_as, led_as, or_as}
+use Rattle.ddl_laws.specs.Respelling.{IsWritable}
+use Rattle.ddl_laws.proofs.Relations.{new_owner_as, altered_domain_as, altered_sequence_as, setting_as, set_config_as, set_value_as, view_and_body_as, index_parts_as, copy_from_as, altered_table_as, constraint_body_as, own_change_as}
+use Rattle.ddl_laws.proofs.Tables.{create_enum_as, create_domain_as, create_table_as, lines_end}
+use Rattle.ddl_laws.proofs.Admin.{comment_on_as, alter_role_as, create_database_as, commented_object_as}
+use Rattle.ddl_laws.proofs.Rights.{granted_as, revoked_as, membership_as, to_as, from_as, opening_name, wanting, role_wanted, role_fit, role_spelled, rights_opened, rights_spelled}
+use Rattle.ddl_laws.proofs.Sequences.{create_sequence_as, Values, written, sequence_is}
+use Rattle.sql_lex.specs.Written.{quoted, doubled, written_name, written_literal}
+use Rattle.copy_text.specs.Texts.{IsName}
+use Rattle.copy_text.specs.Marks.{newline, end_mark}
+use Rattle.cat_model.specs.declared.object.QName.{QName}
+use Rattle.cat_model.specs.declared.constraint.Encoding.TheVariants.{Utf8}
+use Rattle.cat_model.specs.declared.stmt.Stmt.{Stmt}
+use Rattle.ddl_read.specs.declared.alters.Constraint.{Constraint}
+use Rattle.ddl_read.specs.declared.alters.Constraint.TheVariants.{Check, Primary, Unique, Foreign}
+use Rattle.ddl_read.specs.declared.alters.TableChange.{TableChange}
+use Rattle.ddl_read.specs.declared.alters.TableChange.TheVariants.{Owner, Default, Added}
+use Rattle.ddl_read.specs.AlterGrammar.{table_changed, key_word}
+use Rattle.ddl_write.specs.Paths.{path, listed, ending, joined}
+use Rattle.ddl_write.specs.Spelling.{spelling, owned_object, schema_text, set_text, setting_text, owner_text, domain_check_text}
+use Rattle.ddl_write.specs.Tables.{enum_text, domain_text, table_text, check_text, table_lines}
+use Rattle.ddl_write.specs.Sequences.{sequence_text, owned_by_text, value_text}
+use Rattle.ddl_write.specs.Views.{view_text, default_text}
+use Rattle.ddl_write.specs.Keys.{key_text, foreign_text, added_check_text, index_text}
+use Rattle.ddl_write.specs.RowsText.{copy_text}
+use Rattle.ddl_write.specs.RightsText.{grant_text, revoke_text, comment_text}
+use Rattle.ddl_write.specs.Roles.{role_text, changes_text, member_text, database_text}
+use Rattle.ddl_forms.specs.Texts.{IsPath}
 use Rattle.cat_model.specs.declared.grant.Owned.TheVariants as owned
 use Rattle.cat_model.specs.declared.stmt.Stmt.TheVariants as stmt
-use Rattle.ddl_admin.specs.Roles.{create_role}
-use Rattle.ddl_read.specs.RelationGrammar.{create_view, replace_view, index_of, create_index, unique_index_of, create_unique_index}
-use Rattle.ddl_read.specs.Grammar.{create_schema, created, name_and_owner, path_and_owner, altered, selected, command, statement}
-use Rattle.ddl_forms.proofs.Tokens.{Gap, none, space}
-use Rattle.ddl_forms.proofs.Written.{Written, Kinds, is_key, dot_as, word_as, ending, mark_as, name_as, path_as, then_as, end_as, seen_as, choose_as, kind_as, led_as, or_as}
-use Rattle.ddl_laws.specs.Respelling.{IsWritable}
-use Rattle.ddl_laws.proofs.Relations.{new_owner_as, altered_domain_as, altered_sequence_as, setting_as, set_config_as, set_value_as, view_and_body_as, index_parts_as, copy_from_as}
-use Rattle.ddl_laws.proofs.Alters.{altered_table_as}
-use Rattle.ddl_laws.proofs.Tables.{create_enum_as, create_domain_as, create_table_as}
-use Rattle.ddl_laws.proofs.Admin.{comment_on_as, alter_role_as, create_database_as}
-use Rattle.ddl_laws.proofs.Rights.{granted_as, revoked_as}
-use Rattle.ddl_laws.proofs.Sequences.{create_sequence_as}
+use Rattle.cat_model.specs.declared.grant.Commented.TheVariants as commented
 
 -- ---- the kinds, behind their first words
 
@@ -70,4 +92,191 @@ command_as gap =
 
 unfoldable pub statement_as : {g : List ℕ} → Gap g → Written statement
 unfolding statement command_as
-statement_as gap = choose_as (seen_as (λ x. None) (mark_as ending)) (seen_as Some (command_as gap).written)
+statement_as gap = choose_as (seen_as (λ x. None) (mark_as end_mark_as)) (seen_as Some (command_as gap).written)
+
+-- ---- by the numbers of its kind
+
+unfoldable pub in_create : {g : List ℕ} → (gap : Gap g) → (s : Stmt) → (n : ℕ) → created_as.At n s → (command_as gap).written.Fit s
+unfolding command_as
+in_create gap s n fit = (command_as gap).pick 0 s (created_as.pick n s fit)
+
+unfoldable pub in_alter : {g : List ℕ} → (gap : Gap g) → (s : Stmt) → (n : ℕ) → altered_as.At n s → (command_as gap).written.Fit s
+unfolding command_as
+in_alter gap s n fit = (command_as gap).pick 1 s (altered_as.pick n s fit)
+
+unfoldable pub in_comment : {g : List ℕ} → (gap : Gap g) → (s : Stmt) → (n : ℕ) → commented_object_as.At n s → (command_as gap).written.Fit s
+unfolding command_as
+in_comment gap s n fit = (command_as gap).pick (suc (suc (suc (suc (suc (suc (suc n))))))) s fit
+
+-- a change of a table, which ONLY stands before, and a constraint that is added
+unfoldable pub table_fit : {g : List ℕ} → (gap : Gap g) → (q : QName) → (x : TableChange) → IsPath q → own_change_as.written.Fit x → (command_as gap).written.Fit (table_changed q x)
+unfolding in_alter
+table_fit gap q x named fit = in_alter gap (table_changed q x) 3 (altered_table_as.pick 0 (table_changed q x) ((codes "only", key_word q x), (refl, inr ((q, x), (named, fit), refl)), refl))
+
+unfoldable pub added_fit : {g : List ℕ} → (gap : Gap g) → (q : QName) → (n : List ℕ) → (c : Constraint) → IsPath q → IsName n → constraint_body_as.written.Fit c → (command_as gap).written.Fit (table_changed q (Added n c))
+unfolding table_fit
+added_fit gap q n c named is fit = table_fit gap q (Added n c) named (own_change_as.pick 0 (Added n c) ((n, c), (is, fit), refl))
+
+-- ---- the spelling
+
+-- the spelling of a statement, or nothing
+abbrev pub given : Option (List ℕ) → List ℕ
+given None = []
+given (Some text) = text
+
+-- a statement can be written so, behind a gap and before a line feed
+abbrev pub IsSpelled : {g : List ℕ} → Gap g → Stmt → List ℕ → Type 0
+IsSpelled {g} gap s text = (fit : (command_as gap).written.Fit s) × (joined ((command_as gap).written.pieces s fit ++ (10 ∷ []) ∷ []) ≡ g ++ text)
+
+-- pieces that stand in brackets there
+pub two_behind : (x l y e : List ℕ) → x ++ (l ++ (y ++ e)) ≡ ((x ++ l) ++ y) ++ e
+two_behind x l y e = simp append_assoc
+
+pub both_behind : (x l y e : List ℕ) → x ++ (l ++ (y ++ e)) ≡ (x ++ (l ++ y)) ++ e
+both_behind x l y e = simp append_assoc
+
+pub owner_behind : (g w n r : List ℕ) → g ++ (w ++ (n ++ (codes " OWNER TO " ++ (r ++ ending)))) ≡ g ++ (w ++ (((n ++ codes " OWNER TO ") ++ r) ++ ending))
+owner_behind g w n r = ap (λ (x : List ℕ). g ++ (w ++ x)) (two_behind n (codes " OWNER TO ") r ending)
+
+-- all but a COPY with its rows, and a line: these aren't read by tokens alone
+abbrev pub IsWords : Stmt → Type 0
+IsWords (stmt.CopyRows q columns rows) = ⊥
+IsWords (stmt.Connect n) = ⊥
+IsWords _ = Unit {0}
+
+unfoldable pub member_fit : (role m : List ℕ) → (c : Option (List ℕ)) → (admin : Bool) → (inherit : Option Bool) → (z : Bool) → IsWritable (stmt.GrantRole role m c admin inherit z) → (membership_as role).Fit (stmt.GrantRole role m c admin inherit z)
+unfolding membership_as
+member_fit role m c admin inherit z is = ((m, ((admin, (inherit, z)), c)), (is.1, (tt, is.2)), refl)
+
+pub role_spelled_so : {g : List ℕ} (gap : Gap g) (role m : List ℕ) (c : Option (List ℕ)) (admin : Bool) (inherit : Option Bool) (z : Bool) (is : IsWritable (stmt.GrantRole role m c admin inherit z)) (text : List ℕ)
+    → joined ((membership_as role).pieces (stmt.GrantRole role m c admin inherit z) (member_fit role m c admin inherit z is) ++ (10 ∷ []) ∷ []) ≡ text → IsSpelled gap (stmt.GrantRole role m c admin inherit z) (codes "GRANT " ++ (written_name role ++ text))
+unfolding command_as member_fit
+role_spelled_so {g} gap role m c admin inherit z is text e =
+    let s = stmt.GrantRole role m c admin inherit z in
+    let fit = member_fit role m c admin inherit z is in (
+      (command_as gap).pick 5 s ((role, role_wanted role), inl (is.0, refl), role_fit role (role_wanted role) s fit),
+      ap (λ (x : List ℕ). g ++ (codes "GRANT " ++ (written_name role ++ x))) (role_spelled role (role_wanted role) s fit ((10 ∷ []) ∷ []) ∙ e),
+    )
+
+pub spelled_so : {g : List ℕ} (gap : Gap g) (s : Stmt) → IsWords s → IsWritable s → IsSpelled gap s (given (spelling s))
+unfolding in_create in_alter in_comment added_fit member_fit spelling schema_text enum_text domain_text table_text sequence_text role_text database_text view_text index_text owner_text owned_object domain_check_text owned_by_text changes_text key_text foreign_text added_check_text default_text set_text setting_text value_text grant_text revoke_text member_text comment_text written_literal quoted doubled
+spelled_so gap (stmt.CreateSchema n) words is = (in_create gap (stmt.CreateSchema n) 0 (n, is, refl), refl)
+spelled_so {g} gap (stmt.CreateEnum q labels) words is = (
+  in_create gap (stmt.CreateEnum q labels) 1 ((q, labels), (is.0, is.1), refl),
+  ap (λ (x : List ℕ). g ++ (codes "CREATE TYPE " ++ (path q ++ (codes " AS ENUM (" ++ x)))) (lines_end (map written_literal labels) (41 ∷ ending)),
+)
+spelled_so {g} gap (stmt.CreateDomain q base not_null default checks) words is = (
+  in_create gap (stmt.CreateDomain q base not_null default checks) 2 ((q, ((base, (default, not_null)), checks)), (is.0, ((is.1, is.2), is.3)), refl),
+  refl,
+)
+spelled_so {g} gap (stmt.CreateTable q columns checks) words is = (
+  in_create gap (stmt.CreateTable q columns checks) 3 ((q, (columns, checks)), (is.0, (is.1, is.2)), refl),
+  ap (λ (x : List ℕ). g ++ (codes "CREATE TABLE " ++ (path q ++ (codes " (" ++ x)))) (lines_end (table_lines columns checks) (41 ∷ ending)),
+)
+spelled_so gap (stmt.CreateRole n) words is = (in_create gap (stmt.CreateRole n) 4 (n, is, refl), refl)
+spelled_so gap (stmt.CreateDatabase n None) words is = (in_create gap (stmt.CreateDatabase n None) 5 ((n, None), (is, tt), refl), refl)
+spelled_so gap (stmt.CreateDatabase n (Some Utf8)) words is = (in_create gap (stmt.CreateDatabase n (Some Utf8)) 5 ((n, Some Utf8), (is, tt), refl), refl)
+spelled_so gap (stmt.CreateView q body) words is = (in_create gap (stmt.CreateView q body) 6 ((q, body), (is.0, is.1), refl), refl)
+spelled_so gap (stmt.ReplaceView q body) words is = (in_create gap (stmt.ReplaceView q body) 7 ((q, body), (is.0, is.1), refl), refl)
+spelled_so gap (stmt.CreateIndex q n m rest) words is = (in_create gap (stmt.CreateIndex q n m rest) 8 ((n, (q, (m, rest))), (is.1, (is.0, (is.2, is.3))), refl), refl)
+spelled_so gap (stmt.CreateUniqueIndex q n m rest) words is = (in_create gap (stmt.CreateUniqueIndex q n m rest) 9 ((n, (q, (m, rest))), (is.1, (is.0, (is.2, is.3))), refl), refl)
+spelled_so gap (stmt.CreateSequence q kind start step min max cache cycle) words is =
+    let v : Values = record { kind = kind; start = start; step = step; min = min; max = max; cache = cache; cycle = cycle } in
+    (in_create gap (stmt.CreateSequence q kind start step min max cache cycle) 10 ((q, written v), (is.0, (v, (is.1, is.2, is.3, is.4, is.5), refl)), sequence_is q v), refl)
+spelled_so {g} gap (stmt.OwnerTo (owned.Schema n) r) words is = (
+  in_alter gap (stmt.OwnerTo (owned.Schema n) r) 0 ((n, r), (is.0, is.1), refl),
+  owner_behind g (codes "ALTER SCHEMA ") (written_name n) (written_name r),
+)
+spelled_so {g} gap (stmt.OwnerTo (owned.Type q) r) words is = (in_alter gap (stmt.OwnerTo (owned.Type q) r) 1 ((q, r), (is.0, is.1), refl), owner_behind g (codes "ALTER TYPE ") (path q) (written_name r))
+spelled_so {g} gap (stmt.OwnerTo (owned.Domain q) r) words is = (
+  in_alter gap (stmt.OwnerTo (owned.Domain q) r) 2 ((q, its_owner r), (is.0, inl (r, is.1, refl)), refl),
+  owner_behind g (codes "ALTER DOMAIN ") (path q) (written_name r),
+)
+spelled_so {g} gap (stmt.OwnerTo (owned.Table q) r) words is = (
+  in_alter gap (stmt.OwnerTo (owned.Table q) r) 3 (altered_table_as.pick 1 (stmt.OwnerTo (owned.Table q) r) ((q, Owner r), (is.0, inl (r, is.1, refl)), refl)),
+  owner_behind g (codes "ALTER TABLE ") (path q) (written_name r),
+)
+spelled_so {g} gap (stmt.OwnerTo (owned.Sequence q) r) words is = (
+  in_alter gap (stmt.OwnerTo (owned.Sequence q) r) 4 ((q, its_role r), (is.0, inl (r, is.1, refl)), refl),
+  owner_behind g (codes "ALTER SEQUENCE ") (path q) (written_name r),
+)
+spelled_so {g} gap (stmt.OwnerTo (owned.View q) r) words is = (in_alter gap (stmt.OwnerTo (owned.View q) r) 5 ((q, r), (is.0, is.1), refl), owner_behind g (codes "ALTER VIEW ") (path q) (written_name r))
+spelled_so {g} gap (stmt.OwnerTo (owned.Database n) r) words is = (
+  in_alter gap (stmt.OwnerTo (owned.Database n) r) 6 ((n, r), (is.0, is.1), refl),
+  owner_behind g (codes "ALTER DATABASE ") (written_name n) (written_name r),
+)
+spelled_so {g} gap (stmt.AddDomainCheck q n v) words is = (
+  in_alter gap (stmt.AddDomainCheck q n v) 2 ((q, one_more_check (record { name = n; text = v })), (is.0, inr (record { name = n; text = v }, (is.1, is.2), refl)), refl),
+  ap (λ (x : List ℕ). g ++ (codes "ALTER DOMAIN " ++ x)) (two_behind (path q) (codes "\n    ADD ") (check_text n v) ending),
+)
+spelled_so gap (stmt.OwnedBy q table column) words is = (in_alter gap (stmt.OwnedBy q table column) 4 ((q, its_column (table, column)), (is.0, inr ((table, column), (is.1, is.2), refl)), refl), refl)
+spelled_so gap (stmt.AlterRole n changes) words is = (in_alter gap (stmt.AlterRole n changes) 7 ((n, changes), (is.0, is.1), refl), refl)
+spelled_so gap (stmt.SetDefault q n v) words is = (table_fit gap q (Default n v) is.0 (own_change_as.pick 1 (Default n v) ((n, v), (is.1, is.2), refl)), refl)
+spelled_so gap (stmt.AddCheck q n v) words is = (added_fit gap q n (Check v) is.0 is.1 (constraint_body_as.pick 0 (Check v) (v, is.2, refl)), refl)
+spelled_so gap (stmt.AddPrimary q n ns rest) words is = (added_fit gap q n (Primary ns rest) is.0 is.1 (constraint_body_as.pick 1 (Primary ns rest) ((ns, rest), (is.2, is.3), refl)), refl)
+spelled_so gap (stmt.AddUnique q n ns rest) words is = (added_fit gap q n (Unique ns rest) is.0 is.1 (constraint_body_as.pick 2 (Unique ns rest) ((ns, rest), (is.2, is.3), refl)), refl)
+spelled_so {g} gap (stmt.AddForeign q n ns parent theirs rest) words is = (
+  added_fit gap q n (Foreign ns parent theirs rest) is.0 is.1 (constraint_body_as.pick 3 (Foreign ns parent theirs rest) ((ns, (parent, (theirs, rest))), (is.2, (is.3, (is.4, is.5))), refl)),
+  refl,
+)
+spelled_so {g} gap (stmt.SetConfig n v) words is = (
+  (command_as gap).pick 2 (stmt.SetConfig n v) (selected_as.pick 0 (stmt.SetConfig n v) ((n, v), (is.0, is.1), refl)),
+  ap (λ (x : List ℕ). g ++ (codes "SELECT pg_catalog.set_config(" ++ x)) (both_behind (written_literal n) (codes ", ") (written_literal v) (codes ", false)" ++ ending)),
+)
+spelled_so {g} gap (stmt.SetVal q n true) words is = (
+  (command_as gap).pick 2 (stmt.SetVal q n true) (selected_as.pick 1 (stmt.SetVal q n true) ((q, (n, true)), (is.0, (is.1, inl (tt, tt, refl))), refl)),
+  refl,
+)
+spelled_so {g} gap (stmt.SetVal q n false) words is = (
+  (command_as gap).pick 2 (stmt.SetVal q n false) (selected_as.pick 1 (stmt.SetVal q n false) ((q, (n, false)), (is.0, (is.1, inr (tt, tt, refl))), refl)),
+  refl,
+)
+spelled_so {g} gap (stmt.Set n v) words is = (
+  (command_as gap).pick 3 (stmt.Set n v) ((n, (tt, v)), (is.0, (inl tt, is.1)), refl),
+  ap (λ (x : List ℕ). g ++ (codes "SET " ++ x)) (two_behind (written_name n) (codes " = ") v ending),
+)
+spelled_so gap (stmt.Comment (commented.Schema n) text) words is = (in_comment gap (stmt.Comment (commented.Schema n) text) 0 ((n, text), (is.0, is.1), refl), refl)
+spelled_so gap (stmt.Comment (commented.Type q) text) words is = (in_comment gap (stmt.Comment (commented.Type q) text) 1 ((q, text), (is.0, is.1), refl), refl)
+spelled_so gap (stmt.Comment (commented.Domain q) text) words is = (in_comment gap (stmt.Comment (commented.Domain q) text) 2 ((q, text), (is.0, is.1), refl), refl)
+spelled_so gap (stmt.Comment (commented.Table q) text) words is = (in_comment gap (stmt.Comment (commented.Table q) text) 3 ((q, text), (is.0, is.1), refl), refl)
+spelled_so gap (stmt.Comment (commented.View q) text) words is = (in_comment gap (stmt.Comment (commented.View q) text) 4 ((q, text), (is.0, is.1), refl), refl)
+spelled_so gap (stmt.Comment (commented.Sequence q) text) words is = (in_comment gap (stmt.Comment (commented.Sequence q) text) 5 ((q, text), (is.0, is.1), refl), refl)
+spelled_so gap (stmt.Comment (commented.Index q) text) words is = (in_comment gap (stmt.Comment (commented.Index q) text) 6 ((q, text), (is.0, is.1), refl), refl)
+spelled_so gap (stmt.Comment (commented.Column q n) text) words is = (in_comment gap (stmt.Comment (commented.Column q n) text) 7 ((q, (n, text)), (is.0.0, (is.0.1, is.1)), refl), refl)
+spelled_so gap (stmt.Comment (commented.Constraint q n) text) words is = (in_comment gap (stmt.Comment (commented.Constraint q n) text) 8 ((n, (q, text)), (is.0.1, (is.0.0, is.1)), refl), refl)
+spelled_so {g} gap (stmt.Grant o r who option) words is =
+    let s = stmt.Grant o r who option in
+    let h = rights_opened o r is.0 is.1 in (
+      (command_as gap).pick 5 s ((opening_name h.opening, Some (wanting h.opening)), inr (h.opening, refl), inr (((o, r), (who, option)), (h.fit, (is.2, tt)), refl)),
+      ap (λ (x : List ℕ). g ++ (codes "GRANT " ++ x)) (rights_spelled o r h (to_as.pieces (who, option) (is.2, tt)) ((10 ∷ []) ∷ [])),
+    )
+spelled_so {g} gap (stmt.Revoke o r who) words is =
+    let s = stmt.Revoke o r who in
+    let h = rights_opened o r is.0 is.1 in
+    ((command_as gap).pick 6 s (wanting h.opening, (h.opening, refl), (((o, r), who), (h.fit, is.2), refl)), ap (λ (x : List ℕ). g ++ (codes "REVOKE " ++ x)) (rights_spelled o r h (from_as.pieces who is.2) ((10 ∷ []) ∷ [])))
+spelled_so gap (stmt.GrantRole role m None admin None z) words is = role_spelled_so gap role m None admin None z is _ refl
+spelled_so gap (stmt.GrantRole role m None admin (Some b) z) words is = role_spelled_so gap role m None admin (Some b) z is _ refl
+spelled_so gap (stmt.GrantRole role m (Some c) admin None z) words is = role_spelled_so gap role m (Some c) admin None z is _ refl
+spelled_so gap (stmt.GrantRole role m (Some c) admin (Some b) z) words is = role_spelled_so gap role m (Some c) admin (Some b) z is _ refl
+spelled_so gap (stmt.CopyRows q columns rows) words is = absurd words
+spelled_so gap (stmt.Connect n) words is = absurd words
+
+-- ---- COPY
+
+-- COPY up to its semicolon and the line feed behind it
+abbrev pub copy_head : QName → List (List ℕ) → List ℕ
+copy_head q [] = codes "COPY " ++ (path q ++ codes " FROM stdin;\n")
+copy_head q (n ∷ ns) = codes "COPY " ++ (path q ++ (codes " " ++ (listed (n ∷ ns) ++ codes " FROM stdin;\n")))
+
+pub copy_spelled : {g : List ℕ} (gap : Gap g) (q : QName) (ns : List (List ℕ)) (rows : List ℕ) → IsWritable (stmt.CopyRows q ns rows) → IsSpelled gap (stmt.CopyRows q ns []) (copy_head q ns)
+unfolding command_as
+copy_spelled gap q [] rows is = ((command_as gap).pick 4 (stmt.CopyRows q [] []) ((q, []), (is.0, inr refl), refl), refl)
+copy_spelled gap q (n ∷ ns) rows is = ((command_as gap).pick 4 (stmt.CopyRows q (n ∷ ns) []) ((q, n ∷ ns), (is.0, inl is.1), refl), refl)
+
+pub columns_behind : (p c f r : List ℕ) → p ++ (c ++ (f ++ r)) ≡ (p ++ (c ++ f)) ++ r
+columns_behind p c f r = simp append_assoc
+
+pub copy_is : (q : QName) (ns : List (List ℕ)) (rows : List ℕ) → copy_text q ns rows ≡ copy_head q ns ++ (rows ++ (end_mark ++ newline ∷ []))
+unfolding copy_text
+copy_is q [] rows = ap (λ (x : List ℕ). codes "COPY " ++ x) (sym (append_assoc (path q) (codes " FROM stdin;\n") (rows ++ (end_mark ++ newline ∷ []))))
+copy_is q (n ∷ ns) rows = ap (λ (x : List ℕ). codes "COPY " ++ x) (columns_behind (path q) (codes " " ++ listed (n ∷ ns)) (codes " FROM stdin;\n") (rows ++ (end_mark ++ newline ∷ [])))

@@ -1,4 +1,4 @@
-use Rattle.ddl_laws.proofs.AlterLaws.{constraint_body_laws}
+use Rattle.ddl_laws.proofs.GrammarLaws.{constraint_body_laws}
 use Rattle.ddl_laws.proofs.laws.constraints_have_their_laws.Goals as goal
 
 pub returns : goal.returns

@@ -1,4 +1,4 @@
-use Rattle.ddl_laws.proofs.Made.{read_again}
+use Rattle.ddl_laws.proofs.Respelled.{read_again}
 use Rattle.ddl_laws.proofs.laws.statements_that_were_read_are_read_again.Goals as goal
 
 pub returns : goal.returns
