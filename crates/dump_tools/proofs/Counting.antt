@@ -1,10 +1,10 @@
 -- Counts of faults: how those of the steps make those of the whole, and what they leave as the answer.
-use Rattle.std.proofs.Common.{◌≡◌, ℕ, ◌≤◌, Result, Err, refl, subst, ◌⊎◌, inl, inr, arith}
+use Rattle.std.proofs.Common.{◌≡◌, ℕ, ◌≤◌, Result, Ok, Err, IfErr, refl, subst, ◌⊎◌, inl, inr, arith}
 use Rattle.dump_ports.specs.Faults.{HasRisen, HasNotRisen}
 use Rattle.tool_words.specs.declared.outcome.Outcome.{Outcome}
 use Rattle.tool_words.specs.declared.outcome.Outcome.TheVariants.{Done, Usage, ReadFault, WriteFault, Missing, BadExport, BadScript, OutOfProfile, TooLarge, Differs, Memory}
-use Rattle.tool_words.specs.Answers.{IsLate, CountsRead}
-use Rattle.dump_tools.specs.Due.{Counts, counts, NoneRose, NoneFell, Counted, CountsStep, CountsWrites}
+use Rattle.tool_words.specs.Answers.{CountsRead}
+use Rattle.dump_tools.specs.Due.{Counts, counts, NoneRose, NoneFell, Counted, CountsStep, CountsWrites, IsUnread}
 
 pub alike : (r r' i i' w w' p p' l l' : ℕ) → r' ≡ r → i' ≡ i → w' ≡ w → p' ≡ p → l' ≡ l → counts r' i' w' p' l' ≡ counts r i w p l
 alike r r' i i' w w' p p' l l' a e b d c = rw (a, e, b, d, c) refl
@@ -38,22 +38,27 @@ counted_input X (Differs key) r r' i i' w w' p p' l l' e c a d b = alike r r' i 
 counted_input X Memory r r' i i' w w' p p' l l' e c a d b = alike r r' i i' w w' p p' l l' e c a d b
 
 -- a step that writes files and to standard error
-pub counted_writing : (X : Type 0) (o : Outcome) (r r' i w w' p l l' : ℕ) → IsLate o → r' ≡ r → CountsWrites {X = X} (Err o) w w' l l' → Counted o (counts r i w p l) (counts r' i w' p l')
-counted_writing X Done r r' i w w' p l l' late e c = elim late [ ]
-counted_writing X (Usage word kind) r r' i w w' p l l' late e c = elim late [ ]
+pub counted_writing : (X : Type 0) (o : Outcome) (r r' i w w' p l l' : ℕ) → IsUnread o → r' ≡ r → CountsWrites {X = X} (Err o) w w' l l' → Counted o (counts r i w p l) (counts r' i w' p l')
+counted_writing X Done r r' i w w' p l l' late e c = alike r r' i i w w' p p l l' e refl c.0 refl c.1
+counted_writing X (Usage word kind) r r' i w w' p l l' late e c = alike r r' i i w w' p p l l' e refl c.0 refl c.1
 counted_writing X ReadFault r r' i w w' p l l' late e c = elim late [ ]
 counted_writing X WriteFault r r' i w w' p l l' late e c = (record { reads = omega arith; inputs = omega arith; writes = c.0; prints = omega arith; lines = c.1 }, either c.2)
   where
     either : HasRisen w w' ⊎ HasRisen l l' → HasRisen w w' ⊎ HasRisen p p ⊎ HasRisen l l'
     either (inl h) = inl h
     either (inr h) = inr (inr h)
-counted_writing X (Missing name) r r' i w w' p l l' late e c = elim late [ ]
-counted_writing X (BadExport file line kind) r r' i w w' p l l' late e c = elim late [ ]
-counted_writing X (BadScript fault) r r' i w w' p l l' late e c = elim late [ ]
-counted_writing X (OutOfProfile what) r r' i w w' p l l' late e c = elim late [ ]
-counted_writing X (TooLarge what most) r r' i w w' p l l' late e c = elim late [ ]
-counted_writing X (Differs key) r r' i w w' p l l' late e c = elim late [ ]
+counted_writing X (Missing name) r r' i w w' p l l' late e c = alike r r' i i w w' p p l l' e refl c.0 refl c.1
+counted_writing X (BadExport file line kind) r r' i w w' p l l' late e c = alike r r' i i w w' p p l l' e refl c.0 refl c.1
+counted_writing X (BadScript fault) r r' i w w' p l l' late e c = alike r r' i i w w' p p l l' e refl c.0 refl c.1
+counted_writing X (OutOfProfile what) r r' i w w' p l l' late e c = alike r r' i i w w' p p l l' e refl c.0 refl c.1
+counted_writing X (TooLarge what most) r r' i w w' p l l' late e c = alike r r' i i w w' p p l l' e refl c.0 refl c.1
+counted_writing X (Differs key) r r' i w w' p l l' late e c = alike r r' i i w w' p p l l' e refl c.0 refl c.1
 counted_writing X Memory r r' i w w' p l l' late e c = alike r r' i i w w' p p l l' e refl c.0 refl c.1
+
+-- the same of the step itself
+pub step_writing : {X : Type 0} (o : Result X Outcome) (r r' i w w' p l l' : ℕ) → IfErr o IsUnread → r' ≡ r → CountsWrites o w w' l l' → CountsStep o (counts r i w p l) (counts r' i w' p l')
+step_writing (Ok x) r r' i w w' p l l' unread e c = alike r r' i i w w' p p l l' e refl c.0 refl c.1
+step_writing {X = X} (Err o) r r' i w w' p l l' unread e c = counted_writing X o r r' i w w' p l l' unread e c
 
 -- a step that only prints
 pub counted_printing : (r r' i w w' p p' l : ℕ) → r' ≡ r → w' ≡ w → (p ≤ p') × HasRisen p p' → Counted WriteFault (counts r i w p l) (counts r' i w' p' l)

@@ -1,5 +1,5 @@
 -- What stands once a plan is carried out.
-use Rattle.std.proofs.Common.{◌≡◌, List, [], map, Option, option_map, sym, subst, ◌∙◌}
+use Rattle.std.proofs.Common.{◌≡◌, List, [], map, Option, option_map, Ok, refl, sym, subst, ◌∙◌, inl, inr}
 use Rattle.std.specs.List.Sorted.{IsPermutation}
 use Rattle.dump_ports.specs.Tree.{Tree}
 use Rattle.cat_rows.specs.declared.table.SysTable.TheVariants.{PgNamespace}
@@ -9,7 +9,12 @@ use Rattle.schema_folders.specs.declared.schemas.SchemaRow.{SchemaRow}
 use Rattle.schema_folders.specs.Naming.{boot, named}
 use Rattle.schema_folders.specs.Run.{catalogue_after, Grown}
 use Rattle.schema_folders.specs.Folder.{cells_of_row, folder_saved, schemas_alone, Holds, IsNamespaces}
-use Rattle.dump_tools.specs.Due.{Application, Comes, Applied}
+use Rattle.openings.specs.Openings.{export_named}
+use Rattle.saved_folders.specs.Exports.{WithTexts}
+use Rattle.script_runs.specs.Writing.{IsUnwritten, StandFor}
+use Rattle.tool_words.specs.declared.outcome.Outcome.{Outcome}
+use Rattle.tool_words.specs.declared.outcome.Outcome.TheVariants.{Done, Usage, ReadFault, WriteFault, Missing, BadExport, BadScript, OutOfProfile, TooLarge, Differs, Memory}
+use Rattle.dump_tools.specs.Due.{Application, Comes, Applied, Running, Runs, Leaves, IsAnswerDue}
 use Rattle.schema_folders.proofs.Named.{named-IsPermutation}
 use Rattle.schema_folders.proofs.Standing.{folder_holds}
 
@@ -38,3 +43,23 @@ applied plan schemas text before after g same n save = record {
   saved = save;
   holds = holds plan schemas text n;
 }
+
+-- ---- a script that runs on an opening
+
+-- what it leaves isn't written
+pub unmade_due : (outcome : Outcome) (plan : Running) → IsUnwritten outcome → IsAnswerDue outcome (Ok (Runs plan))
+unmade_due Done plan h = elim h [ ]
+unmade_due (Usage word kind) plan h = elim h [ ]
+unmade_due ReadFault plan h = elim h [ ]
+unmade_due WriteFault plan h = elim h [ ]
+unmade_due (Missing name) plan h = elim h [ ]
+unmade_due (BadExport file line kind) plan h = elim h [ ]
+unmade_due (BadScript fault) plan h = elim h [ ]
+unmade_due (OutOfProfile what) plan h = inr (inr (h, (plan, refl)))
+unmade_due (TooLarge what most) plan h = inr (inr (plan, refl))
+unmade_due (Differs key) plan h = elim h [ ]
+unmade_due Memory plan h = inl tt
+
+-- texts of a folder that stands for what the statements make
+pub leaves : (plan : Running) (made : WithTexts) → StandFor (catalogue_after plan.boot plan.statements (export_named plan.opening)) made → Leaves plan made.texts
+leaves plan made stands = record { export = made.export; same = stands.same; reads = stands.reads }

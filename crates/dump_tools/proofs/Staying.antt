@@ -13,8 +13,10 @@ use Rattle.tool_words.specs.declared.words.Teller.{Teller}
 use Rattle.schema_folders.specs.Folder.{IsElsewhere, all_tables, table_written, table_files, marker_written, files_written}
 use Rattle.saved_folders.specs.Files.{File}
 use Rattle.dump_tools.specs.Outputs.{World, Output, Stores, Writes, Tells, Takes, with_text, performed, all_performed, IsPart, IsCut, CutShort, stores}
-use Rattle.dump_tools.specs.Runs.{Run, IsCompared, MayCome, MayRun}
-use Rattle.dump_tools.specs.Due.{Plan, Applies, Prints, Compares, report_of}
+use Rattle.std.specs.List.{AllByRecursion}
+use Rattle.saved_folders.specs.Folders.{files_of}
+use Rattle.dump_tools.specs.Runs.{Run, IsCompared, MayBeRun, MayCome, MayRun}
+use Rattle.dump_tools.specs.Due.{Plan, Applies, Running, Runs, Prints, Compares, report_of, report_of_run}
 use Rattle.dump_tools.specs.Stays.{IsOther, AreOthers, Keeps, IsSilent, AreSilent, TakesNone, AllTakeNone}
 use Rattle.dump_tools.proofs.Taking.{came}
 
@@ -163,21 +165,23 @@ folder_alone folder namespaces report name e = of all_tables
     of [] = (e.marker, (tt, tt))
     of (table ∷ tables) = (e.table table, of tables)
 
-pub folder_silent : (folder namespaces report : Bytes) → AreSilent (map stores (files_written folder namespaces) ++ Tells report ∷ [])
-folder_silent folder namespaces report = of (files_written folder namespaces)
-  where
-    of : (files : List File) → AreSilent (map stores files ++ Tells report ∷ [])
-    of [] = (tt, tt)
-    of (file ∷ files) = (tt, of files)
+pub stored_silent : (files : List File) (report : Bytes) → AreSilent (map stores files ++ Tells report ∷ [])
+stored_silent [] report = (tt, tt)
+stored_silent (file ∷ files) report = (tt, stored_silent files report)
+
+pub stored_alone : (files : List File) (report name : Bytes) → AllByRecursion (λ file. name ≢ file.name) files → AreOthers name (map stores files ++ Tells report ∷ [])
+stored_alone [] report name apart = (tt, tt)
+stored_alone (file ∷ files) report name apart = (apart.0, stored_alone files report name apart.1)
 
 -- ---- what takes nothing off standard input
 
-folder_none : (folder namespaces report : Bytes) → AllTakeNone (map stores (files_written folder namespaces) ++ Tells report ∷ [])
-folder_none folder namespaces report = of (files_written folder namespaces)
-  where
-    of : (files : List File) → AllTakeNone (map stores files ++ Tells report ∷ [])
-    of [] = (tt, tt)
-    of (file ∷ files) = (tt, of files)
+stored_none : (files : List File) (report : Bytes) → AllTakeNone (map stores files ++ Tells report ∷ [])
+stored_none [] report = (tt, tt)
+stored_none (file ∷ files) report = (tt, stored_none files report)
+
+run_none : (teller : Teller) (plan : Running) (run : Run) → MayBeRun teller plan run → AllTakeNone run.outputs
+run_none teller plan run (inl ran) = subst (λ (r : Run). AllTakeNone r.outputs) (sym ran.is) (stored_none (files_of plan.folder ran.texts) (report_of_run plan))
+run_none teller plan run (inr h) = subst (λ (r : Run). AllTakeNone r.outputs) (sym h.2) (tt, tt)
 
 compared_none : (teller : Teller) (a b : Named) (run : Run) → IsCompared teller a b run → AllTakeNone run.outputs
 compared_none teller a b run (inl h) = subst (λ (r : Run). AllTakeNone r.outputs) (sym h.1) tt
@@ -185,7 +189,8 @@ compared_none teller a b run (inr h) = subst (λ (r : Run). AllTakeNone r.output
 
 pub later_none : (teller : Teller) (due : Result Plan Outcome) (run : Run) → MayCome teller due run → AllTakeNone run.outputs
 later_none teller (Err refusal) run may = subst (λ (r : Run). AllTakeNone r.outputs) (sym may) (tt, tt)
-later_none teller (Ok (Applies plan)) run may = subst (λ (r : Run). AllTakeNone r.outputs) (sym may.is) (folder_none plan.folder may.text (report_of plan))
+later_none teller (Ok (Applies plan)) run may = subst (λ (r : Run). AllTakeNone r.outputs) (sym may.is) (stored_none (files_written plan.folder may.text) (report_of plan))
+later_none teller (Ok (Runs plan)) run may = run_none teller plan run may
 later_none teller (Ok (Prints text)) run may = subst (λ (r : Run). AllTakeNone r.outputs) (sym may) (tt, tt)
 later_none teller (Ok (Compares a b)) run may = compared_none teller a b run may
 

@@ -283,6 +283,11 @@ IsUnmade outcome due = ⊥
 abbrev pub IsAnswerDue : Outcome → Result Plan Outcome → Type 0
 IsAnswerDue outcome due = IsDue outcome due ⊎ IsDifference outcome due ⊎ IsUnmade outcome due
 
+-- an answer that no failed read gives
+abbrev pub IsUnread : Outcome → Type 0
+IsUnread ReadFault = ⊥
+IsUnread outcome = Unit {0}
+
 -- ---- counts of faults
 
 -- the counts of reads of files, of reads of standard input, of writes of files, of writes to standard output and of writes

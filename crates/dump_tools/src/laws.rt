@@ -1,5 +1,7 @@
 //! Laws of the definitions, each the contract of a function that does nothing.
-ghost use Rattle.std.specs.Prelude.{◌≡◌, ◌++◌, ◌∷◌, [], List, None, Result, map, option_map};
+ghost use Rattle.std.specs.List.{AllByRecursion};
+ghost use Rattle.saved_folders.specs.Folders.{Texts, files_of};
+ghost use Rattle.std.specs.Prelude.{◌≡◌, ◌≢◌, ◌++◌, ◌∷◌, [], List, None, Result, map, option_map};
 ghost use Rattle.cat_model.specs.Values.{Bytes};
 ghost use Rattle.schema_folders.specs.Folder.{IsElsewhere, files_written, folder_saved};
 ghost use Rattle.tool_words.specs.Messages.{outcome_line};
@@ -34,6 +36,12 @@ pub fn a_whole_run_is_cut_behind_its_end()
 pub fn a_script_makes_its_folder_alone()
     ensures files { (folder namespaces report name : Bytes) → IsElsewhere folder name → AreOthers name (map stores (files_written folder namespaces) ++ Tells report ∷ []) }
     ensures printed { (folder namespaces report : Bytes) → AreSilent (map stores (files_written folder namespaces) ++ Tells report ∷ []) }
+{}
+
+/// A script that is run on an opening makes the files of its folder and no others, and prints nothing, whatever it reports.
+pub fn a_run_makes_its_folder_alone()
+    ensures files { (folder report name : Bytes) (texts : Texts) → AllByRecursion (λ file. name ≢ file.name) (files_of folder texts) → AreOthers name (map stores (files_of folder texts) ++ Tells report ∷ []) }
+    ensures printed { (folder report : Bytes) (texts : Texts) → AreSilent (map stores (files_of folder texts) ++ Tells report ∷ []) }
 {}
 
 /// After a refusal files, standard input and standard output are as they were, and standard error has grown by its line.

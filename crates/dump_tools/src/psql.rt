@@ -9,7 +9,7 @@ ghost use Rattle.tool_words.specs.Answers.{Gives, CountsRead, IsDue, IsLate, IsR
 ghost use Rattle.tool_words.specs.Words.{is_input};
 ghost use Rattle.schema_folders.specs.Statements.{are_taken};
 ghost use Rattle.openings.specs.Openings.{opened};
-ghost use Rattle.dump_tools.specs.Due.{Applies, Runs, application_of, running_of, plan_of, IsTaken, schemas_for, script_read, running, runs_as, plan_with, plan_for, text_due, psql_due, IsAnswerDue, IsCarriedOut, WasDue, counts, CountsStep, CountsWrites};
+ghost use Rattle.dump_tools.specs.Due.{Applies, Runs, application_of, running_of, plan_of, IsTaken, schemas_for, script_read, running, runs_as, plan_with, plan_for, text_due, psql_due, IsAnswerDue, IsUnread, IsCarriedOut, WasDue, counts, CountsStep, CountsWrites};
 ghost use Rattle.dump_tools.specs.Inputs.{where_read, TellsLeft};
 ghost use Rattle.dump_tools.specs.Outputs.{world};
 ghost use Rattle.dump_tools.specs.Runs.{StepTakes, HasCut};
@@ -24,9 +24,7 @@ use dump_ports::{Files, Sink, Source};
 use exports::{Export, read_export};
 use openings::{Opening, open_export};
 use saved_folders::write_texts;
-use schema_folders::{
-    Schemas, are_taken, bare_schemas, namespaces_text, run_script, write_folder,
-};
+use schema_folders::{Schemas, are_taken, bare_schemas, namespaces_text, run_script, write_folder};
 use script_runs::{boot_role, run_opening};
 use std::alloc::{AllocError, Global};
 use tool_words::{Outcome, ScriptSource};
@@ -117,11 +115,7 @@ fn opening_work(statements: Vec<Located>, opening: Opening) -> Result<Work, Outc
 }
 
 /// The work of a script on an export, whose rows have to meet their tables.
-fn export_work(
-    alloc: Global,
-    statements: Vec<Located>,
-    export: Export,
-) -> Result<Work, Outcome>
+fn export_work(alloc: Global, statements: Vec<Located>, export: Export) -> Result<Work, Outcome>
     ensures due { (folder : Bytes) → Gives (plan_of folder) result (running folder statements.items export) }
     ensures taken { IfOk result IsTaken }
     ensures count { (n : ℕ) → CountsRead result n n }
@@ -192,6 +186,7 @@ fn apply_schemas<F: Files, E: Sink>(
     requires { are_taken work.statements.items ≡ true }
     ensures ok { OnOk result ((printed : Option (List ℕ)) → IsCarriedOut (Applies (application_of folder.now work)) (F.tree files.old) (F.tree files.new) printed printed (E.written err.old) (E.written err.new)) }
     ensures late { IfErr result IsLate }
+    ensures unread { IfErr result IsUnread }
     ensures cut { OnErr result ((teller : Teller) (left printed : Option (List ℕ)) → HasCut None teller (Ok (Applies (application_of folder.now work))) (world (F.tree files.old) left printed (E.written err.old)) (world (F.tree files.new) left printed (E.written err.new))) }
     ensures silent { IfErr result (λ outcome. IsTold outcome → E.written err.new ≡ E.written err.old) }
     ensures read_count { F.read_faults files.new ≡ F.read_faults files.old }
@@ -216,6 +211,7 @@ fn run_script_work<F: Files, E: Sink>(
     work: ScriptWork,
 ) -> Result<(), Outcome>
     ensures ok { OnOk result ((printed : Option (List ℕ)) → IsCarriedOut (Runs (running_of folder.now work)) (F.tree files.old) (F.tree files.new) printed printed (E.written err.old) (E.written err.new)) }
+    ensures unread { IfErr result IsUnread }
     ensures refused { IfErr result (λ outcome. IsAnswerDue outcome (Ok (Runs (running_of folder.now work)))) }
     ensures kept { IfErr result (λ outcome. IsRefusal outcome → F.tree files.new ≡ F.tree files.old) }
     ensures cut { OnErr result ((teller : Teller) (left printed : Option (List ℕ)) → HasCut None teller (Ok (Runs (running_of folder.now work))) (world (F.tree files.old) left printed (E.written err.old)) (world (F.tree files.new) left printed (E.written err.new))) }
@@ -243,6 +239,7 @@ fn carry_out<F: Files, E: Sink>(
 ) -> Result<(), Outcome>
     requires taken { IsTaken work }
     ensures ok { OnOk result ((printed : Option (List ℕ)) → IsCarriedOut (plan_of folder.now work) (F.tree files.old) (F.tree files.new) printed printed (E.written err.old) (E.written err.new)) }
+    ensures unread { IfErr result IsUnread }
     ensures refused { IfErr result (λ outcome. IsAnswerDue outcome (Ok (plan_of folder.now work))) }
     ensures kept { IfErr result (λ outcome. IsRefusal outcome → F.tree files.new ≡ F.tree files.old) }
     ensures cut { OnErr result ((teller : Teller) (left printed : Option (List ℕ)) → HasCut None teller (Ok (plan_of folder.now work)) (world (F.tree files.old) left printed (E.written err.old)) (world (F.tree files.new) left printed (E.written err.new))) }

@@ -1,8 +1,9 @@
 use Rattle.std.proofs.lemmas.Result.{IfOk-weaker, on_err_weaker}
 use Rattle.tool_words.proofs.Lining.{always_err}
 use Rattle.dump_tools.specs.Due.{plan_of}
+use Rattle.dump_tools.proofs.Counting.{step_writing}
 use Rattle.dump_tools.proofs.Putting.{cut_kept, cut_due}
-use Rattle.std.proofs.Common.{None, refl}
+use Rattle.std.proofs.Common.{None, refl, ◌∙◌}
 use Rattle.dump_tools.proofs.psql.apply.Goals as goal
 
 -- nothing was put out before all was read
@@ -26,3 +27,8 @@ returns-clause-cut g c =
     on_err_weaker c.carry_out.result (λ cut teller tree left printed known.
     cut_due teller None None _ _ _ _ refl (c.in_ok-work.ensures.due tree known) (rw c.in_ok-work.ensures.kept at (cut teller left printed)))
     c.carry_out.ensures.cut
+
+pub returns-clause-counted : goal.returns-clause-counted
+returns-clause-counted g c = λ inputs prints.
+    step_writing c.carry_out.result _ _ inputs _ _ prints _ _ c.carry_out.ensures.unread (c.carry_out.ensures.read_count ∙ c.in_ok-work.ensures.read_count)
+    (rw c.in_ok-work.ensures.write_count at c.carry_out.ensures.write_count)

@@ -1,6 +1,5 @@
 use Rattle.std.proofs.Common.{refl}
 use Rattle.std.proofs.lemmas.Result.{on_err_weaker, IfOk-weaker}
-use Rattle.schema_folders.specs.Folder.{files_written}
 use Rattle.dump_tools.specs.Due.{application_of, report_of}
 use Rattle.tool_words.proofs.Lining.{always_err}
 use Rattle.dump_tools.proofs.Ending.{applied}

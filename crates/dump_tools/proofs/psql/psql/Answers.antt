@@ -1,9 +1,8 @@
-use Rattle.std.proofs.Common.{None, Result, refl, sym, subst, ◌∙◌}
+use Rattle.std.proofs.Common.{None, Ok, Result, inl, refl, sym, subst, ◌∙◌}
 use Rattle.std.proofs.lemmas.Result.{IfOk-weaker, IfErr-weaker, on_err_weaker, err_from_is_err_and}
 use Rattle.tool_words.specs.declared.outcome.Outcome.{Outcome}
-use Rattle.tool_words.specs.Answers.{IsDue}
 use Rattle.tool_words.proofs.Lining.{always_err}
-use Rattle.dump_tools.specs.Due.{Plan}
+use Rattle.dump_tools.specs.Due.{Plan, IsAnswerDue}
 use Rattle.dump_tools.proofs.Counting.{step_behind}
 use Rattle.dump_tools.proofs.Putting.{cut_due}
 use Rattle.dump_tools.proofs.Scripting.{psql_read, psql_refused, psql_done}
@@ -19,12 +18,12 @@ returns-in_err-text-clause-cut g c =
 pub returns-in_err-text-clause-refused : goal.returns-in_err-text-clause-refused
 returns-in_err-text-clause-refused g c =
     let p = err_from_is_err_and c.from_residual.result c.from_residual.ensures.1 in
-    rw (p.1, p.2) (λ tree bytes known tells. psql_refused _ c.args.folder.now c.args.script.now tree bytes (c.in_err-text.ensures.due tree bytes known tells))
+    rw (p.1, p.2) (λ tree bytes known tells. inl (psql_refused _ c.args.folder.now c.args.script.now tree bytes (c.in_err-text.ensures.due tree bytes known tells)))
 
 pub returns-clause-refused : goal.returns-clause-refused
 returns-clause-refused g c =
     IfErr-weaker c.apply.result _ _ (λ outcome due tree bytes known tells.
-    subst (λ (d : Result Plan Outcome). IsDue outcome d) (sym (psql_read c.args.folder.now c.args.script.now tree bytes c.in_ok-text.text.items (c.in_ok-text.ensures.due tree bytes known tells)))
+    subst (λ (d : Result Plan Outcome). IsAnswerDue outcome d) (sym (psql_read c.args.folder.now c.args.script.now tree bytes c.in_ok-text.text.items (c.in_ok-text.ensures.due tree bytes known tells)))
     (rw c.deref.ensures.value at (due tree (c.in_ok-text.ensures.kept ∙ known))))
     c.apply.ensures.refused
 
