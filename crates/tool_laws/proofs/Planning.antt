@@ -7,6 +7,7 @@ use Rattle.cat_model.specs.declared.words.What.TheVariants as what
 use Rattle.cat_model.specs.Values.{Bytes}
 use Rattle.cat_names.specs.DataSets.{TextsByOid}
 use Rattle.cat_names.specs.Naming.{boot as boot_role}
+use Rattle.oid_groups.specs.Orders.{by_number}
 use Rattle.table_rows.specs.Tables.{table_oids}
 use Rattle.cat_load.specs.Loads.{rows_fault}
 use Rattle.ddl_read.specs.declared.fault.DdlFault.{DdlFault}
@@ -39,6 +40,7 @@ script_taken text statements e = by (statements_of text) refl e
     kinds : (found : List Located) (b : Bool) → are_taken found ≡ b → cond {A = Result (List Located) Outcome} b (Ok found) (Err (OutOfProfile what.Unbuilt)) ≡ Ok statements → (found ≡ statements) × (are_taken found ≡ true)
     kinds found true is h = (cc, is)
     kinds found false is h = absurd cc
+
     by : (read : Result (List Located) DdlFault) → statements_of text ≡ read → taken_of read ≡ Ok statements → Taken text statements
     by (Err fault) is h = absurd cc
     by (Ok found) is h =
@@ -62,6 +64,7 @@ schemas_are statements cat rows e = by (are_taken statements) e
     found : (r : Result (List SchemaRow) Outcome) → result_ok r ≡ Some rows → r ≡ Ok rows
     found (Ok others) h = let same : others ≡ rows = cc in ap Ok same
     found (Err outcome) h = absurd cc
+
     by : (b : Bool) → cond b (result_ok (opening_in cat)) None ≡ Some rows → opening_in cat ≡ Ok rows
     by true h = found (opening_in cat) h
     by false h = absurd cc
@@ -97,7 +100,7 @@ planned target script second input text statements rows passed reads opened =
 -- ---- a folder of schemas alone is an opening
 
 no_tables : (rows : List SchemaRow) (texts : TextsByOid) → rows_fault (schemas_alone rows) texts ≡ None
-unfolding rows_fault table_oids
+unfolding rows_fault table_oids by_number
 no_tables rows texts = refl
 
 pub taken_in : (folder : Bytes) (tree : Tree) (export : Exported) (rows : List SchemaRow) → export_of folder tree ≡ Ok export → export.cat ≡ schemas_alone rows → opened_folder folder tree ≡ Ok export
