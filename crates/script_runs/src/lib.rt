@@ -8,3 +8,4 @@ mod texts;
 
 pub use boot::boot_role;
 pub use running::{ScriptRun, run_opening};
+pub use texts::named_texts;

@@ -103,7 +103,7 @@ fn checked_texts(
 ///
 /// `TooLarge` where the folder's files would be over a limit of reading; `Memory`; and `OutOfProfile(Unbuilt)` where the
 /// rows that were made for the catalogue don't stand for it, which no case shows.
-pub(crate) fn named_texts(
+pub fn named_texts(
     alloc: Global,
     named: &NamedMap,
     opening: &Catalogue,

@@ -6,7 +6,6 @@
 
 mod answering;
 mod base;
-mod causes;
 mod changes;
 mod checks;
 mod comparing;
@@ -16,6 +15,7 @@ mod named;
 mod running;
 mod selecting;
 mod tools;
+mod written;
 
 use crate::answering::answer_all;
 use os_ports::{OsFiles, OsIn, OsOut};

@@ -1,6 +1,7 @@
 //! Cases of what a catalogue stands for by names.
 use crate::base::Base;
 use crate::comparing::formed;
+use crate::written::put_written;
 use cat_model::{Key, Value};
 use cat_names::DataSet;
 use cat_naming::catalogue_map;
@@ -50,7 +51,7 @@ fn put_checked(
 ) -> Result<(), CheckValuesError> {
     check_values(alloc, cat.rows(), rows)?;
     let named = catalogue_map(alloc, cat.rows(), rows)?;
-    put_entries(alloc, &named, out)?;
+    put_written(alloc, &named, cat.rows(), out)?;
     Ok(())
 }
 

@@ -1,16 +1,20 @@
 //! Cases of scripts that the engine carries out.
+ghost use Rattle.std.specs.Prelude.{◌≡◌, None};
+ghost use Rattle.table_rows.specs.Values.{values_fault};
+
 use crate::base::Base;
-use crate::causes::put_cause;
 use crate::comparing::formed;
-use crate::named::put_entries;
-use cat_engine::Engine;
+use crate::written::put_written;
+use cat_engine::{Engine, prepare};
+use cat_load::{LoadError, LoadFault, load};
+use cat_model::Stmt;
 use cat_names::DataSet;
 use cat_rows::{AuthidRow, Catalogue};
-use checked_export::{ExportError, WholeExport, export_whole};
 use copy_text::Name;
 use ddl_read::{Located, ReadStmtsError, read_stmts};
-use cat_naming::catalogue_map;
+use eng_map::NamedMap;
 use eng_steps::ApplyError;
+use refusals::write_cause;
 use std::alloc::{AllocError, Global};
 use table_rows::{CheckValuesError, check_values};
 use text_cases::put_key;
@@ -21,7 +25,7 @@ use well_formed::WellFormed;
 pub(crate) enum Shown {
     /// What each statement answers, and the keys that are there then.
     Keys,
-    /// The keys with their values that are there then, once all was made into rows and read again.
+    /// The keys with their values that are there then, once all was written to a folder and read again.
     Values,
 }
 
@@ -32,21 +36,89 @@ fn boot_of(roles: &[AuthidRow]) -> Result<Option<Name>, AllocError> {
     }
 }
 
+fn put_load_fault(alloc: Global, fault: &LoadFault, out: &mut Vec<u8>) -> Result<(), AllocError> {
+    out.extend_from_slice(format!(in alloc; "table {}: ", fault.table)?.as_bytes())?;
+    write_cause(&fault.cause, out)
+}
+
+fn put_load_error(alloc: Global, error: &LoadError, out: &mut Vec<u8>) -> Result<(), AllocError> {
+    match error {
+        LoadError::Fault(fault) => put_load_fault(alloc, fault, out),
+        LoadError::Memory => Err(AllocError),
+    }
+}
+
+// Tells why there is no map.
+fn no_map(
+    alloc: Global,
+    error: LoadError,
+    out: &mut Vec<u8>,
+) -> Result<Option<NamedMap>, AllocError> {
+    let put = put_load_error(alloc, &error, out);
+    drop(error);
+    put?;
+    Ok(None)
+}
+
+// The map of the catalogue. Where the rows of a table don't meet it there is none, and that is told.
+fn taken_in(
+    alloc: Global,
+    cat: &WellFormed,
+    rows: &DataSet,
+    out: &mut Vec<u8>,
+) -> Result<Option<NamedMap>, AllocError>
+    requires { values_fault cat.now rows.now ≡ None }
+{
+    match load(alloc, cat, rows) {
+        Ok(named) => Ok(Some(named)),
+        Err(error) => no_map(alloc, error, out),
+    }
+}
+
 fn loaded(
     alloc: Global,
     cat: &WellFormed,
     rows: &DataSet,
     boot: Name,
-) -> Result<Engine, CheckValuesError> {
+    out: &mut Vec<u8>,
+) -> Result<Option<Engine>, CheckValuesError> {
     check_values(alloc, cat.rows(), rows)?;
-    let named = catalogue_map(alloc, cat.rows(), rows)?;
-    Ok(Engine::new(alloc, named, boot))
+    match taken_in(alloc, cat, rows, out)? {
+        Some(named) => Ok(Some(Engine::new(alloc, named, boot))),
+        None => Ok(None),
+    }
 }
 
-fn put_error(alloc: Global, error: &ApplyError, out: &mut Vec<u8>) -> Result<(), AllocError> {
+fn put_error(error: &ApplyError, out: &mut Vec<u8>) -> Result<(), AllocError> {
     match error {
-        ApplyError::Refused(cause) => put_cause(alloc, cause, out),
+        ApplyError::Refused(cause) => write_cause(cause, out),
         ApplyError::Memory => Err(AllocError),
+    }
+}
+
+fn put_answer(answer: Result<(), ApplyError>, out: &mut Vec<u8>) -> Result<(), AllocError> {
+    match answer {
+        Ok(()) => out.extend_from_slice(b"ok"),
+        Err(error) => {
+            let put = put_error(&error, out);
+            drop(error);
+            put
+        }
+    }
+}
+
+// Carries a COPY out whose rows are read ahead, where they read.
+fn copied(alloc: Global, engine: &mut Engine, stmt: &Stmt, text: &[u8]) -> Result<(), ApplyError> {
+    match prepare(alloc, text) {
+        Ok(prepared) => engine.apply_prepared(stmt, prepared),
+        Err(_) => engine.apply(stmt),
+    }
+}
+
+fn carried_out(alloc: Global, engine: &mut Engine, stmt: &Stmt) -> Result<(), ApplyError> {
+    match stmt {
+        Stmt::CopyRows { rows, .. } => copied(alloc, engine, stmt, rows.as_slice()),
+        _ => engine.apply(stmt),
     }
 }
 
@@ -61,10 +133,7 @@ fn put_outcomes(
         if i > 0 {
             out.extend_from_slice(b" / ")?;
         }
-        match engine.apply(&located.stmt) {
-            Ok(()) => out.extend_from_slice(b"ok")?,
-            Err(error) => put_error(alloc, &error, out)?,
-        }
+        put_answer(carried_out(alloc, engine, &located.stmt), out)?;
     }
     Ok(())
 }
@@ -87,25 +156,6 @@ fn put_keys(alloc: Global, engine: &Engine, out: &mut Vec<u8>) -> Result<(), All
     Ok(())
 }
 
-fn put_read_again(alloc: Global, whole: &WholeExport, out: &mut Vec<u8>) -> Result<(), AllocError> {
-    let named = catalogue_map(alloc, whole.catalogue().rows(), whole.rows())?;
-    put_entries(alloc, &named, out)
-}
-
-// The entries of what the engine holds, through the rows that stand for it.
-fn put_written(
-    alloc: Global,
-    engine: &Engine,
-    opening: &Catalogue,
-    out: &mut Vec<u8>,
-) -> Result<(), AllocError> {
-    match export_whole(alloc, engine.named(), opening) {
-        Ok(whole) => put_read_again(alloc, &whole, out),
-        Err(ExportError::NotStanding) => out.extend_from_slice(b"not standing"),
-        Err(ExportError::Memory) => Err(AllocError),
-    }
-}
-
 fn put_run(
     alloc: Global,
     engine: &mut Engine,
@@ -122,7 +172,7 @@ fn put_run(
             out.extend_from_slice(b"; keys: ")?;
             put_keys(alloc, engine, out)
         }
-        Shown::Values => put_written(alloc, engine, opening, out),
+        Shown::Values => put_written(alloc, engine.named(), opening, out),
     }
 }
 
@@ -153,8 +203,9 @@ fn on_catalogue(
     let Some(boot) = boot_of(cat.rows().pg_authid.as_slice())? else {
         return out.extend_from_slice(b"?");
     };
-    match loaded(alloc, cat, &rows, boot) {
-        Ok(mut engine) => with_engine(alloc, &mut engine, cat.rows(), script, shown, out),
+    match loaded(alloc, cat, &rows, boot, out) {
+        Ok(Some(mut engine)) => with_engine(alloc, &mut engine, cat.rows(), script, shown, out),
+        Ok(None) => Ok(()),
         Err(CheckValuesError::Fault(_)) => out.extend_from_slice(b"?"),
         Err(CheckValuesError::Memory) => Err(AllocError),
     }
