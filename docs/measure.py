@@ -1,0 +1,74 @@
+#!/usr/bin/env python3
+"""Measures psql and pg_catcmp on some 200 MB of rows, beside cp -r and cmp of the same files.
+
+    docs/measure.py PROGRAM FOLDER
+
+PROGRAM is the built program (or ./pgtools), FOLDER a folder for what is made, with 1.5 GB of room. Each line tells the
+seconds on the clock, the processor seconds and the most memory in MB of one run; each command is run three times.
+"""
+import os
+import resource
+import shutil
+import subprocess
+import sys
+import time
+
+ROWS = 2_000_000
+
+
+def script(path):
+    """Two tables of 2,000,000 rows each, of some 50 bytes, with a primary key; the second refers to the first."""
+    with open(path, "w") as out:
+        out.write("CREATE TABLE public.a (id integer NOT NULL, name text, note text);\n")
+        out.write("CREATE TABLE public.b (id integer NOT NULL, a integer, name text);\n")
+        out.write("COPY public.a (id, name, note) FROM stdin;\n")
+        for i in range(ROWS):
+            out.write(f"{i}\tname of number {i}\tsome further words {i % 977}\n")
+        out.write("\\.\nCOPY public.b (id, a, name) FROM stdin;\n")
+        for i in range(ROWS):
+            out.write(f"{i}\t{(i * 7) % ROWS}\tname of number {i} in the second table\n")
+        out.write("\\.\n")
+        for table in "ab":
+            out.write(f"ALTER TABLE ONLY public.{table}\n    ADD CONSTRAINT {table}_pkey PRIMARY KEY (id);\n")
+        out.write("ALTER TABLE ONLY public.b\n    ADD CONSTRAINT b_a_fkey FOREIGN KEY (a) REFERENCES public.a(id);\n")
+
+
+def size(folder):
+    return sum(os.path.getsize(os.path.join(at, f)) for at, _, fs in os.walk(folder) for f in fs)
+
+
+def run(label, words, prepare=None):
+    for _ in range(3):
+        if prepare:
+            prepare()
+        pid = os.fork()
+        start = time.time()
+        if pid == 0:
+            os.execvp(words[0], words)
+        _, status, usage = os.wait4(pid, 0)
+        spent = usage.ru_utime + usage.ru_stime
+        print(f"{label}: {time.time() - start:.2f} s, {spent:.2f} s, {usage.ru_maxrss / 1024:.0f} MB, status {os.waitstatus_to_exitcode(status)}", flush=True)
+
+
+def main(program, folder):
+    empty = os.path.join(os.path.dirname(os.path.abspath(__file__)), "..", "examples", "empty")
+    at = {name: os.path.join(folder, name) for name in ("script.sql", "made", "copy")}
+    os.makedirs(folder, exist_ok=True)
+    script(at["script.sql"])
+
+    def fresh(name):
+        shutil.rmtree(at[name], ignore_errors=True)
+
+    def opening():
+        fresh("made")
+        shutil.copytree(empty, at["made"])
+
+    print(f"script: {os.path.getsize(at['script.sql'])} bytes")
+    run("psql", [program, "psql", "-d", at["made"], "-f", at["script.sql"]], opening)
+    print(f"folder: {size(at['made'])} bytes")
+    run("cp -r", ["cp", "-r", at["made"], at["copy"]], lambda: fresh("copy"))
+    run("pg_catcmp", [program, "pg_catcmp", at["made"], at["copy"]])
+    run("cmp", ["sh", "-c", f"for f in {at['made']}/data/*; do cmp $f {at['copy']}/data/$(basename $f); done"])
+
+
+main(sys.argv[1], sys.argv[2])
