@@ -41,10 +41,6 @@ abbrev is_shut : Spot → Bool
 is_shut Shut = true
 is_shut _ = false
 
-abbrev is_later : Spot → Bool
-is_later LaterNot = true
-is_later _ = false
-
 -- a property of what a step leads to
 passed : (P : Nest → Type 0) (y x : Nest) → Some y ≡ Some x → P y → P x
 passed P y x e h = let same : y ≡ x = cc in subst P same h
@@ -78,50 +74,47 @@ step_more s x t e = by s.brackets e
     by [] f = outside_more s.spot t.kind (ends_run true t) (is_word (codes "not") t) (is_word (codes "null") t) x f
     by (b ∷ bs) f = f
 
-run_more : (s last : Nest) (ts : List Lexeme) → run (nested true false) (Some s) ts ≡ Some last → run (nested true true) (Some s) ts ≡ Some last
-run_more s last [] e = e
-run_more s last (t ∷ ts) e = by (nest_step true false s t) refl (λ x f. run_more x last ts f) e
+-- what a step is: one of the machine that doesn't take NOT NULL, which is never behind it, and behind a later NOT by that
+-- word alone; or where it is taken, NULL behind a later NOT
+abbrev Goes : (Nest → Type 0) → Bool → Bool → Bool → Nest → Type 0
+Goes Other is_not done shut x = Other x × (is_shut x.spot ≡ false) × (x.spot ≡ LaterNot → (is_not ≡ true) × (done ≡ true) × (shut ≡ false))
+
+abbrev Ends : Bool → Bool → Spot → Nest → Type 0
+Ends takes is_null spot x = (takes ≡ true) × (is_null ≡ true) × (spot ≡ LaterNot) × (x ≡ nest [] Shut)
+
+outside_goes : (takes : Bool) (spot : Spot) (kind : TokenKind) (ends is_not is_null : Bool) (x : Nest) → outside takes spot kind ends is_not is_null ≡ Some x
+    → Goes (λ y. outside false spot kind ends is_not is_null ≡ Some y) is_not (is_inside spot []) (is_shut spot) x ⊎ Ends takes is_null spot x
+outside_goes takes spot kind true is_not is_null x e = absurd cc
+outside_goes takes First kind false true is_null x e = inl (passed (Goes (λ y. outside false First kind false true is_null ≡ Some y) true false false) (nest [] FirstNot) x e (refl, refl, λ f. absurd cc))
+outside_goes takes Shut kind false true is_null x e = absurd cc
+outside_goes takes spot kind false true is_null x e = inl (passed (Goes (λ y. outside false spot kind false true is_null ≡ Some y) true (is_inside spot []) (is_shut spot)) (nest [] LaterNot) x e (refl, refl, λ f. (refl, refl, refl)))
+outside_goes takes FirstNot kind false false true x e = absurd cc
+outside_goes takes Shut kind false false true x e = absurd cc
+outside_goes true LaterNot kind false false true x e = inr (passed (Ends true true LaterNot) (nest [] Shut) x e (refl, refl, refl, refl))
+outside_goes false LaterNot kind false false true x e = absurd cc
+outside_goes takes spot kind false false true x e = inl (passed (Goes (λ y. outside false spot kind false false true ≡ Some y) false (is_inside spot []) (is_shut spot)) (nest [] Inside) x e (refl, refl, λ f. absurd cc))
+outside_goes takes spot kind false false false x e = let inside = other_inside kind spot x e in inl (e, ap is_shut inside, λ f. absurd (cc (inside, f)))
+
+step_goes : (takes : Bool) (s x : Nest) (t : Lexeme) → nest_step true takes s t ≡ Some x → Goes (λ y. nest_step true false s t ≡ Some y) (is_word (codes "not") t) (nest_done s) (is_shut s.spot) x ⊎ Ends takes (is_word (codes "null") t) s.spot x
+unfolding nest_step nest_done
+step_goes takes s x t e = by s.brackets e
   where
-    by : (next : Option Nest) → nest_step true false s t ≡ next → ((x : Nest) → run (nested true false) (Some x) ts ≡ Some last → run (nested true true) (Some x) ts ≡ Some last)
-        → run (nested true false) next ts ≡ Some last → run (nested true true) (Some s) (t ∷ ts) ≡ Some last
-    by None is later f = absurd (not_some last (run (nested true false) None ts) f (run_none (nested true false) ts))
-    by (Some x) is later f = ap (λ o. run (nested true true) o ts) (step_more s x t is) ∙ later x f
-
--- where NOT NULL isn't taken, no run is behind it
-null_open : (spot : Spot) (x : Nest) → behind_null false spot ≡ Some x → is_shut x.spot ≡ false
-null_open First x e = passed (λ y. is_shut y.spot ≡ false) (nest [] Inside) x e refl
-null_open FirstNot x e = absurd cc
-null_open Inside x e = passed (λ y. is_shut y.spot ≡ false) (nest [] Inside) x e refl
-null_open y x e = absurd cc
-
-not_open : (spot : Spot) (x : Nest) → behind_not spot ≡ Some x → is_shut x.spot ≡ false
-not_open First x e = passed (λ y. is_shut y.spot ≡ false) (nest [] FirstNot) x e refl
-not_open FirstNot x e = passed (λ y. is_shut y.spot ≡ false) (nest [] LaterNot) x e refl
-not_open Shut x e = absurd cc
-not_open w x e = passed (λ y. is_shut y.spot ≡ false) (nest [] LaterNot) x e refl
-
-outside_open : (spot : Spot) (kind : TokenKind) (ends is_not is_null : Bool) (x : Nest) → outside false spot kind ends is_not is_null ≡ Some x → is_shut x.spot ≡ false
-outside_open spot kind true is_not is_null x e = absurd cc
-outside_open spot kind false true is_null x e = not_open spot x e
-outside_open spot kind false false true x e = null_open spot x e
-outside_open spot kind false false false x e = ap is_shut (other_inside kind spot x e)
+    by : (bs : List Bracket) → step_by true takes s.spot t bs ≡ Some x → Goes (λ y. step_by true false s.spot t bs ≡ Some y) (is_word (codes "not") t) (is_inside s.spot bs) (is_shut s.spot) x ⊎ Ends takes (is_word (codes "null") t) s.spot x
+    by [] f = outside_goes takes s.spot t.kind (ends_run true t) (is_word (codes "not") t) (is_word (codes "null") t) x f
+    by (b ∷ bs) f = let inside = moved_inside (behind_kind t.kind (b ∷ bs)) x f in inl (f, ap is_shut inside, λ g. absurd (cc (inside, g)))
 
 step_open : (s x : Nest) (t : Lexeme) → nest_step true false s t ≡ Some x → is_shut x.spot ≡ false
-unfolding nest_step
-step_open s x t e = by s.brackets e
-  where
-    by : (bs : List Bracket) → step_by true false s.spot t bs ≡ Some x → is_shut x.spot ≡ false
-    by [] f = outside_open s.spot t.kind (ends_run true t) (is_word (codes "not") t) (is_word (codes "null") t) x f
-    by (b ∷ bs) f = ap is_shut (moved_inside (behind_kind t.kind (b ∷ bs)) x f)
+step_open s x t e = elim (step_goes false s x t e) [ inl g ↦ g.1 | inr c ↦ absurd cc c.0 ]
 
-run_open : (s last : Nest) (ts : List Lexeme) → is_shut s.spot ≡ false → run (nested true false) (Some s) ts ≡ Some last → is_shut last.spot ≡ false
-run_open s last [] free e = passed (λ y. is_shut y.spot ≡ false) s last e free
-run_open s last (t ∷ ts) free e = by (nest_step true false s t) refl (λ x is f. run_open x last ts is f) e
+-- where NOT NULL isn't taken, a run goes as where it is, and is never behind it
+run_more : (s last : Nest) (ts : List Lexeme) → is_shut s.spot ≡ false → run (nested true false) (Some s) ts ≡ Some last → (run (nested true true) (Some s) ts ≡ Some last) × (is_shut last.spot ≡ false)
+run_more s last [] free e = (e, passed (λ y. is_shut y.spot ≡ false) s last e free)
+run_more s last (t ∷ ts) free e = by (nest_step true false s t) refl (λ x is f. run_more x last ts is f) e
   where
-    by : (next : Option Nest) → nest_step true false s t ≡ next → ((x : Nest) → is_shut x.spot ≡ false → run (nested true false) (Some x) ts ≡ Some last → is_shut last.spot ≡ false)
-        → run (nested true false) next ts ≡ Some last → is_shut last.spot ≡ false
+    by : (next : Option Nest) → nest_step true false s t ≡ next → ((x : Nest) → is_shut x.spot ≡ false → run (nested true false) (Some x) ts ≡ Some last → (run (nested true true) (Some x) ts ≡ Some last) × (is_shut last.spot ≡ false))
+        → run (nested true false) next ts ≡ Some last → (run (nested true true) (Some s) (t ∷ ts) ≡ Some last) × (is_shut last.spot ≡ false)
     by None is later f = absurd (not_some last (run (nested true false) None ts) f (run_none (nested true false) ts))
-    by (Some x) is later f = later x (step_open s x t is) f
+    by (Some x) is later f = let h = later x (step_open s x t is) f in (ap (λ o. run (nested true true) o ts) (step_more s x t is) ∙ h.0, h.1)
 
 -- ---- NOT and NULL
 
@@ -264,12 +257,12 @@ shut_is_done = refl
 
 runs_with_null : (ts : List Lexeme) (at : ℕ) → Runs (nested true false) ts → Runs (nested true true) (ts ++ placed at not_null)
 runs_with_null ts at r =
-    let free = run_open (nested true false).start r.last ts refl r.runs in
+    let more = run_more (nested true false).start r.last ts refl r.runs in
     record {
       last = nest [] Shut;
       runs = run-append (nested true true) (Some (nested true true).start) ts (placed at not_null)
-          ∙ ap (λ o. run (nested true true) o (placed at not_null)) (run_more (nested true false).start r.last ts r.runs)
-          ∙ nulls_taken r.last.spot r.last.brackets at r.done free;
+          ∙ ap (λ o. run (nested true true) o (placed at not_null)) more.0
+          ∙ nulls_taken r.last.spot r.last.brackets at r.done more.1;
       done = shut_is_done;
     }
 
@@ -281,7 +274,7 @@ alone_spells : (v : List ℕ) (ts : List Lexeme) → source ts ≡ v → Runs (n
 unfolding default_and_null
 alone_spells v ts whole r =
     let no_null : Bool = false in
-    (ts, sym (without_nulls ts (no_nulls ts r) ∙ ap (λ (x : List ℕ). (x, no_null)) whole), (refl, record { last = r.last; runs = run_more (nested true false).start r.last ts r.runs; done = r.done }))
+    (ts, sym (without_nulls ts (no_nulls ts r) ∙ ap (λ (x : List ℕ). (x, no_null)) whole), (refl, record { last = r.last; runs = (run_more (nested true false).start r.last ts refl r.runs).0; done = r.done }))
 
 null_spells : (v : List ℕ) (ts : List Lexeme) (at : ℕ) → source ts ≡ v → Runs (nested true false) ts → default_and_null.Spells (v, true) (ts ++ placed at not_null)
 unfolding default_and_null
@@ -308,41 +301,6 @@ default_put v true others is follows e =
 
 -- ---- a default that was read
 
--- a step on which NOT NULL is complete
-record Completes (s x : Nest) (t : Lexeme) : Type 0 where
-  null : is_word (codes "null") t ≡ true
-  spot : s.spot ≡ LaterNot
-  flat : s.brackets ≡ []
-  shut : x ≡ nest [] Shut
-
-null_less : (spot : Spot) (x : Nest) → behind_null true spot ≡ Some x → (behind_null false spot ≡ Some x) ⊎ ((spot ≡ LaterNot) × (x ≡ nest [] Shut))
-null_less First x e = inl e
-null_less LaterNot x e = inr (refl, passed (λ y. y ≡ nest [] Shut) (nest [] Shut) x e refl)
-null_less y x e = inl e
-
-outside_less : (spot : Spot) (kind : TokenKind) (ends is_not is_null : Bool) (x : Nest) → outside true spot kind ends is_not is_null ≡ Some x
-    → (outside false spot kind ends is_not is_null ≡ Some x) ⊎ ((is_null ≡ true) × ((spot ≡ LaterNot) × (x ≡ nest [] Shut)))
-outside_less spot kind true is_not is_null x e = inl e
-outside_less spot kind false true is_null x e = inl e
-outside_less spot kind false false true x e = by (null_less spot x e)
-  where
-    by : (behind_null false spot ≡ Some x) ⊎ ((spot ≡ LaterNot) × (x ≡ nest [] Shut)) → (behind_null false spot ≡ Some x) ⊎ ((true ≡ true) × ((spot ≡ LaterNot) × (x ≡ nest [] Shut)))
-    by (inl f) = inl f
-    by (inr h) = inr (refl, h)
-outside_less spot kind false false false x e = inl e
-
-step_less : (s x : Nest) (t : Lexeme) → nest_step true true s t ≡ Some x → (nest_step true false s t ≡ Some x) ⊎ Completes s x t
-unfolding nest_step
-step_less s x t e = by s.brackets refl e
-  where
-    by_outside : s.brackets ≡ [] → (step_by true false s.spot t [] ≡ Some x) ⊎ ((is_word (codes "null") t ≡ true) × ((s.spot ≡ LaterNot) × (x ≡ nest [] Shut))) → (step_by true false s.spot t s.brackets ≡ Some x) ⊎ Completes s x t
-    by_outside flat (inl f) = inl (ap (step_by true false s.spot t) flat ∙ f)
-    by_outside flat (inr h) = inr (record { null = h.0; spot = h.1.0; flat = flat; shut = h.1.1 })
-
-    by : (bs : List Bracket) → s.brackets ≡ bs → step_by true true s.spot t s.brackets ≡ Some x → (step_by true false s.spot t s.brackets ≡ Some x) ⊎ Completes s x t
-    by [] flat f = by_outside flat (outside_less s.spot t.kind (ends_run true t) (is_word (codes "not") t) (is_word (codes "null") t) x (ap (step_by true true s.spot t) (sym flat) ∙ f))
-    by (b ∷ bs) is f = inl (ap (step_by true false s.spot t) is ∙ (ap (step_by true true s.spot t) (sym is) ∙ f))
-
 -- nothing follows NOT NULL
 shut_outside : (kind : TokenKind) (ends is_not is_null : Bool) → outside true Shut kind ends is_not is_null ≡ None
 shut_outside kind true is_not is_null = refl
@@ -350,118 +308,26 @@ shut_outside kind false true is_null = refl
 shut_outside kind false false true = refl
 shut_outside kind false false false = refl
 
-shut_ends : (last : Nest) (ts : List Lexeme) → run (nested true true) (Some (nest [] Shut)) ts ≡ Some last → ts ≡ []
+stays_shut : (last : Nest) (ts : List Lexeme) → run (nested true true) (Some (nest [] Shut)) ts ≡ Some last → is_shut last.spot ≡ true
 unfolding nest_step
-shut_ends last [] e = refl
-shut_ends last (t ∷ ts) e =
+stays_shut last [] e = passed (λ y. is_shut y.spot ≡ true) (nest [] Shut) last e refl
+stays_shut last (t ∷ ts) e =
     let none = shut_outside t.kind (ends_run true t) (is_word (codes "not") t) (is_word (codes "null") t) in
     absurd (not_some last (run (nested true true) (nest_step true true (nest [] Shut) t) ts) e (ap (λ o. run (nested true true) o ts) none ∙ run_none (nested true true) ts))
 
--- a run up to a last NULL that completes NOT NULL
-record EndsInNull (s : Nest) (ts : List Lexeme) : Type 0 where
-  front : List Lexeme
-  word : Lexeme
-  parts : ts ≡ front ++ word ∷ []
-  null : is_word (codes "null") word ≡ true
-  last : Nest
-  runs : run (nested true false) (Some s) front ≡ Some last
-  spot : last.spot ≡ LaterNot
-
-run_less : (s last : Nest) (ts : List Lexeme) → run (nested true true) (Some s) ts ≡ Some last → (run (nested true false) (Some s) ts ≡ Some last) ⊎ EndsInNull s ts
-run_less s last [] e = inl e
-run_less s last (t ∷ ts) e = by_next (nest_step true true s t) refl (λ x f. run_less x last ts f) e
+-- a run that isn't behind NOT NULL is one of the machine that doesn't take it
+run_less : (s last : Nest) (ts : List Lexeme) → run (nested true true) (Some s) ts ≡ Some last → is_shut last.spot ≡ false → run (nested true false) (Some s) ts ≡ Some last
+run_less s last [] e free = e
+run_less s last (t ∷ ts) e free = by_next (nest_step true true s t) refl (λ x f. run_less x last ts f free) e
   where
-    by_later : (x : Nest) → nest_step true false s t ≡ Some x → (run (nested true false) (Some x) ts ≡ Some last) ⊎ EndsInNull x ts → (run (nested true false) (Some s) (t ∷ ts) ≡ Some last) ⊎ EndsInNull s (t ∷ ts)
-    by_later x is (inl f) = inl (ap (λ o. run (nested true false) o ts) is ∙ f)
-    by_later x is (inr h) = inr (record {
-      front = t ∷ h.front;
-      word = h.word;
-      parts = ap (λ (us : List Lexeme). t ∷ us) h.parts;
-      null = h.null;
-      last = h.last;
-      runs = ap (λ o. run (nested true false) o h.front) is ∙ h.runs;
-      spot = h.spot;
-    })
+    by_step : (x : Nest) → (run (nested true true) (Some x) ts ≡ Some last → run (nested true false) (Some x) ts ≡ Some last) → run (nested true true) (Some x) ts ≡ Some last
+        → Goes (λ y. nest_step true false s t ≡ Some y) (is_word (codes "not") t) (nest_done s) (is_shut s.spot) x ⊎ Ends true (is_word (codes "null") t) s.spot x → run (nested true false) (Some s) (t ∷ ts) ≡ Some last
+    by_step x later f (inl g) = ap (λ o. run (nested true false) o ts) g.0 ∙ later f
+    by_step x later f (inr c) = let shut = stays_shut last ts (subst (λ y. run (nested true true) (Some y) ts ≡ Some last) c.3 f) in absurd (cc (shut, free))
 
-    by_step : (x : Nest) → ((x : Nest) → run (nested true true) (Some x) ts ≡ Some last → (run (nested true false) (Some x) ts ≡ Some last) ⊎ EndsInNull x ts)
-        → run (nested true true) (Some x) ts ≡ Some last → (nest_step true false s t ≡ Some x) ⊎ Completes s x t → (run (nested true false) (Some s) (t ∷ ts) ≡ Some last) ⊎ EndsInNull s (t ∷ ts)
-    by_step x later f (inl is) = by_later x is (later x f)
-    by_step x later f (inr c) =
-        let nothing = shut_ends last ts (subst (λ y. run (nested true true) (Some y) ts ≡ Some last) c.shut f) in
-        inr (record { front = []; word = t; parts = ap (λ (us : List Lexeme). t ∷ us) nothing; null = c.null; last = s; runs = refl; spot = c.spot })
-
-    by_next : (next : Option Nest) → nest_step true true s t ≡ next → ((x : Nest) → run (nested true true) (Some x) ts ≡ Some last → (run (nested true false) (Some x) ts ≡ Some last) ⊎ EndsInNull x ts)
-        → run (nested true true) next ts ≡ Some last → (run (nested true false) (Some s) (t ∷ ts) ≡ Some last) ⊎ EndsInNull s (t ∷ ts)
+    by_next : (next : Option Nest) → nest_step true true s t ≡ next → ((x : Nest) → run (nested true true) (Some x) ts ≡ Some last → run (nested true false) (Some x) ts ≡ Some last) → run (nested true true) next ts ≡ Some last → run (nested true false) (Some s) (t ∷ ts) ≡ Some last
     by_next None is later f = absurd (not_some last (run (nested true true) None ts) f (run_none (nested true true) ts))
-    by_next (Some x) is later f = by_step x later f (step_less s x t is)
-
--- a step to behind a later NOT
-record IsLaterNot (s : Nest) (t : Lexeme) : Type 0 where
-  word : is_word (codes "not") t ≡ true
-  done : nest_done s ≡ true
-
-inside_no_later : (x : Nest) → x.spot ≡ Inside → x.spot ≡ LaterNot → ⊥
-inside_no_later x e f = absurd (cc (e, f))
-
-later_flat : (spot : Spot) (x : Nest) → behind_not spot ≡ Some x → x.spot ≡ LaterNot → is_inside spot [] ≡ true
-later_flat First x e f = let g = passed (λ y. y.spot ≡ FirstNot) (nest [] FirstNot) x e refl in absurd (cc (f, g))
-later_flat FirstNot x e f = refl
-later_flat y x e f = refl
-
-null_no_later : (spot : Spot) (x : Nest) → behind_null false spot ≡ Some x → x.spot ≡ LaterNot → ⊥
-null_no_later First x e f = inside_no_later x (passed (λ y. y.spot ≡ Inside) (nest [] Inside) x e refl) f
-null_no_later FirstNot x e f = absurd cc
-null_no_later Inside x e f = inside_no_later x (passed (λ y. y.spot ≡ Inside) (nest [] Inside) x e refl) f
-null_no_later y x e f = absurd cc
-
-outside_later : (spot : Spot) (kind : TokenKind) (ends is_not is_null : Bool) (x : Nest) → outside false spot kind ends is_not is_null ≡ Some x → x.spot ≡ LaterNot → (is_not ≡ true) × (is_inside spot [] ≡ true)
-outside_later spot kind true is_not is_null x e f = absurd cc
-outside_later spot kind false true is_null x e f = (refl, later_flat spot x e f)
-outside_later spot kind false false true x e f = absurd (null_no_later spot x e f)
-outside_later spot kind false false false x e f = absurd (inside_no_later x (other_inside kind spot x e) f)
-
-step_later : (s x : Nest) (t : Lexeme) → nest_step true false s t ≡ Some x → x.spot ≡ LaterNot → IsLaterNot s t
-unfolding nest_step nest_done
-step_later s x t e spot = by s.brackets refl
-  where
-    by : (bs : List Bracket) → s.brackets ≡ bs → IsLaterNot s t
-    by [] flat =
-        let h = outside_later s.spot t.kind (ends_run true t) (is_word (codes "not") t) (is_word (codes "null") t) x (ap (step_by true false s.spot t) (sym flat) ∙ e) spot in
-        record { word = h.0; done = ap (is_inside s.spot) flat ∙ h.1 }
-    by (b ∷ bs) is = absurd (inside_no_later x (moved_inside (behind_kind t.kind (b ∷ bs)) x (ap (step_by true false s.spot t) (sym is) ∙ e)) spot)
-
--- a run up to a last NOT that isn't its first token
-record EndsInNot (s : Nest) (ts : List Lexeme) : Type 0 where
-  front : List Lexeme
-  word : Lexeme
-  parts : ts ≡ front ++ word ∷ []
-  is : is_word (codes "not") word ≡ true
-  last : Nest
-  runs : run (nested true false) (Some s) front ≡ Some last
-  done : nest_done last ≡ true
-
-run_later : (s last : Nest) (ts : List Lexeme) → run (nested true false) (Some s) ts ≡ Some last → last.spot ≡ LaterNot → ((ts ≡ []) × (s.spot ≡ LaterNot)) ⊎ EndsInNot s ts
-run_later s last [] e spot = inl (refl, passed (λ y. y.spot ≡ LaterNot) last s (sym e) spot)
-run_later s last (t ∷ ts) e spot = inr (by_next (nest_step true false s t) refl (λ x f. run_later x last ts f spot) e)
-  where
-    by_later : (x : Nest) → nest_step true false s t ≡ Some x → ((ts ≡ []) × (x.spot ≡ LaterNot)) ⊎ EndsInNot x ts → EndsInNot s (t ∷ ts)
-    by_later x is (inl h) =
-        let n = step_later s x t is h.1 in
-        record { front = []; word = t; parts = ap (λ (us : List Lexeme). t ∷ us) h.0; is = n.word; last = s; runs = refl; done = n.done }
-    by_later x is (inr h) = record {
-      front = t ∷ h.front;
-      word = h.word;
-      parts = ap (λ (us : List Lexeme). t ∷ us) h.parts;
-      is = h.is;
-      last = h.last;
-      runs = ap (λ o. run (nested true false) o h.front) is ∙ h.runs;
-      done = h.done;
-    }
-
-    by_next : (next : Option Nest) → nest_step true false s t ≡ next → ((x : Nest) → run (nested true false) (Some x) ts ≡ Some last → ((ts ≡ []) × (x.spot ≡ LaterNot)) ⊎ EndsInNot x ts)
-        → run (nested true false) next ts ≡ Some last → EndsInNot s (t ∷ ts)
-    by_next None is later f = absurd (not_some last (run (nested true false) None ts) f (run_none (nested true false) ts))
-    by_next (Some x) is later f = by_later x is (later x f)
+    by_next (Some x) is later f = by_step x (later x) f (step_goes true s x t is)
 
 -- a default, and whether NOT NULL follows it
 record IsDefaultRead (ts : List Lexeme) : Type 0 where
@@ -471,27 +337,47 @@ record IsDefaultRead (ts : List Lexeme) : Type 0 where
   text : (without_not_null ts).0 ≡ source front
   runs : Runs (nested true false) front
 
-default_read : (ts : List Lexeme) → Runs (nested true true) ts → IsDefaultRead ts
-default_read ts r = by (run_less (nested true true).start r.last ts r.runs)
+-- the last two tokens of a run that is behind NOT NULL
+nulls_read : (front : List Lexeme) (a b : Lexeme) (r : Runs (nested true true) (front ++ a ∷ b ∷ [])) → is_shut r.last.spot ≡ true → IsDefaultRead (front ++ a ∷ b ∷ [])
+nulls_read front a b r shut = by_front (run (nested true true) (Some (nested true true).start) front) refl (sym (run-append (nested true true) (Some (nested true true).start) front (a ∷ b ∷ [])) ∙ r.runs)
   where
-    by_front : (h : EndsInNull (nested true true).start ts) → ((h.front ≡ []) × (First ≡ LaterNot)) ⊎ EndsInNot (nested true false).start h.front → IsDefaultRead ts
-    by_front h (inl f) = absurd (cc f.1)
-    by_front h (inr k) =
-        let nulls = k.word ∷ h.word ∷ [] in
-        let parts : ts ≡ k.front ++ nulls = h.parts ∙ ap (λ (us : List Lexeme). us ++ h.word ∷ []) k.parts ∙ append_assoc k.front (k.word ∷ []) (h.word ∷ []) in
+    by_words : (s y : Nest) → run (nested true true) (Some (nested true true).start) front ≡ Some s → Goes (λ z. nest_step true false s a ≡ Some z) (is_word (codes "not") a) (nest_done s) (is_shut s.spot) y ⊎ Ends true (is_word (codes "null") a) s.spot y
+        → Goes (λ z. nest_step true false y b ≡ Some z) (is_word (codes "not") b) (nest_done y) (is_shut y.spot) r.last ⊎ Ends true (is_word (codes "null") b) y.spot r.last → IsDefaultRead (front ++ a ∷ b ∷ [])
+    by_words s y e g (inl h) = absurd (cc (h.1, shut))
+    by_words s y e (inr g) (inr h) = absurd (cc (ap (λ (x : Nest). x.spot) g.3, h.2))
+    by_words s y e (inl g) (inr h) =
+        let later = g.2 h.2 in
         record {
-          front = k.front;
-          behind = nulls;
-          parts = parts;
-          text = ap (λ (us : List Lexeme). (without_not_null us).0) parts ∙ ap (λ (x : List ℕ × Bool). x.0) (with_nulls k.front k.word h.word (and_from (is_word (codes "not") k.word) (is_word (codes "null") h.word) k.is h.null));
-          runs = record { last = k.last; runs = k.runs; done = k.done };
+          front = front;
+          behind = a ∷ b ∷ [];
+          parts = refl;
+          text = ap (λ (x : List ℕ × Bool). x.0) (with_nulls front a b (and_from (is_word (codes "not") a) (is_word (codes "null") b) later.0 h.1));
+          runs = record { last = s; runs = run_less (nested true true).start s front e later.2; done = later.1 };
         }
 
-    by : (run (nested true false) (Some (nested true false).start) ts ≡ Some r.last) ⊎ EndsInNull (nested true true).start ts → IsDefaultRead ts
-    by (inl f) =
-        let runs : Runs (nested true false) ts = record { last = r.last; runs = f; done = r.done } in
+    by_step : (s : Nest) → run (nested true true) (Some (nested true true).start) front ≡ Some s → (y : Option Nest) → nest_step true true s a ≡ y → option_and_then (λ x. nest_step true true x b) y ≡ Some r.last → IsDefaultRead (front ++ a ∷ b ∷ [])
+    by_step s e None is f = absurd cc
+    by_step s e (Some y) is f = by_words s y e (step_goes true s y a is) (step_goes true y r.last b f)
+
+    by_front : (o : Option Nest) → run (nested true true) (Some (nested true true).start) front ≡ o → run (nested true true) o (a ∷ b ∷ []) ≡ Some r.last → IsDefaultRead (front ++ a ∷ b ∷ [])
+    by_front None is f = absurd cc
+    by_front (Some s) is f = by_step s is (nest_step true true s a) refl f
+
+default_read : (ts : List Lexeme) → Runs (nested true true) ts → IsDefaultRead ts
+default_read ts r = by (is_shut r.last.spot) refl
+  where
+    by_tokens : (us : List Lexeme) (q : Runs (nested true true) us) → is_shut q.last.spot ≡ true → IsDefaultRead us
+    by_tokens [] q shut = let same : nest [] First ≡ q.last = cc q.runs in absurd (cc (ap (λ (x : Nest). is_shut x.spot) same, shut))
+    by_tokens (t ∷ []) q shut = elim (step_goes true (nest [] First) q.last t q.runs) [ inl g ↦ absurd (cc (g.1, shut)) | inr c ↦ absurd cc c.2 ]
+    by_tokens (t ∷ u ∷ us) q shut =
+        let h = two_at_least t u us in
+        subst IsDefaultRead (sym h.parts) (nulls_read h.front h.a h.b (record { last = q.last; runs = subst (λ (x : List Lexeme). run (nested true true) (Some (nested true true).start) x ≡ Some q.last) h.parts q.runs; done = q.done }) shut)
+
+    by : (b : Bool) → is_shut r.last.spot ≡ b → IsDefaultRead ts
+    by true is = by_tokens ts r is
+    by false is =
+        let runs : Runs (nested true false) ts = record { last = r.last; runs = run_less (nested true true).start r.last ts r.runs is; done = r.done } in
         record { front = ts; behind = []; parts = sym (append-nil ts); text = ap (λ (x : List ℕ × Bool). x.0) (without_nulls ts (no_nulls ts runs)); runs = runs }
-    by (inr h) = by_front h (run_later (nested true false).start h.last h.front h.runs h.spot)
 
 -- what tokens of a text spell is a default's text, whether NOT NULL follows or not
 pub default_and_null_is_read : (x : List ℕ × Bool) (ts : List Lexeme) (r : List ℕ) → AllCame ts r → default_and_null.Spells x ts → IsDefaultText x.0

@@ -292,39 +292,34 @@ then_as {p = p} {q = q} a b e = record {
   closes = λ e. then_closes p q (b.closes e);
 }
 
+-- a value written as one of another part, which the same tokens spell
+abbrev pub carry_as : {A B : Type 0} → {p : Part A} → (w : Written p) → (q : Part B) → (Fit Is : B → Type 0) → (value : (x : B) → Fit x → (y : A) × w.Fit y) → ((x : B) (fit : Fit x) (ts : List Lexeme) → p.Spells (value x fit).0 ts → q.Spells x ts)
+    → ((x : B) (ts : List Lexeme) → q.Spells x ts → (y : A) × p.Spells y ts × (w.Is y → Is x)) → Written q
+carry_as {p = p} w q Fit Is value says heard = record {
+  Fit = Fit;
+  Is = Is;
+  pieces = λ x fit. w.pieces (value x fit).0 (value x fit).1;
+  after = w.after;
+  opens = w.opens;
+  lacks = w.lacks;
+  closed = w.closed;
+  put = λ x fit others follows e. put_as p q (value x fit).0 x (joined (w.pieces (value x fit).0 (value x fit).1)) others (w.put (value x fit).0 (value x fit).1 others follows e) (says x fit);
+  begins = λ x fit. w.begins (value x fit).0 (value x fit).1;
+  made = λ x ts r came s. let h = heard x ts s in h.2 (w.made h.0 ts r came h.1);
+  closes = λ e x ts s. let h = heard x ts s in w.closes e h.0 ts h.1;
+}
+
 -- a token that says no more, before a part or behind it
 abbrev pub lead_as : {A : Type 0} → {test : Lexeme → Bool} → {p : Part A} → (m : Mark test) → (w : Written p) → meets m.after w ≡ true → Written (test ▸ p)
-lead_as {test = test} {p = p} m w e = record {
-  Fit = w.Fit;
-  Is = w.Is;
-  pieces = λ v fit. m.pieces ++ w.pieces v fit;
-  after = w.after;
-  opens = m.opens;
-  lacks = false;
-  closed = w.closed;
-  put = λ v fit others follows h. put_as (mark test then p) (test ▸ p) (tt, v) v (joined (m.pieces ++ w.pieces v fit)) others (then_puts (mark_as m) w e tt v tt fit others follows h) (λ ts s. ((tt, v), refl, s));
-  begins = λ v fit. then_begins (mark_as m) w tt v tt fit;
-  made = λ v ts r came spells. subst w.Is (sym spells.1) (then_made (mark test) p (λ u. Unit {0}) w.Is (mark_as m).made w.made spells.0 ts r came spells.2).1;
-  closes = λ e v ts spells. then_closes (mark test) p (w.closes e) spells.0 ts spells.2;
-}
+lead_as {test = test} {p = p} m w e =
+    carry_as (then_as (mark_as m) w e) (test ▸ p) w.Fit w.Is (λ v fit. ((tt, v), (tt, fit))) (λ v fit ts s. ((tt, v), refl, s)) (λ v ts s. (s.0, s.2, λ is. subst w.Is (sym s.1) is.1))
 
 pub meets_mark : {test : Lexeme → Bool} (b : Behind) (m : Mark test) → covers b m.opens ≡ true → meets b (mark_as m) ≡ true
 meets_mark b m e = and_from (covers b m.opens) (covers Anything m.after) e (covers_all m.after)
 
 abbrev pub close_as : {A : Type 0} → {test : Lexeme → Bool} → {p : Part A} → (w : Written p) → (m : Mark test) → covers w.after m.opens ≡ true → Written (p ◂ test)
-close_as {test = test} {p = p} w m e = record {
-  Fit = w.Fit;
-  Is = w.Is;
-  pieces = λ v fit. w.pieces v fit ++ m.pieces;
-  after = m.after;
-  opens = cond w.lacks (looser w.opens m.opens) w.opens;
-  lacks = cond w.lacks false false;
-  closed = m.closed;
-  put = λ v fit others follows h. put_as (p then mark test) (p ◂ test) (v, tt) v (joined (w.pieces v fit ++ m.pieces)) others (then_puts w (mark_as m) (meets_mark w.after m e) v tt fit tt others follows h) (λ ts s. ((v, tt), refl, s));
-  begins = λ v fit. then_begins w (mark_as m) v tt fit tt;
-  made = λ v ts r came spells. subst w.Is (sym spells.1) (then_made p (mark test) w.Is (λ u. Unit {0}) w.made (mark_as m).made spells.0 ts r came spells.2).0;
-  closes = λ e v ts spells. then_closes p (mark test) (m.closes e) spells.0 ts spells.2;
-}
+close_as {test = test} {p = p} w m e =
+    carry_as (then_as w (mark_as m) (meets_mark w.after m e)) (p ◂ test) w.Fit w.Is (λ v fit. ((v, tt), (fit, tt))) (λ v fit ts s. ((v, tt), refl, s)) (λ v ts s. (s.0, s.2, λ is. subst w.Is (sym s.1) is.0))
 
 -- a key word behind a space, and the semicolon
 abbrev pub word_then : {A : Type 0} → {p : Part A} → (w : List ℕ) → (is : is_key (str_to_ascii_lowercase w) w ≡ true) → (x : Written p) → meets Words x ≡ true → Written (is_word (str_to_ascii_lowercase w) ▸ p)
@@ -337,19 +332,8 @@ end_as w e = close_as w ending e
 
 -- a value is written as one that it is seen as
 abbrev pub seen_as : {A B : Type 0} → {p : Part A} → (f : A → B) → (w : Written p) → Written (seen f p)
-seen_as {A} {p = p} f w = record {
-  Fit = λ x. (y : A) × w.Fit y × (f y ≡ x);
-  Is = λ x. (y : A) × w.Is y × (f y ≡ x);
-  pieces = λ x fit. w.pieces fit.0 fit.1;
-  after = w.after;
-  opens = w.opens;
-  lacks = w.lacks;
-  closed = w.closed;
-  put = λ x fit others follows e. put_as p (seen f p) fit.0 x (joined (w.pieces fit.0 fit.1)) others (w.put fit.0 fit.1 others follows e) (λ ts s. (fit.0, sym fit.2, s));
-  begins = λ x fit. w.begins fit.0 fit.1;
-  made = λ x ts r came spells. (spells.0, w.made spells.0 ts r came spells.2, sym spells.1);
-  closes = λ e x ts spells. w.closes e spells.0 ts spells.2;
-}
+seen_as {A} {p = p} f w =
+    carry_as w (seen f p) (λ x. (y : A) × w.Fit y × (f y ≡ x)) (λ x. (y : A) × w.Is y × (f y ≡ x)) (λ x fit. (fit.0, fit.1)) (λ x fit ts s. (fit.0, sym fit.2, s)) (λ x ts s. (s.0, s.2, λ is. (s.0, is, sym s.1)))
 
 -- values that can be written for another reason
 abbrev pub fit_as : {A : Type 0} → {p : Part A} → (w : Written p) → (Fit : A → Type 0) → ((v : A) → Fit v → w.Fit v) → Written p
@@ -380,19 +364,7 @@ after_as w b e = record w { after = b; put = λ v fit others follows h. w.put v 
 
 -- the same part, where further tokens could belong to it
 abbrev pub wider_as : {A : Type 0} → {p : Part A} → (more : Lexeme → Bool) → (w : Written p) → Written (wider more p)
-wider_as {p = p} more w = record {
-  Fit = w.Fit;
-  Is = w.Is;
-  pieces = w.pieces;
-  after = w.after;
-  opens = w.opens;
-  lacks = w.lacks;
-  closed = w.closed;
-  put = λ v fit others follows e. put_as p (wider more p) v v (joined (w.pieces v fit)) others (w.put v fit others follows e) (λ ts s. s);
-  begins = w.begins;
-  made = w.made;
-  closes = w.closes;
-}
+wider_as {p = p} more w = carry_as w (wider more p) w.Fit w.Is (λ v fit. (v, fit)) (λ v fit ts s. s) (λ v ts s. (v, s, λ is. is))
 
 -- a part that is read, and never written
 abbrev pub heard_as : {A : Type 0} → {p : Part A} → (Is : A → Type 0) → Yields Is p → Written p
@@ -448,19 +420,7 @@ choose_as {p = p} {q = q} {test = test} a b = record {
 
 -- a part that is written in two ways
 abbrev pub also_as : {A : Type 0} → {p : Part A} → (a b : Written p) → Written p
-also_as {p = p} a b = record {
-  Fit = λ v. a.Fit v ⊎ b.Fit v;
-  Is = a.Is;
-  pieces = either_pieces a b;
-  after = tighter a.after b.after;
-  opens = looser a.opens b.opens;
-  lacks = a.lacks || b.lacks;
-  closed = a.closed;
-  put = λ v fit others follows e. put_as (choose never p p) p v v (joined (either_pieces a b v fit)) others (choose_puts never a b v others follows e fit) (λ ts s. elim s [ inl x ↦ x | inr y ↦ y ]);
-  begins = λ v fit. choose_begins a b v fit;
-  made = a.made;
-  closes = a.closes;
-}
+also_as {p = p} a b = record (carry_as (choose_as {test = never} a b) p (λ v. a.Fit v ⊎ b.Fit v) (λ v. a.Is v ⊎ b.Is v) (λ v fit. (v, fit)) (λ v fit ts s. elim s [ inl x ↦ x | inr y ↦ y ]) (λ v ts s. (v, inl s, λ is. is))) { Is = a.Is; made = a.made }
 
 -- no token stands for a value
 abbrev pub nothing_as : {A : Type 0} → {test : Lexeme → Bool} → (v : A) → Written (nothing test v)

@@ -25,7 +25,7 @@ use Rattle.ddl_parts.specs.Collecting.{Collected, collected, collected_within, c
 use Rattle.ddl_laws.specs.Readings.{IsLine, Reads, all_read, one_read, line_read, line_token}
 use Rattle.ddl_laws.proofs.ReadingLaws.{collected_first, statement_closes, only, found, ends_past, line_past}
 use Rattle.ddl_laws.proofs.Paths.{name_utf8}
-use Rattle.ddl_forms.proofs.Tokens.{Gap, space, Begun, gap_stands, name_begun, name_no_sign, name_means, none, newline, spaced, indented, tabbed, indent}
+use Rattle.ddl_forms.proofs.Tokens.{a_name, Gap, space, Begun, gap_stands, name_begun, name_no_sign, name_means, none, newline, spaced, indented, tabbed, indent}
 use Rattle.copy_text.specs.Texts.{IsName}
 use Rattle.sql_lex.specs.Bytes.{is_blank, is_digit, begins_word, in_word, marks_escapes, in_line, next_is}
 use Rattle.sql_lex.specs.Pieces.{begins_line}
@@ -69,29 +69,15 @@ behind_space n = 32 ∷ written_name n
 abbrev name_at : List ℕ → Token
 name_at n = token_at (written_kind n) 1 (written_name n)
 
-in_10 : in_word 10 ≡ false
-unfolding in_word begins_word is_digit
-in_10 = refl
-
--- a written name ends where its text does
-ends_alone : (n : List ℕ) → goes_on (written_kind n) (written_name n) [] ≡ false
-unfolding written_kind goes_on next_is
-ends_alone n = elim (cases_Bool (is_bare n && not (is_reserved n))) [ inl is ↦ rw is (and_false (length (written_name n) == 1 && next_is marks_escapes (written_name n))) | inr isnt ↦ rw isnt refl ]
-  where
-    and_false : (x : Bool) → (x && false) ≡ false
-    and_false true = refl
-    and_false false = refl
-
 name_next : (n : List ℕ) → IsUtf8 n → (next_token_of (behind_space n) 0 ≡ Ok (Some (name_at n))) × (token_text (behind_space n) (name_at n) ≡ written_name n)
 unfolding token_text
 name_next n utf8 =
     let whole : (32 ∷ []) ++ (written_name n ++ []) ≡ behind_space n = ap (λ (x : List ℕ). 32 ∷ x) (append-nil (written_name n)) in
-    let there = (name_is_read (32 ∷ []) n [] utf8 (ends_alone n)).0 in
+    let name = a_name {g = 32 ∷ []} n [] space utf8 refl in
+    let there = name.token (32 ∷ []) [] refl in
     let passed : next_token_of (behind_space n) 0 ≡ next_token_of (behind_space n) 1 =
-    subst (λ (x : List ℕ). next_token_of (32 ∷ x) 0 ≡ next_token_of (32 ∷ x) 1) (append-nil (written_name n ++ []) ∙ append-nil (written_name n)) (gap_stands (32 ∷ []) (written_name n) [] space (name_begun n) [] [] refl) in (
-      passed ∙ subst (λ (x : List ℕ). next_token_of x 1 ≡ Ok (Some (name_at n))) whole there.found,
-      subst (λ (x : List ℕ). token_text x (name_at n) ≡ written_name n) whole there.spelled,
-    )
+    subst (λ (x : List ℕ). next_token_of (32 ∷ x) 0 ≡ next_token_of (32 ∷ x) 1) (append-nil (written_name n ++ []) ∙ append-nil (written_name n)) (name.gap [] [] refl) in
+    (passed ∙ subst (λ (x : List ℕ). next_token_of x 1 ≡ Ok (Some (name_at n))) whole there.found, subst (λ (x : List ℕ). token_text x (name_at n) ≡ written_name n) whole there.spelled)
 
 abbrev piece : List ℕ → Piece
 piece n = record { from = 0; token = name_at n }

@@ -146,27 +146,6 @@ abbrev pub bound_of : Bool → ℤ → Bound
 bound_of true n = Usual
 bound_of false n = Given n
 
-abbrev pub typed : Option SequenceKind → Clauses
-typed k = record no_clauses { kind = k }
-
-abbrev pub started : Option SequenceKind → ℤ → Clauses
-started k a = record (typed k) { start = Some a }
-
-abbrev pub stepping : Option SequenceKind → ℤ → ℤ → Clauses
-stepping k a b = record (started k a) { step = Some b }
-
-abbrev pub bounded : Option SequenceKind → ℤ → ℤ → Bound → Clauses
-bounded k a b l = record (stepping k a b) { least = l }
-
-abbrev pub limited : Option SequenceKind → ℤ → ℤ → Bound → Bound → Clauses
-limited k a b l g = record (bounded k a b l) { greatest = g }
-
-abbrev pub cached : Option SequenceKind → ℤ → ℤ → Bound → Bound → ℤ → Clauses
-cached k a b l g n = record (limited k a b l g) { cache = Some n }
-
-abbrev pub cycled : Option SequenceKind → ℤ → ℤ → Bound → Bound → ℤ → Bool → Clauses
-cycled k a b l g n cycle = record (cached k a b l g n) { cycle = cycle }
-
 abbrev pub between : Clauses → Reached
 between c = reached c Between
 
@@ -183,47 +162,48 @@ line_word x w is steps = word x indented refl w is steps
 abbrev pub next_word : {r : Reached} → (x : Reached) → (w : List ℕ) → is_bare_word w ≡ true → IsStep r x (32 ∷ []) w → Move r x ((32 ∷ []) ∷ w ∷ [])
 next_word x w is steps = word x space refl w is steps
 
-pub type_moves : (kind : SequenceKind) → Move first_reached (between (typed (said kind))) (type_words kind ∷ [])
+pub type_moves : (kind : SequenceKind) → Move first_reached (between (record no_clauses { kind = said kind })) (type_words kind ∷ [])
 unfolding is_bare_word is_keyword_of is_word step_first clause_first kind_first
-type_moves SmallInt = so refl (both (line_word (reached no_clauses BehindAs) (codes "AS") refl (λ at. refl)) (next_word (between (typed (Some SmallInt))) (codes "smallint") refl (λ at. refl)))
-type_moves Integer = so refl (both (line_word (reached no_clauses BehindAs) (codes "AS") refl (λ at. refl)) (next_word (between (typed (Some Integer))) (codes "integer") refl (λ at. refl)))
+type_moves SmallInt = so refl (both (line_word (reached no_clauses BehindAs) (codes "AS") refl (λ at. refl)) (next_word (between (record no_clauses { kind = Some SmallInt })) (codes "smallint") refl (λ at. refl)))
+type_moves Integer = so refl (both (line_word (reached no_clauses BehindAs) (codes "AS") refl (λ at. refl)) (next_word (between (record no_clauses { kind = Some Integer })) (codes "integer") refl (λ at. refl)))
 type_moves BigInt = so refl (stay first_reached)
 
-pub start_moves : (k : Option SequenceKind) (a : ℤ) → IsInt a → Move (between (typed k)) (between (started k a)) (codes "\n    START WITH " ∷ signed_decimal a ∷ [])
+pub start_moves : (d : Clauses) (a : ℤ) → IsInt a → Move (between (record d { start = None })) (between (record d { start = Some a })) (codes "\n    START WITH " ∷ signed_decimal a ∷ [])
 unfolding is_bare_word is_keyword_of is_word step_first clause_first
-start_moves k a is = let c = typed k in so refl (both (line_word (reached c BehindStart) (codes "START") refl (λ at. refl)) (both (next_word (reached c (Due First)) (codes "WITH") refl (λ at. refl)) (number First c a is)))
+start_moves d a is = let c = record d { start = None } in so refl (both (line_word (reached c BehindStart) (codes "START") refl (λ at. refl)) (both (next_word (reached c (Due First)) (codes "WITH") refl (λ at. refl)) (number First c a is)))
 
-pub step_moves : (k : Option SequenceKind) (a b : ℤ) → IsInt b → Move (between (started k a)) (between (stepping k a b)) (codes "\n    INCREMENT BY " ∷ signed_decimal b ∷ [])
+pub step_moves : (d : Clauses) (a : ℤ) → IsInt a → Move (between (record d { step = None })) (between (record d { step = Some a })) (codes "\n    INCREMENT BY " ∷ signed_decimal a ∷ [])
 unfolding is_bare_word is_keyword_of is_word step_first clause_first
-step_moves k a b is = let c = started k a in so refl (both (line_word (reached c BehindIncrement) (codes "INCREMENT") refl (λ at. refl)) (both (next_word (reached c (Due Step)) (codes "BY") refl (λ at. refl)) (number Step c b is)))
+step_moves d a is = let c = record d { step = None } in so refl (both (line_word (reached c BehindIncrement) (codes "INCREMENT") refl (λ at. refl)) (both (next_word (reached c (Due Step)) (codes "BY") refl (λ at. refl)) (number Step c a is)))
 
-pub min_moves : (k : Option SequenceKind) (a b : ℤ) (u : Bool) (m : ℤ) → IsInt m → Move (between (stepping k a b)) (between (bounded k a b (bound_of u m))) (bound u (codes "\n    NO MINVALUE") (codes "\n    MINVALUE ") m ∷ [])
+pub min_moves : (d : Clauses) (u : Bool) (m : ℤ) → IsInt m → Move (between (record d { least = Unsaid; greatest = Unsaid })) (between (record d { least = bound_of u m; greatest = Unsaid })) (bound u (codes "\n    NO MINVALUE") (codes "\n    MINVALUE ") m ∷ [])
 unfolding is_bare_word is_keyword_of is_word step_first clause_first usual_first bound
-min_moves k a b true m is = so refl (both (line_word (reached (stepping k a b) (BehindNo Both)) (codes "NO") refl (λ at. refl)) (next_word (between (bounded k a b Usual)) (codes "MINVALUE") refl (λ at. refl)))
-min_moves k a b false m is = let c = stepping k a b in so refl (both (line_word (reached c (Due Least)) (codes "MINVALUE") refl (λ at. refl)) (number Least c m is))
+min_moves d true m is =
+    let c = record d { least = Unsaid; greatest = Unsaid } in
+    so refl (both (line_word (reached c (BehindNo Both)) (codes "NO") refl (λ at. refl)) (next_word (between (record c { least = Usual })) (codes "MINVALUE") refl (λ at. refl)))
+min_moves d false m is = let c = record d { least = Unsaid; greatest = Unsaid } in so refl (both (line_word (reached c (Due Least)) (codes "MINVALUE") refl (λ at. refl)) (number Least c m is))
 
 -- NO, where a bound below was said
-pub no_steps : (k : Option SequenceKind) (a b : ℤ) (usual : Bool) (l : ℤ) → IsStep (between (bounded k a b (bound_of usual l))) (reached (bounded k a b (bound_of usual l)) (BehindNo Upper)) indent (codes "NO")
+pub no_steps : (d : Clauses) (usual : Bool) (l : ℤ) → IsStep (between (record d { least = bound_of usual l; greatest = Unsaid })) (reached (record d { least = bound_of usual l; greatest = Unsaid }) (BehindNo Upper)) indent (codes "NO")
 unfolding is_keyword_of is_word step_first clause_first
-no_steps k a b true l at = refl
-no_steps k a b false l at = refl
+no_steps d true l at = refl
+no_steps d false l at = refl
 
-pub max_moves : (k : Option SequenceKind) (a b : ℤ) (usual : Bool) (l : ℤ) (u : Bool) (m : ℤ) → IsInt m
-    → Move (between (bounded k a b (bound_of usual l))) (between (limited k a b (bound_of usual l) (bound_of u m))) (bound u (codes "\n    NO MAXVALUE") (codes "\n    MAXVALUE ") m ∷ [])
+pub max_moves : (d : Clauses) (usual : Bool) (l : ℤ) (u : Bool) (m : ℤ) → IsInt m → Move (between (record d { least = bound_of usual l; greatest = Unsaid })) (between (record d { least = bound_of usual l; greatest = bound_of u m })) (bound u (codes "\n    NO MAXVALUE") (codes "\n    MAXVALUE ") m ∷ [])
 unfolding is_bare_word is_keyword_of is_word step_first clause_first usual_first bound
-max_moves k a b usual l true m is =
-    let c = bounded k a b (bound_of usual l) in
-    so refl (both (line_word (reached c (BehindNo Upper)) (codes "NO") refl (no_steps k a b usual l)) (next_word (between (limited k a b (bound_of usual l) Usual)) (codes "MAXVALUE") refl (λ at. refl)))
-max_moves k a b usual l false m is = let c = bounded k a b (bound_of usual l) in so refl (both (line_word (reached c (Due Greatest)) (codes "MAXVALUE") refl (λ at. refl)) (number Greatest c m is))
+max_moves d usual l true m is =
+    let c = record d { least = bound_of usual l; greatest = Unsaid } in
+    so refl (both (line_word (reached c (BehindNo Upper)) (codes "NO") refl (no_steps d usual l)) (next_word (between (record c { greatest = Usual })) (codes "MAXVALUE") refl (λ at. refl)))
+max_moves d usual l false m is = let c = record d { least = bound_of usual l; greatest = Unsaid } in so refl (both (line_word (reached c (Due Greatest)) (codes "MAXVALUE") refl (λ at. refl)) (number Greatest c m is))
 
-pub cache_moves : (k : Option SequenceKind) (a b : ℤ) (l g : Bound) (n : ℤ) → IsInt n → Move (between (limited k a b l g)) (between (cached k a b l g n)) (codes "\n    CACHE " ∷ signed_decimal n ∷ [])
+pub cache_moves : (d : Clauses) (n : ℤ) → IsInt n → Move (between (record d { cache = None })) (between (record d { cache = Some n })) (codes "\n    CACHE " ∷ signed_decimal n ∷ [])
 unfolding is_bare_word is_keyword_of is_word step_first clause_first
-cache_moves k a b l g n is = let c = limited k a b l g in so refl (both (line_word (reached c (Due Cache)) (codes "CACHE") refl (λ at. refl)) (number Cache c n is))
+cache_moves d n is = let c = record d { cache = None } in so refl (both (line_word (reached c (Due Cache)) (codes "CACHE") refl (λ at. refl)) (number Cache c n is))
 
-pub cycle_moves : (k : Option SequenceKind) (a b : ℤ) (l g : Bound) (n : ℤ) (cycle : Bool) → Move (between (cached k a b l g n)) (between (cycled k a b l g n cycle)) (words_if cycle (codes "\n    CYCLE") ∷ [])
+pub cycle_moves : (d : Clauses) (cycle : Bool) → Move (between (record d { cycle = false })) (between (record d { cycle = cycle })) (words_if cycle (codes "\n    CYCLE") ∷ [])
 unfolding is_bare_word is_keyword_of is_word step_first clause_first
-cycle_moves k a b l g n false = so refl (stay (between (cached k a b l g n)))
-cycle_moves k a b l g n true = so refl (line_word (between (cycled k a b l g n true)) (codes "CYCLE") refl (λ at. refl))
+cycle_moves d false = so refl (stay (between (record d { cycle = false })))
+cycle_moves d true = so refl (line_word (between (record d { cycle = true })) (codes "CYCLE") refl (λ at. refl))
 
 -- a sequence's type and numbers, and whether it cycles
 pub record Values : Type 0 where
@@ -239,7 +219,15 @@ abbrev pub AreInts : Values → Type 0
 AreInts v = IsInt v.start × IsInt v.step × IsInt v.min × IsInt v.max × IsInt v.cache
 
 abbrev pub written : Values → Clauses
-written v = cycled (said v.kind) v.start v.step (bound_of (int_eq v.min (usual_min v.kind v.step)) v.min) (bound_of (int_eq v.max (usual_max v.kind v.step)) v.max) v.cache v.cycle
+written v = record {
+  kind = said v.kind;
+  start = Some v.start;
+  step = Some v.step;
+  least = bound_of (int_eq v.min (usual_min v.kind v.step)) v.min;
+  greatest = bound_of (int_eq v.max (usual_max v.kind v.step)) v.max;
+  cache = Some v.cache;
+  cycle = v.cycle;
+}
 
 abbrev pub clause_pieces : Values → List (List ℕ)
 clause_pieces v =
@@ -249,14 +237,15 @@ clause_pieces v =
 -- clause by clause
 pub clauses_move : (v : Values) → AreInts v → Move first_reached (between (written v)) (clause_pieces v)
 clauses_move v is =
-    let k = said v.kind in
     let u = int_eq v.min (usual_min v.kind v.step) in
     let w = int_eq v.max (usual_max v.kind v.step) in
-    let l = bound_of u v.min in
-    let g = bound_of w v.max in
-    let last = both (cache_moves k v.start v.step l g v.cache is.4) (cycle_moves k v.start v.step l g v.cache v.cycle) in
-    let bounds = both (min_moves k v.start v.step u v.min is.2) (both (max_moves k v.start v.step u v.min w v.max is.3) last) in
-    both (type_moves v.kind) (both (start_moves k v.start is.0) (both (step_moves k v.start v.step is.1) bounds))
+    let typed = record no_clauses { kind = said v.kind } in
+    let started = record typed { start = Some v.start } in
+    let stepping = record started { step = Some v.step } in
+    let bounded = record stepping { least = bound_of u v.min; greatest = bound_of w v.max } in
+    let last = both (cache_moves bounded v.cache is.4) (cycle_moves (record bounded { cache = Some v.cache }) v.cycle) in
+    let bounds = both (min_moves stepping u v.min is.2) (both (max_moves stepping u v.min w v.max is.3) last) in
+    both (type_moves v.kind) (both (start_moves typed v.start is.0) (both (step_moves started v.step is.1) bounds))
 
 pub said_is : (kind : SequenceKind) → given_or BigInt (said kind) ≡ kind
 said_is SmallInt = refl
