@@ -66,7 +66,7 @@ count_put n limit g others wide small gap follows e =
     let numeral = decimal_is_IsNumeral n wide in
     let digits = all_digits (decimal n) numeral.0.1 in
     let f = digit_first (decimal n) numeral.0.0 numeral.0.1 in
-    let begun : Begun (decimal n) = record { first = f.first; rest = f.rest; bytes = f.bytes; solid = digit_solid f.first f.digit } in
+    let begun : Begun (decimal n) = subst Begun (sym f.bytes) (digit_solid f.first f.digit) in
     let utf8 = is_utf8-from_IsUtf8 (decimal n) (IsUtf8-from_ascii (decimal n) (IsAscii-decimal n wide)) in
     let safe = safe_behind others e in
     let stands : Stands (count_token g n) (spelled others) = record {
@@ -76,17 +76,13 @@ count_put n limit g others wide small gap follows e =
     } in
     one_put (count limit) n (count_token g n) others stands (inl refl) (λ at. (_, refl, rw (digits, numeral.1, lt-ltb n limit small) refl)) follows
 
-minus_solid : Begun (45 ∷ [])
-unfolding is_blank
-minus_solid = record { first = 45; rest = []; bytes = refl; solid = refl }
-
 -- a minus sign before a digit
 minus_put : (g : List ℕ) (others : List Lexeme) (f : DigitFirst (spelled others)) → Gap g → Follows others → IsPut (mark (is_sign 45)) tt (g ++ 45 ∷ []) others
-unfolding is_sign goes_on next_is is_sign_byte is_utf8 chars encode
+unfolding is_sign goes_on next_is is_sign_byte is_blank is_utf8 chars encode
 minus_put g others f gap follows =
     let differs = digit_no_minus f.first f.digit in
     let stands : Stands (sign_token g 45) (spelled others) = record {
-      gap = gap_stands g (45 ∷ []) (spelled others) gap minus_solid;
+      gap = gap_stands g (45 ∷ []) (spelled others) gap refl;
       token = λ front after h. spelling_is_read front (45 ∷ []) (spelled others ++ after) (Sign 45) (refl, refl)
           (ap (λ (x : List ℕ). goes_on (Sign 45) (45 ∷ []) (x ++ after)) f.bytes ∙ rw differs refl) refl (λ f. absurd cc);
       some = omega arith;

@@ -146,21 +146,14 @@ unfolding is_sign_byte is_blank
 sign_byte_solid b e = grind (arith, nat_tests)
 
 solid : (b : ℕ) (word rest : List ℕ) → word ≡ b ∷ rest → is_blank b ≡ false → Begun word
-solid b word rest e f = record { first = b; rest = rest; bytes = e; solid = f }
-
-solid_34 : is_blank 34 ≡ false
-unfolding is_blank
-solid_34 = refl
-
-solid_39 : is_blank 39 ≡ false
-unfolding is_blank
-solid_39 = refl
+solid b word rest e f = subst Begun (sym e) f
 
 token_begun : (kind : TokenKind) (word : List ℕ) → (kind ≡ MetaLine → ⊥) → Spells kind word → Begun word
+unfolding is_blank
 token_begun Word [] line h = absurd h
 token_begun Word (b ∷ word) line h = solid b (b ∷ word) word refl (word_free b h.0)
-token_begun QuotedName word line h = solid 34 word _ (h.1 ∙ quoted_is 34 h.0) solid_34
-token_begun Literal word line (inl h) = solid 39 word _ (h.1 ∙ quoted_is 39 h.0) solid_39
+token_begun QuotedName word line h = solid 34 word _ (h.1 ∙ quoted_is 34 h.0) refl
+token_begun Literal word line (inl h) = solid 39 word _ (h.1 ∙ quoted_is 39 h.0) refl
 token_begun Literal word line (inr h) = solid h.0 word _ h.4 (mark_solid h.0 h.2)
 token_begun Number [] line (inl h) = absurd (let e = h.0 in omega arith)
 token_begun Number (b ∷ word) line (inl h) = solid b (b ∷ word) word refl (digit_free b (and_parts _ _ h.1).0).0

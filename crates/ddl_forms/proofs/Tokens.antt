@@ -41,30 +41,16 @@ name_token gap n = record { gap = gap; kind = written_kind n; word = written_nam
 abbrev pub literal_token : List ℕ → List ℕ → Lexeme
 literal_token gap t = record { gap = gap; kind = Literal; word = written_literal t; start = 0 }
 
--- ---- gaps
-
-pub gap_none : (behind : List ℕ) → GapStands [] behind
-gap_none behind front after safe = ap (next_token_of (front ++ (behind ++ after))) (let e : length front ≡ length front + 0 = omega arith in e)
-
-pub gap_blank : (g : List ℕ) (c : ℕ) (rest : List ℕ) → 0 < length g → list_all is_blank g ≡ true → is_utf8 g ≡ true → is_blank c ≡ false → GapStands g (c ∷ rest)
-unfolding next_is
-gap_blank g c rest some blank utf8 none front after safe = gap_is_passed front g (c ∷ (rest ++ after)) (inl ((some, blank), none)) utf8
-
 -- ---- tokens
 
 and_false : (x : Bool) → (x && false) ≡ false
 and_false true = refl
 and_false false = refl
 
-no_word : (b : ℕ) → parts_words b ≡ true → in_word b ≡ false
+-- what parts words goes on with no word and is no quote
+parted : (b : ℕ) → parts_words b ≡ true → (in_word b ≡ false) × ((b == 34) ≡ false) × ((b == 39) ≡ false)
 unfolding in_word begins_word is_digit
-no_word b e = grind (arith, nat_tests)
-
-no_quotes : (b : ℕ) → parts_words b ≡ true → (b == 34) ≡ false
-no_quotes b e = grind (arith, nat_tests)
-
-no_quote : (b : ℕ) → parts_words b ≡ true → (b == 39) ≡ false
-no_quote b e = grind (arith, nat_tests)
+parted b e = (grind (arith, nat_tests), grind (arith, nat_tests), grind (arith, nat_tests))
 
 abbrev is_spoken : TokenKind → Bool
 is_spoken Word = true
@@ -78,9 +64,9 @@ unfolding goes_on next_is
 spoken_ends Word word [] after is e safe = safe_ends Word word after (λ f. absurd cc) safe
 spoken_ends QuotedName word [] after is e safe = safe_ends QuotedName word after (λ f. absurd cc) safe
 spoken_ends Literal word [] after is e safe = safe_ends Literal word after (λ f. absurd cc) safe
-spoken_ends Word word (b ∷ rest) after is e safe = rw (no_word b e, no_quote b e) (and_false _)
-spoken_ends QuotedName word (b ∷ rest) after is e safe = no_quotes b e
-spoken_ends Literal word (b ∷ rest) after is e safe = no_quote b e
+spoken_ends Word word (b ∷ rest) after is e safe = rw ((parted b e).0, (parted b e).2) (and_false _)
+spoken_ends QuotedName word (b ∷ rest) after is e safe = (parted b e).1
+spoken_ends Literal word (b ∷ rest) after is e safe = (parted b e).2
 spoken_ends kind word rest after is e safe = absurd cc
 
 -- ---- what names and literals begin with
@@ -89,47 +75,23 @@ bare_no_blank : (b : ℕ) → begins_bare b ≡ true → is_blank b ≡ false
 unfolding begins_bare is_blank
 bare_no_blank b e = grind (arith, nat_tests)
 
--- a byte that is no white space, before the rest
-pub record Begun (word : List ℕ) : Type 0 where
-  pub first : ℕ
-  pub rest : List ℕ
-  pub bytes : word ≡ first ∷ rest
-  pub solid : is_blank first ≡ false
+-- it begins with a byte that is no white space
+abbrev pub Begun : List ℕ → Type 0
+Begun [] = ⊥
+Begun (b ∷ rest) = is_blank b ≡ false
 
 bare_begun : (n : List ℕ) → is_bare n ≡ true → Begun n
 unfolding is_bare
 bare_begun [] e = absurd cc
-bare_begun (b ∷ rest) e = record { first = b; rest = rest; bytes = refl; solid = bare_no_blank b (and_parts (begins_bare b) (list_all in_bare rest) e).0 }
-
-quoted_begun : (q : ℕ) (t : List ℕ) → is_blank q ≡ false → Begun (quoted q t)
-unfolding quoted
-quoted_begun q t e = record { first = q; rest = _; bytes = refl; solid = e }
-
-no_blank_34 : is_blank 34 ≡ false
-unfolding is_blank
-no_blank_34 = refl
-
-no_blank_39 : is_blank 39 ≡ false
-unfolding is_blank
-no_blank_39 = refl
+bare_begun (b ∷ rest) e = bare_no_blank b (and_parts (begins_bare b) (list_all in_bare rest) e).0
 
 pub name_begun : (n : List ℕ) → Begun (written_name n)
-unfolding written_name
-name_begun n =
-    elim (cases_Bool (is_bare n && not (is_reserved n))) [
-      | inl is ↦ rw is (bare_begun n (and_parts (is_bare n) (not (is_reserved n)) is).0)
-      | inr isnt ↦ rw isnt (quoted_begun 34 n no_blank_34)
-    ]
-
-literal_begun : (t : List ℕ) → Begun (written_literal t)
-unfolding written_literal
-literal_begun t = quoted_begun 39 t no_blank_39
-
-gap_begun : (g word rest : List ℕ) → 0 < length g → list_all is_blank g ≡ true → is_utf8 g ≡ true → Begun word → GapStands g (word ++ rest)
-gap_begun g word rest some blank utf8 h = subst (λ (w : List ℕ). GapStands g (w ++ rest)) (sym h.bytes) (gap_blank g h.first (h.rest ++ rest) some blank utf8 h.solid)
+unfolding written_name quoted is_blank
+name_begun n = elim (cases_Bool (is_bare n && not (is_reserved n))) [ inl is ↦ rw is (bare_begun n (and_parts (is_bare n) (not (is_reserved n)) is).0) | inr isnt ↦ rw isnt refl ]
 
 pub begun_some : (word : List ℕ) → Begun word → 0 < length word
-begun_some word h = subst (λ (w : List ℕ). 0 < length w) (sym h.bytes) (omega arith)
+begun_some [] h = absurd h
+begun_some (b ∷ rest) h = omega arith
 
 -- ---- each token behind no gap or white space
 
@@ -146,21 +108,25 @@ pub data Gap : List ℕ → Type 0 where
   indented : Gap indent
   tabbed : Gap (10 ∷ 9 ∷ [])
 
-pub gap_stands : (g word rest : List ℕ) → Gap g → Begun word → GapStands g (word ++ rest)
+white : (g : List ℕ) → Gap g → ([] ≡ g) ⊎ ((0 < length g) × (list_all is_blank g ≡ true) × (is_utf8 g ≡ true))
 unfolding is_blank is_utf8 chars encode
-gap_stands _ word rest none h = gap_none (word ++ rest)
-gap_stands _ word rest space h = gap_begun (32 ∷ []) word rest (omega arith) refl refl h
-gap_stands _ word rest newline h = gap_begun (10 ∷ []) word rest (omega arith) refl refl h
-gap_stands _ word rest spaced h = gap_begun (10 ∷ 32 ∷ []) word rest (omega arith) refl refl h
-gap_stands _ word rest indented h = gap_begun indent word rest (omega arith) refl refl h
-gap_stands _ word rest tabbed h = gap_begun (10 ∷ 9 ∷ []) word rest (omega arith) refl refl h
+white _ none = inl refl
+white _ x = inr (omega arith, refl, refl)
+
+pub gap_stands : (g word rest : List ℕ) → Gap g → Begun word → GapStands g (word ++ rest)
+unfolding next_is
+gap_stands g [] rest gap h front after safe = absurd h
+gap_stands g (b ∷ word) rest gap h front after safe =
+    let text = b ∷ ((word ++ rest) ++ after) in
+    let here : next_token_of (front ++ text) (length front) ≡ next_token_of (front ++ text) (length front + 0) = ap (next_token_of (front ++ text)) (omega arith) in
+    elim (white g gap) [
+      | inl e ↦ subst (λ (x : List ℕ). next_token_of (front ++ (x ++ text)) (length front) ≡ next_token_of (front ++ (x ++ text)) (length front + length x)) e here
+      | inr w ↦ gap_is_passed front g text (inl ((w.0, w.1), h)) w.2
+    ]
 
 pub word_begun : (w : List ℕ) → IsWord w → Begun w
 word_begun [] h = absurd h
-word_begun (b ∷ rest) h = record { first = b; rest = rest; bytes = refl; solid = word_solid b h.0 }
-  where
-    word_solid : (b : ℕ) → begins_word b ≡ true → is_blank b ≡ false
-    word_solid b e = word_free b e
+word_begun (b ∷ rest) h = word_free b h.0
 
 -- what is read of a word before what doesn't go on with it stands before what parts words
 spoken_stands : {g : List ℕ} (kind : TokenKind) (word rest : List ℕ) → is_spoken kind ≡ true → Gap g → Begun word → admits Words rest ≡ true → ((front after : List ℕ) → goes_on kind word after ≡ false → IsTokenAt (front ++ (word ++ after)) (length front) kind word)
@@ -182,7 +148,8 @@ pub a_name : {g : List ℕ} (n rest : List ℕ) → Gap g → IsUtf8 n → admit
 a_name n rest gap utf8 e = spoken_stands (written_kind n) (written_name n) rest (kind_spoken n) gap (name_begun n) e (λ front after ends. (name_is_read front n after utf8 ends).0)
 
 pub a_literal : {g : List ℕ} (t rest : List ℕ) → Gap g → IsUtf8 t → admits Words rest ≡ true → Stands (literal_token g t) rest
-a_literal t rest gap utf8 e = spoken_stands Literal (written_literal t) rest refl gap (literal_begun t) e (λ front after ends. (literal_is_read front t after utf8 ends).0)
+unfolding written_literal quoted is_blank
+a_literal t rest gap utf8 e = spoken_stands Literal (written_literal t) rest refl gap refl e (λ front after ends. (literal_is_read front t after utf8 ends).0)
 
 -- a sign with which nothing goes on
 unfoldable pub is_single : ℕ → Bool
@@ -197,7 +164,7 @@ a_sign {g} b rest gap e =
     let solid = or_parts (is_blank b) (b == 45 || b == 47) (not-true (is_blank b || (b == 45 || b == 47)) utf8.1) in
     let dashes = or_parts (b == 45) (b == 47) solid.1 in
     record {
-      gap = gap_stands g (b ∷ []) rest gap (record { first = b; rest = []; bytes = refl; solid = solid.0 });
+      gap = gap_stands g (b ∷ []) rest gap solid.0;
       token = λ front after safe. spelling_is_read front (b ∷ []) (rest ++ after) (Sign b) (sign.0, refl) (rw (dashes.0, dashes.1) refl) utf8.0 (λ f. absurd cc);
       some = omega arith;
     }
@@ -238,11 +205,7 @@ literal_means x utf8 t kind word =
 -- a written name is no sign
 pub name_no_sign : (b : ℕ) (n : List ℕ) → is_sign_kind b (written_kind n) ≡ false
 unfolding written_kind
-name_no_sign b n =
-    elim (cases_Bool (is_bare n && not (is_reserved n))) [
-      | inl is ↦ rw is refl
-      | inr isnt ↦ rw isnt refl
-    ]
+name_no_sign b n = elim (cases_Bool (is_bare n && not (is_reserved n))) [ inl is ↦ rw is refl | inr isnt ↦ rw isnt refl ]
 
 bare_is_small : (n : List ℕ) → IsUtf8 n → (is_bare n && not (is_reserved n)) ≡ true → str_to_ascii_lowercase n ≡ n
 unfolding written_kind written_name name_of
@@ -255,10 +218,7 @@ bare_is_small n utf8 is =
 name_no_word : (key n : List ℕ) → IsUtf8 n → is_reserved (str_to_ascii_lowercase key) ≡ true → is_keyword_of (written_kind n) (written_name n) key ≡ false
 unfolding written_kind written_name is_keyword_of
 name_no_word key n utf8 reserved =
-    elim (cases_Bool (is_bare n && not (is_reserved n))) [
-      | inl is ↦ rw is (bare is)
-      | inr isnt ↦ rw isnt refl
-    ]
+    elim (cases_Bool (is_bare n && not (is_reserved n))) [ inl is ↦ rw is (bare is) | inr isnt ↦ rw isnt refl ]
   where
     same : (is_bare n && not (is_reserved n)) ≡ true → str_eq_ignore_ascii_case n key ≡ true → is_reserved n ≡ true
     same is e = ap is_reserved (sym (bare_is_small n utf8 is) ∙ (bytes_eq-Decides (str_to_ascii_lowercase n) (str_to_ascii_lowercase key)).0 e) ∙ reserved

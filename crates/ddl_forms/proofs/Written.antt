@@ -450,6 +450,15 @@ pub option_from : {A : Type 0} (P : A → Type 0) (o : Option A) → ((y : A) ×
 option_from P o (inl h) = subst (OptionFit P) h.2 h.1
 option_from P o (inr e) = subst (OptionFit P) (sym e) tt
 
+-- a value, or what stands for none
+abbrev pub given_or : {A : Type 0} → (P : Option A → Type 0) → (o : Option A) → P o → ((y : A) × P (Some y) × (Some y ≡ o)) ⊎ ((u : Unit {0}) × Unit {0} × (None ≡ o))
+given_or P None is = inr (tt, tt, refl)
+given_or P (Some y) is = inl (y, is, refl)
+
+pub or_given : {A : Type 0} (P : Option A → Type 0) → P None → (o : Option A) → ((y : A) × P (Some y) × (Some y ≡ o)) ⊎ ((u : Unit {0}) × Unit {0} × (None ≡ o)) → P o
+or_given P at o (inl h) = subst P h.2 h.1
+or_given P at o (inr h) = subst P h.2 at
+
 -- a part, or no token where more could belong to it
 abbrev pub maybe_as : {A : Type 0} → {p : Part A} → {test : Lexeme → Bool} → (more : Lexeme → Bool) → (w : Written p) → Written (choose test (seen Some p) (nothing more None))
 maybe_as more w = is_as (fit_as (choose_as (seen_as Some w) (nothing_as None)) (OptionFit w.Fit) (option_to w.Fit)) (OptionFit w.Is) (option_from w.Is)

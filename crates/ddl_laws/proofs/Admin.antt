@@ -21,23 +21,15 @@ use Rattle.ddl_forms.specs.Texts.{IsInt}
 use Rattle.ddl_forms.proofs.Behind.{Words, Safe}
 use Rattle.ddl_forms.proofs.Numbers.{number_as}
 use Rattle.ddl_forms.proofs.Tokens.{none, space}
-use Rattle.ddl_forms.proofs.Written.{Written, Kinds, literal_said, is_key, dot_as, equals_as, word_as, mark_as, meets, name_as, literal_as, path_as, then_as, lead_as, word_then, end_as, seen_as, fit_as, like_as, shown_as, pieces_as, after_as, wider_as, choose_as, heard_as, nothing_as, OptionFit, maybe_as, many_as, kind_as, led_as, or_as}
+use Rattle.ddl_forms.proofs.Written.{Written, Kinds, given_or, or_given, literal_said, is_key, dot_as, equals_as, word_as, mark_as, meets, name_as, literal_as, path_as, then_as, lead_as, word_then, end_as, seen_as, fit_as, like_as, shown_as, pieces_as, after_as, wider_as, choose_as, heard_as, nothing_as, OptionFit, maybe_as, many_as, kind_as, led_as, or_as}
 use Rattle.ddl_laws.specs.Respelling.{IsGivenText, IsLimit, AreChanges, IsWritable}
 
 -- ---- COMMENT ON
 
-abbrev pub remarked : (o : Option (List ℕ)) → IsGivenText o → ((u : Unit {0}) × Unit {0} × (None ≡ o)) ⊎ ((t : List ℕ) × IsUtf8 t × (Some t ≡ o))
-remarked None is = inl (tt, tt, refl)
-remarked (Some t) is = inr (t, is, refl)
-
-pub remark_is : (o : Option (List ℕ)) → ((u : Unit {0}) × Unit {0} × (None ≡ o)) ⊎ ((t : List ℕ) × IsUtf8 t × (Some t ≡ o)) → IsGivenText o
-remark_is o (inl h) = subst IsGivenText h.2 tt
-remark_is o (inr h) = subst IsGivenText h.2 h.1
-
 unfoldable pub is_remark_as : Written remark_end
 unfolding remark_end remark is_key
 is_remark_as =
-    let either : Written remark = like_as (choose_as (seen_as (λ u. None) (mark_as (word_as space (codes "NULL") refl))) (seen_as Some (literal_as space))) IsGivenText remarked remark_is in
+    let either : Written remark = like_as (choose_as (seen_as (λ u. None) (mark_as (word_as space (codes "NULL") refl))) (seen_as Some (literal_as space))) IsGivenText (λ o is. elim (given_or IsGivenText o is) [ inl h ↦ inr h | inr h ↦ inl h ]) (λ o h. or_given IsGivenText tt o (elim h [ inl x ↦ inr x | inr x ↦ inl x ])) in
     word_then (codes "IS") refl (end_as either refl) refl
 
 unfoldable pub remark_end_as : Written remark_end
@@ -109,28 +101,20 @@ clause_as w is x e P to from whole unsaid some =
     let more = any_word (str_to_ascii_lowercase w ∷ []) in
     pieces_as (like_as (maybe_as {test = key} more (word_then w is x e)) P to from) (λ o fit. whole o ∷ []) (given_same more key (word_then w is x e) P to whole unsaid some)
 
-pub limit_fits : (o : Option ℤ) → IsLimit o → OptionFit IsInt o
-limit_fits None is = tt
-limit_fits (Some n) is = is
+pub given_fits : {A : Type 0} (P : Option A → Type 0) (o : Option A) → P o → OptionFit (λ v. P (Some v)) o
+given_fits P None is = tt
+given_fits P (Some v) is = is
 
-pub limit_is : (o : Option ℤ) → OptionFit IsInt o → IsLimit o
-limit_is None is = tt
-limit_is (Some n) is = is
-
-pub text_fits : (o : Option (List ℕ)) → IsGivenText o → OptionFit IsUtf8 o
-text_fits None is = tt
-text_fits (Some t) is = is
-
-pub text_is : (o : Option (List ℕ)) → OptionFit IsUtf8 o → IsGivenText o
-text_is None is = tt
-text_is (Some t) is = is
+pub fits_given : {A : Type 0} (P : Option A → Type 0) → P None → (o : Option A) → OptionFit (λ v. P (Some v)) o → P o
+fits_given P at None is = at
+fits_given P at (Some v) is = is
 
 unfoldable pub role_settings_as : Written role_settings
 unfolding role_settings is_key
 role_settings_as =
-    let limit = clause_as (codes "CONNECTION") refl (word_then (codes "LIMIT") refl (number_as space) refl) refl IsLimit limit_fits limit_is limit_text refl (λ n is. refl) in
-    let password = clause_as (codes "PASSWORD") refl (literal_as space) refl IsGivenText text_fits text_is (given_literal (codes " PASSWORD ")) refl (λ t is. refl) in
-    let valid = clause_as (codes "VALID") refl (word_then (codes "UNTIL") refl (literal_as space) refl) refl IsGivenText text_fits text_is (given_literal (codes " VALID UNTIL ")) refl (λ t is. refl) in
+    let limit = clause_as (codes "CONNECTION") refl (word_then (codes "LIMIT") refl (number_as space) refl) refl IsLimit (given_fits IsLimit) (fits_given IsLimit tt) limit_text refl (λ n is. refl) in
+    let password = clause_as (codes "PASSWORD") refl (literal_as space) refl IsGivenText (given_fits IsGivenText) (fits_given IsGivenText tt) (given_literal (codes " PASSWORD ")) refl (λ t is. refl) in
+    let valid = clause_as (codes "VALID") refl (word_then (codes "UNTIL") refl (literal_as space) refl) refl IsGivenText (given_fits IsGivenText) (fits_given IsGivenText tt) (given_literal (codes " VALID UNTIL ")) refl (λ t is. refl) in
     before_as limit (before_as password (after_as valid Safe refl) refl) refl
 
 unfoldable pub alter_role_as : Kinds IsWritable alter_role

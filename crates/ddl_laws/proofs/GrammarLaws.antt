@@ -1,6 +1,6 @@
 -- The grammar of statements has the laws of a part: what is read is spelled so, what is spelled so is read, and where
 -- reading stops nothing goes on.
-use Rattle.std.proofs.Common.{◌≡◌, Bool, true, false, ◌||◌, List, [], ◌∷◌, Some, None, refl, ap, codes, ℕ, ◌+◌, ◌<◌, ◌^◌, pos, arith, ◌++◌, append-nil, Ok, Err, sym, ◌∙◌, eqb-true, not, cond, Result, Option, subst}
+use Rattle.std.proofs.Common.{◌≡◌, Bool, true, false, ◌||◌, List, [], ◌∷◌, Some, None, refl, ap, codes, ℕ, ◌+◌, ◌<◌, ◌^◌, pos, arith, ◌++◌, append-nil, append_assoc, Ok, Err, sym, ◌∙◌, eqb-true, not, cond, Result, Option, subst, ◌⊎◌, inl, inr}
 use Rattle.std.proofs.lemmas.Bool.{or_parts, lt-ltb, not-true}
 use Rattle.std.specs.Str.{is_utf8, chars}
 use Rattle.std.proofs.Math.Utf8.{encode}
@@ -16,6 +16,7 @@ use Rattle.ddl_parts.proofs.Machines.{CanEnd, run_none, machine_laws}
 use Rattle.ddl_parts.proofs.Leads.{a_word, a_sign, name_laws, qualified_laws, sign_is, words_apart, qualified_begins, literal_laws, literal_begins, word_no_sign}
 use Rattle.ddl_parts.proofs.Telling.{sign_no_word, signs_apart, free, stop_no_type, sign_no_name, sign_no_literal}
 use Rattle.ddl_parts.proofs.Composing.{Headed, lawful_seen, lawful_ended, lawful_next, headed_sign, headed_seen, lawful_unless, lawful_word, lawful_sign, headed_word, lawful_either, headed_next, lawful_choose, lawful_then, one_word, lawful_worded, one_sign, ◌also◌}
+use Rattle.ddl_laws.proofs.Computing.{reads}
 use Rattle.ddl_read.specs.declared.rests.RestSpot.{RestSpot}
 use Rattle.ddl_read.specs.declared.rests.RestSpot.TheVariants.{Begin, Deferrable, Initially, Ended, Foreign, FirstOn, Update, UpdateNo, UpdateSet, Updated, SecondOn, Delete, DeleteNo, DeleteSet, Chosen, Opened, Named, Deleted}
 use Rattle.ddl_read.specs.Columns.{more_names, names_of, columns}
@@ -40,7 +41,7 @@ use Rattle.ddl_parts.proofs.RunLaws.{expression_laws, expression_ends, expressio
 use Rattle.ddl_parts.proofs.Tables.{one_of_laws, one_of_avoids, one_of_avoids_others}
 use Rattle.ddl_read.specs.Clauses.{semicolon, new_owner}
 use Rattle.ddl_read.specs.RelationGrammar.{owned_by, its_role, its_column, sequence_changed, sequence_change, altered_sequence, view_and_body, create_view, replace_view, begun_by, bracketed, index_parts, index_of, unique_index_of, create_index, create_unique_index, view_branch, more_relations}
-use Rattle.ddl_parts.proofs.Simple.{one_laws, one_begins, seen_avoids}
+use Rattle.ddl_parts.proofs.Simple.{one_laws, one_begins, seen_avoids, mark_begins}
 use Rattle.ddl_read.specs.declared.alters.Constraint.TheVariants.{Check}
 use Rattle.ddl_read.specs.declared.alters.TableChange.TheVariants.{Owner}
 use Rattle.ddl_read.specs.AlterGrammar.{check_body, primary_of, primary_body, unique_of, unique_body, foreign_of, foreign_body, constraint_body, added_of, added, default_of, new_default, own_change, table_change, table_changed, only_value, only_name, other_value, other_name, path_of, other_path, in_schema, key_word, behind_only, only_changed, altered_table}
@@ -97,60 +98,30 @@ rest_finish Opened = a_word (codes "a") ∷ a_sign 41 ∷ []
 rest_finish Named = a_sign 41 ∷ []
 rest_finish x = []
 
-rest_last : RestSpot → RestSpot
-rest_last Begin = Deferrable
-rest_last Deferrable = Deferrable
-rest_last Initially = Ended
-rest_last Ended = Ended
-rest_last Foreign = Deferrable
-rest_last FirstOn = Deleted
-rest_last Update = Updated
-rest_last UpdateNo = Updated
-rest_last UpdateSet = Updated
-rest_last Updated = Updated
-rest_last DeleteSet = Chosen
-rest_last Chosen = Chosen
-rest_last x = Deleted
+-- each state can be brought to an end
+rest_ended : (m s : RestSpot) → (last : RestSpot) × (run (resting m) (Some s) (rest_finish s) ≡ Some last) × (rest_done last ≡ true)
+unfolding rest_step rest_finish rest_done is_word is_sign is_keyword_of name_value name_in name_of is_utf8 chars encode
+rest_ended m Begin = (_, refl, refl)
+rest_ended m x = (_, refl, refl)
 
-rest_finished : (s s' : RestSpot) → run (resting s) (Some s') (rest_finish s') ≡ Some (rest_last s')
-unfolding rest_step rest_finish rest_last is_word is_sign is_keyword_of name_value name_in name_of is_utf8 chars encode
-rest_finished s Begin = refl
-rest_finished s x = refl
-
-rest_is_done : (s : RestSpot) → rest_done (rest_last s) ≡ true
-unfolding rest_done rest_last
-rest_is_done Begin = refl
-rest_is_done x = refl
-
--- a token with which nothing goes on is none of these
-record IsFree (t : Lexeme) : Type 0 where
-  initially : is_word (codes "initially") t ≡ false
-  on : is_word (codes "on") t ≡ false
-  deferrable : is_word (codes "deferrable") t ≡ false
-  bracket : is_sign 40 t ≡ false
-
-is_free : (t : Lexeme) → rest_goes_on t ≡ false → IsFree t
-unfolding rest_goes_on
-is_free t e =
+rest_covers : (s : RestSpot) (t : Lexeme) → rest_done s ≡ true → rest_goes_on t ≡ false → rest_step s t ≡ None
+unfolding rest_step rest_done rest_goes_on
+rest_covers s t d e =
     let a = or_parts (is_word (codes "initially") t) (is_word (codes "on") t || (is_word (codes "deferrable") t || is_sign 40 t)) e in
     let b = or_parts (is_word (codes "on") t) (is_word (codes "deferrable") t || is_sign 40 t) a.1 in
     let c = or_parts (is_word (codes "deferrable") t) (is_sign 40 t) b.1 in
-    record { initially = a.0; on = b.0; deferrable = c.0; bracket = c.1 }
-
-free_step : (s : RestSpot) (t : Lexeme) → rest_done s ≡ true → IsFree t → rest_step s t ≡ None
-unfolding rest_step rest_done
-free_step Deferrable t d free = rw free.initially refl
-free_step Ended t d free = refl
-free_step Updated t d free = rw (free.on, free.deferrable) refl
-free_step Chosen t d free = rw (free.bracket, free.deferrable) refl
-free_step Deleted t d free = rw free.deferrable refl
-free_step _ t d free = absurd cc
-
-rest_covers : (s : RestSpot) (t : Lexeme) → rest_done s ≡ true → rest_goes_on t ≡ false → rest_step s t ≡ None
-rest_covers s t d free = free_step s t d (is_free t free)
+    by s d a.0 b.0 c.0 c.1
+  where
+    by : (x : RestSpot) → rest_done x ≡ true → is_word (codes "initially") t ≡ false → is_word (codes "on") t ≡ false → is_word (codes "deferrable") t ≡ false → is_sign 40 t ≡ false → rest_step x t ≡ None
+    by Deferrable d i o f b = rw i refl
+    by Ended d i o f b = refl
+    by Updated d i o f b = rw (o, f) refl
+    by Chosen d i o f b = rw (b, f) refl
+    by Deleted d i o f b = rw f refl
+    by _ d i o f b = absurd cc
 
 resting_ends : (s : RestSpot) → CanEnd (resting s)
-resting_ends s = record { finish = rest_finish; last = rest_last; finished = rest_finished s; done = rest_is_done; covers = rest_covers }
+resting_ends s = record { finish = rest_finish; last = λ x. (rest_ended s x).0; finished = λ x. (rest_ended s x).1; done = λ x. (rest_ended s x).2; covers = rest_covers }
 
 start_goes : (s x : RestSpot) (us : List Lexeme) (last : RestSpot) (b : Bool) → run (resting s) (only_if b x) us ≡ Some last → b ≡ true
 start_goes s x us last true e = refl
@@ -160,21 +131,20 @@ one_goes : (s x y : RestSpot) (us : List Lexeme) (last : RestSpot) (b c : Bool) 
 one_goes s x y us last true c e = refl
 one_goes s x y us last false c e = start_goes s y us last c e
 
+begins_by : (s : RestSpot) (test : Lexeme → Bool) → rest_done s ≡ false → ((t : Lexeme) (us : List Lexeme) (last : RestSpot) → run (resting s) (Some s) (t ∷ us) ≡ Some last → test t ≡ true) → Begins test (runs_of (resting s))
+begins_by s test undone first v ts spells = by ts spells.1
+  where
+    by : (us : List Lexeme) → Runs (resting s) us → starts test us ≡ true
+    by [] r = let same : s ≡ r.last = cc r.runs in absurd (cc (ap rest_done same, r.done, undone))
+    by (u ∷ us) r = first u us r.last r.runs
+
 rest_begins : Begins (is_word (codes "deferrable")) (runs_of (resting Begin))
 unfolding rest_step rest_done
-rest_begins v ts spells = by ts spells.1
-  where
-    by : (us : List Lexeme) → Runs (resting Begin) us → starts (is_word (codes "deferrable")) us ≡ true
-    by [] r = let same : Begin ≡ r.last = cc r.runs in absurd (cc (ap rest_done same, r.done))
-    by (u ∷ us) r = start_goes Begin Deferrable us r.last (is_word (codes "deferrable") u) r.runs
+rest_begins = begins_by Begin (is_word (codes "deferrable")) refl (λ t us last. start_goes Begin Deferrable us last (is_word (codes "deferrable") t))
 
 foreign_begins : Begins begins_foreign (runs_of (resting Foreign))
 unfolding rest_step rest_done begins_foreign
-foreign_begins v ts spells = by ts spells.1
-  where
-    by : (us : List Lexeme) → Runs (resting Foreign) us → starts begins_foreign us ≡ true
-    by [] r = let same : Foreign ≡ r.last = cc r.runs in absurd (cc (ap rest_done same, r.done))
-    by (u ∷ us) r = one_goes Foreign FirstOn Deferrable us r.last (is_word (codes "on") u) (is_word (codes "deferrable") u) r.runs
+foreign_begins = begins_by Foreign begins_foreign refl (λ t us last. one_goes Foreign FirstOn Deferrable us last (is_word (codes "on") t) (is_word (codes "deferrable") t))
 
 some_rest : (s : RestSpot) (test : Lexeme → Bool) → Begins test (runs_of (resting s)) → Headed test (seen source (runs_of (resting s)))
 some_rest s test begins = let h : Headed test (runs_of (resting s)) = record { laws = machine_laws (resting s) (resting_ends s); begins = begins } in headed_seen source h
@@ -199,7 +169,7 @@ foreign_rest_ends : (t : Lexeme) → is_sign 59 t ≡ true → foreign_rest.goes
 unfolding foreign_rest begins_foreign
 foreign_rest_ends t e = rw (ends_goes_on t e, sign_no_word 59 (codes "on") t e, sign_no_word 59 (codes "deferrable") t e) refl
 
--- ---- each state can be brought to an end
+-- ---- sequences
 
 abbrev a_zero : Lexeme
 a_zero = record { gap = 32 ∷ []; kind = Number; word = 48 ∷ []; start = 0 }
@@ -225,31 +195,16 @@ finish_at (BehindNo Upper) = a_word (codes "maxvalue") ∷ []
 finish_at (Due field) = a_zero ∷ []
 finish_at (BehindMinus field) = a_zero ∷ []
 
-abbrev with_none : Clauses → Clauses
-with_none c = record c { least = Usual }
-
-last_at : ClauseSpot → Clauses → Clauses
-last_at Between c = c
-last_at BehindAs c = record c { kind = Some SmallInt }
-last_at BehindStart c = with_number First (pos 0) c
-last_at BehindIncrement c = with_number Step (pos 0) c
-last_at (BehindNo Both) c = with_none c
-last_at (BehindNo Lower) c = with_none c
-last_at (BehindNo Upper) c = record c { greatest = Usual }
-last_at (Due field) c = with_number field (pos 0) c
-last_at (BehindMinus field) c = with_number field (pos 0) c
-
-finished_at : (spot : ClauseSpot) (c : Clauses) → run clausing (Some (reached c spot)) (finish_at spot) ≡ Some (reached (last_at spot c) Between)
-unfolding step_first kind_first usual_first finish_at last_at is_word is_keyword_of is_sign
-finished_at Between c = refl
-finished_at BehindAs c = refl
-finished_at BehindStart c = rw below refl
-finished_at BehindIncrement c = rw below refl
-finished_at (BehindNo Both) c = refl
-finished_at (BehindNo Lower) c = refl
-finished_at (BehindNo Upper) c = refl
-finished_at (Due field) c = rw below refl
-finished_at (BehindMinus field) c = rw below_more refl
+-- each state can be brought to an end
+ended_at : (spot : ClauseSpot) (c : Clauses) → (last : clausing.State) × (run clausing (Some (reached c spot)) (finish_at spot) ≡ Some last) × (clausing.done last ≡ true)
+unfolding step_first kind_first usual_first finish_at is_word is_keyword_of is_sign
+ended_at BehindStart c = (reached (with_number First (pos 0) c) Between, rw below refl, refl)
+ended_at BehindIncrement c = (reached (with_number Step (pos 0) c) Between, rw below refl, refl)
+ended_at (Due field) c = (reached (with_number field (pos 0) c) Between, rw below refl, refl)
+ended_at (BehindMinus field) c = (reached (with_number field (pos 0) c) Between, rw below_more refl, refl)
+ended_at (BehindNo Both) c = (_, refl, refl)
+ended_at (BehindNo x) c = (_, refl, refl)
+ended_at x c = (_, refl, refl)
 
 -- where no clause begins, none goes on
 none_begins : (c : Clauses) (t : Lexeme) → begins_clause t ≡ false → clause_first c (t ∷ []) ≡ None
@@ -272,9 +227,9 @@ covers_at spot c t d e = absurd cc
 clausing_ends : CanEnd clausing
 clausing_ends = record {
   finish = λ r. finish_at r.spot;
-  last = λ r. reached (last_at r.spot r.clauses) Between;
-  finished = λ r. finished_at r.spot r.clauses;
-  done = λ r. refl;
+  last = λ r. (ended_at r.spot r.clauses).0;
+  finished = λ r. (ended_at r.spot r.clauses).1;
+  done = λ r. (ended_at r.spot r.clauses).2;
   covers = λ r t d e. covers_at r.spot r.clauses t d e;
 }
 
@@ -444,21 +399,18 @@ table_change_laws = lawful_choose (headed_seen Owner new_owner_is) own_change_la
 abbrev is_no_only : Lexeme → Bool
 is_no_only t = not (is_word (codes "only") t)
 
+-- a word's test tells whether it is a name
+told_by : (b : Bool) (x y : Result (List ℕ) Bool) (v : List ℕ) → cond b x y ≡ Ok v → ((b ≡ true) × (x ≡ Ok v)) ⊎ ((b ≡ false) × (y ≡ Ok v))
+told_by true x y v e = inl (refl, e)
+told_by false x y v e = inr (refl, e)
+
 pub only_is : (t : Lexeme) (v : List ℕ) → only_value t ≡ Ok v → (is_word (codes "only") t ≡ true) × (name_value t ≡ Ok v)
 unfolding only_value
-only_is t v e = by (is_word (codes "only") t) refl e
-  where
-    by : (b : Bool) → is_word (codes "only") t ≡ b → cond b (name_value t) (Err false) ≡ Ok v → (is_word (codes "only") t ≡ true) × (name_value t ≡ Ok v)
-    by true is e = (is, e)
-    by false is e = absurd cc
+only_is t v e = elim (told_by (is_word (codes "only") t) (name_value t) (Err false) v e) [ inl h ↦ h | inr h ↦ absurd cc h.1 ]
 
 pub other_is : (t : Lexeme) (v : List ℕ) → other_value t ≡ Ok v → (is_word (codes "only") t ≡ false) × (name_value t ≡ Ok v)
 unfolding other_value
-other_is t v e = by (is_word (codes "only") t) refl e
-  where
-    by : (b : Bool) → is_word (codes "only") t ≡ b → cond b (Err false) (name_value t) ≡ Ok v → (is_word (codes "only") t ≡ false) × (name_value t ≡ Ok v)
-    by true is e = absurd cc
-    by false is e = (is, e)
+other_is t v e = elim (told_by (is_word (codes "only") t) (Err false) (name_value t) v e) [ inl h ↦ absurd cc h.1 | inr h ↦ h ]
 
 only_name_is : Headed (is_word (codes "only")) only_name
 unfolding only_value is_word is_keyword_of name_value name_in name_of is_utf8 chars encode
@@ -472,15 +424,12 @@ other_path_is : Headed is_no_only other_path
 unfolding other_path
 other_path_is = headed_seen path_of (headed_next other_name_is (lawful_sign 46 name_laws) (λ t. refl))
 
-name_no_sign_by : (k : TokenKind) (b : ℕ) → is_name_kind k ≡ true → is_sign_kind b k ≡ false
-name_no_sign_by Word b e = refl
-name_no_sign_by QuotedName b e = refl
-name_no_sign_by Literal b e = absurd cc
-name_no_sign_by x b e = absurd cc
-
 name_no_sign : (b : ℕ) → Apart is_name (is_sign b)
-unfolding is_name is_sign
-name_no_sign b t e = name_no_sign_by t.kind b e
+name_no_sign b t e = by (is_sign b t) refl
+  where
+    by : (s : Bool) → is_sign b t ≡ s → s ≡ false
+    by true is = absurd (let n = sign_no_name b t is in cc (n, e))
+    by false is = refl
 
 altered_table_laws : Lawful altered_table
 unfolding altered_table other_path behind_only
@@ -523,32 +472,20 @@ constraint_no_attributes t e = attributes_end t (word_ends t e) (words_apart (co
 abbrev checks : Part (List CheckDef)
 checks = many (is_word (codes "constraint")) checking
 
-passes_by : (test : Lexeme → Bool) (t : Lexeme) → passes test t ≡ Ok tt → test t ≡ true
-passes_by test t e = by (test t) e
-  where
-    made : Unit {0} → Result (Unit {0}) Bool
-    made u = Ok u
-
-    by : (b : Bool) → cond b (made tt) (Err false) ≡ Ok tt → b ≡ true
-    by true e = refl
-    by false e = absurd cc
-
 -- checks and a semicolon begin with neither
 checks_avoid : (test : Lexeme → Bool) → Apart (is_word (codes "constraint")) test → Apart semicolon test → Avoids test (checks ◂ semicolon)
-checks_avoid test word sign v ts rest spells free = by spells.2.4.0 spells.2.4.2 (spells.2.0) (spells.2.1) spells.2.2 spells.2.4.1 spells.2.3
+checks_avoid test word sign v ts rest spells free =
+    ap (λ (us : List Lexeme). starts test (us ++ rest)) spells.2.2 ∙ ap (starts test) (append_assoc spells.2.0 spells.2.1 rest) ∙ first spells.0.0 spells.2.0 spells.2.3
   where
-    by : (t : Lexeme) → passes semicolon t ≡ Ok tt → (a b : List Lexeme) → ts ≡ a ++ b → b ≡ t ∷ [] → Many checking tt spells.0.0 a → starts test (ts ++ rest) ≡ false
-    by t is a b parts last all = ap (λ (us : List Lexeme). starts test (us ++ rest)) (parts ∙ ap (λ (us : List Lexeme). a ++ us) last) ∙ first spells.0.0 a all
-      where
-        first : (vs : List CheckDef) (a : List Lexeme) → Many checking tt vs a → starts test ((a ++ t ∷ []) ++ rest) ≡ false
-        first _ _ (no_more _) = sign t (passes_by semicolon t is)
-        first _ _ (one_more _ w ws c d one others) =
-            let begun = starts-append (is_word (codes "constraint")) (c ++ d) (t ∷ []) (starts-append (is_word (codes "constraint")) c d (named_check_is.begins w c one)) in
-            apart_first (((c ++ d) ++ t ∷ []) ++ rest) (starts-append (is_word (codes "constraint")) ((c ++ d) ++ t ∷ []) rest begun)
-          where
-            apart_first : (us : List Lexeme) → starts (is_word (codes "constraint")) us ≡ true → starts test us ≡ false
-            apart_first [] e = refl
-            apart_first (u ∷ us) e = word u e
+    apart : (one : Lexeme → Bool) → Apart one test → (us : List Lexeme) → starts one us ≡ true → starts test us ≡ false
+    apart one h [] e = refl
+    apart one h (u ∷ us) e = h u e
+
+    first : (vs : List CheckDef) (a : List Lexeme) → Many checking tt vs a → starts test (a ++ (spells.2.1 ++ rest)) ≡ false
+    first _ _ (no_more _) = apart semicolon sign (spells.2.1 ++ rest) (starts-append semicolon spells.2.1 rest (mark_begins semicolon tt spells.2.1 spells.2.4))
+    first _ _ (one_more _ w ws c d one others) =
+        let begun = starts-append (is_word (codes "constraint")) c d (named_check_is.begins w c one) in
+        apart (is_word (codes "constraint")) word ((c ++ d) ++ (spells.2.1 ++ rest)) (starts-append (is_word (codes "constraint")) (c ++ d) (spells.2.1 ++ rest) begun)
 
 bracket_no_elements : Apart (is_sign 41) table_elements.goes_on
 unfolding table_elements
@@ -561,7 +498,7 @@ abbrev a_literal_path : Lexeme
 a_literal_path = record { gap = 32 ∷ []; kind = Literal; word = 39 ∷ 97 ∷ 46 ∷ 98 ∷ 39 ∷ []; start = 0 }
 
 literal_path_laws : Lawful literal_path
-unfolding path_value path_in literal_value text_in literal_of undoubled inside is_utf8 chars encode is_blank is_digit begins_word in_word is_sign_byte marks_escapes in_line next_is run_end quote_end escape_end comment_end fraction_end number_end begins_line closed begun in_utf8 piece_at next_within next_token_of name_of spelling is_sign name_in name_value collected_within collected
+unfolding reads
 literal_path_laws = one_laws path_value a_literal_path (record { schema = codes "a"; name = codes "b" }) refl
 
 abbrev read_as : QName → List Lexeme → Reading QName

@@ -158,13 +158,9 @@ fresh_begins front rest (inr h) =
     index_at [] b rest = refl
     index_at (x ∷ before) b rest = index_at before b rest
 
-starts_solid : (n : List ℕ) → Begun (connect_line n)
-unfolding is_blank
-starts_solid n = record { first = 92; rest = _; bytes = refl; solid = refl }
-
 pub line_stands : (front g n rest : List ℕ) → Gap g → IsFresh (front ++ g) → IsName n → list_all in_line n ≡ true
     → IsLine (front ++ (g ++ (connect_line n ++ 10 ∷ rest))) (length front) (Some (stmt.Connect n)) (length front + length g) (length front + length g + length (connect_line n))
-unfolding goes_on next_is in_line
+unfolding goes_on next_is in_line is_blank
 line_stands front g n rest gap fresh is plain =
     let line = connect_line n in
     let text = front ++ (g ++ (line ++ 10 ∷ rest)) in
@@ -174,7 +170,7 @@ line_stands front g n rest gap fresh is plain =
     let there = spelling_is_read (front ++ g) line (10 ∷ rest) MetaLine spells refl utf8 (λ e. fresh_begins (front ++ g) (line ++ 10 ∷ rest) fresh) in
     let place : length (front ++ g) ≡ length front + length g = length-append front g in
     let passed : next_token_of text (length front) ≡ next_token_of text (length front + length g) =
-    subst (λ (x : List ℕ). next_token_of (front ++ (g ++ (x ++ 10 ∷ rest))) (length front) ≡ next_token_of (front ++ (g ++ (x ++ 10 ∷ rest))) (length front + length g)) (append-nil line) (gap_stands g line [] gap (starts_solid n) front (10 ∷ rest) refl) in
+    subst (λ (x : List ℕ). next_token_of (front ++ (g ++ (x ++ 10 ∷ rest))) (length front) ≡ next_token_of (front ++ (g ++ (x ++ 10 ∷ rest))) (length front + length g)) (append-nil line) (gap_stands g line [] gap refl front (10 ∷ rest) refl) in
     let found : next_token_of text (length front + length g) ≡ Ok (Some (token_at MetaLine (length front + length g) line)) =
     subst (λ (x : List ℕ). next_token_of x (length front + length g) ≡ Ok (Some (token_at MetaLine (length front + length g) line))) (sym whole) (subst (λ k. next_token_of ((front ++ g) ++ (line ++ 10 ∷ rest)) k ≡ Ok (Some (token_at MetaLine k line))) place there.found) in
     let same : token_text text (token_at MetaLine (length front + length g) line) ≡ line =

@@ -45,7 +45,7 @@ use Rattle.ddl_forms.proofs.Closing.{Closes, ends_with, ends_append}
 use Rattle.ddl_forms.proofs.Kept.{AllCame, came_front, came_behind}
 use Rattle.ddl_forms.proofs.Putting.{Follows, IsPut, put_as, joined-append}
 use Rattle.ddl_forms.proofs.Tokens.{none, space, name_token, value_name}
-use Rattle.ddl_forms.proofs.Written.{Written, Kinds, meets, is_bare_word, word_said, name_said, is_key, comma_as, ending, mark_as, name_as, path_as, then_as, then_puts, lead_as, word_then, end_as, seen_as, is_as, like_as, pieces_as, choose_as, heard_as, also_as, AllFit, items_pieces, many_as, lone_as}
+use Rattle.ddl_forms.proofs.Written.{Written, Kinds, given_or, or_given, meets, is_bare_word, word_said, name_said, is_key, comma_as, ending, mark_as, name_as, path_as, then_as, then_puts, lead_as, word_then, end_as, seen_as, is_as, like_as, pieces_as, choose_as, heard_as, also_as, AllFit, items_pieces, many_as, lone_as}
 use Rattle.ddl_laws.specs.Respelling.{IsWritable}
 
 -- ---- a part whose value decides what stands behind it
@@ -135,19 +135,11 @@ with_options_as =
     let admin : Written options = like_as (choose_as (word_then (codes "ADMIN") refl (then_as truth_as others refl) refl) (heard_as Anyhow (λ x ts r came h. tt))) Anyhow (λ x u. inl (tt, tt)) (λ x h. tt) in
     like_as (choose_as (word_then (codes "WITH") refl admin refl) (heard_as Anyhow (λ x ts r came h. tt))) Anyhow (λ x u. inl tt) (λ x h. tt)
 
-abbrev pub ended : (o : Option (List ℕ)) → IsGrantor o → ((n : List ℕ) × IsName n × (Some n ≡ o)) ⊎ ((u : Unit {0}) × Unit {0} × (None ≡ o))
-ended None is = inr (tt, tt, refl)
-ended (Some n) is = inl (n, is, refl)
-
-pub grantor_is : (o : Option (List ℕ)) → ((n : List ℕ) × IsName n × (Some n ≡ o)) ⊎ ((u : Unit {0}) × Unit {0} × (None ≡ o)) → IsGrantor o
-grantor_is o (inl h) = subst IsGrantor h.2 h.1
-grantor_is o (inr h) = subst IsGrantor h.2 tt
-
 unfoldable pub granted_by_as : Written granted_by
 unfolding granted_by is_key
 granted_by_as =
     let name = word_then (codes "GRANTED") refl (word_then (codes "BY") refl (end_as (name_as space) refl) refl) refl in
-    like_as (choose_as (seen_as Some name) (seen_as (λ u. None) (mark_as ending))) IsGrantor ended grantor_is
+    like_as (choose_as (seen_as Some name) (seen_as (λ u. None) (mark_as ending))) IsGrantor (given_or IsGrantor) (or_given IsGrantor tt)
 
 unfoldable pub membership_as : (role : List ℕ) → Written (membership role)
 unfolding membership member is_key with_options_as granted_by_as
@@ -207,16 +199,10 @@ pub told_is : {A : Type 0} (o : Option A) (v : A) → told o ≡ Ok v → o ≡ 
 told_is None v e = absurd cc
 told_is (Some u) v e = let same : u ≡ v = cc in ap Some same
 
-pub told_ok : {A : Type 0} (o : Option A) (v : A) → o ≡ Some v → told o ≡ Ok v
-told_ok o v e = ap told e
-
 unfoldable pub wanted_as : Written wanted
 wanted_as =
     word_said space (λ w. (o : Option Right) × (wanting o ≡ w)) AreSome (λ w fit. opening_word fit.0) (λ w fit. opening_bare fit.0)
-    (λ w fit t k word. told_ok (wanted_first (t ∷ [])) w (wanted_says fit.0 t k word ∙ ap Some fit.1)) (λ t w e. wanted_some (t ∷ []) w (told_is (wanted_first (t ∷ [])) w e))
-
-pub right_bare : (x : Right) → is_bare_word (written_word x) ≡ true
-right_bare x = opening_bare (Some x)
+    (λ w fit t k word. ap told (wanted_says fit.0 t k word ∙ ap Some fit.1)) (λ t w e. wanted_some (t ∷ []) w (told_is (wanted_first (t ∷ [])) w e))
 
 pub right_says : (x : Right) (t : Lexeme) → t.kind ≡ Word → t.word ≡ written_word x → right_first (t ∷ []) ≡ Some x
 unfolding right_first is_word is_keyword_of
@@ -227,7 +213,7 @@ pub right_means : (s : Rights) (x : Right) → goes_with s x ≡ true → (t : L
 right_means s x goes t k w = ap (λ o. told (joining s o)) (right_says x t k w) ∙ ap (λ (b : Bool). told (cond b (Some x) None)) goes
 
 unfoldable pub more_as : (s : Rights) → Written (comma ▸ right_behind s)
-more_as s = lead_as comma_as (word_said none (λ x. goes_with s x ≡ true) Anyhow (λ x goes. written_word x) (λ x goes. right_bare x) (right_means s) (λ t x e. tt)) refl
+more_as s = lead_as comma_as (word_said none (λ x. goes_with s x ≡ true) Anyhow (λ x goes. written_word x) (λ x goes. opening_bare (Some x)) (right_means s) (λ t x e. tt)) refl
 
 pub still_some : (r : Rights) (xs : List Right) → has_rights r ≡ true → has_rights (all_of r xs) ≡ true
 still_some r [] e = e
@@ -310,15 +296,11 @@ on_object_as w =
     let whole = thenby_as (kind_with_as w) (object_on_as w) Safe Words (object_decided w) false (λ k e. absurd cc) in
     is_as (word_then (codes "ON") refl whole refl) (λ x. AreSome w → AreOn x) (λ x h some. subst AreOn h.2.2 (are_on w h.0 h.2.0 some h.1 (object_is h.0 h.2.0 h.2.1)))
 
-pub rights_decided : (r s : Rights) → decides Safe Words (rights_from_as r) (on_object_as (These s)) ≡ true
-unfolding rights_from_as on_object_as
-rights_decided r s = refl
-
 unfoldable pub rights_and_object_as : (w : Wanted) → Written (rights_and_object w)
 unfolding rights_and_object rights_from_as on_object_as
 rights_and_object_as All = on_object_as All
 rights_and_object_as (These r) =
-    is_as (thenby_as (rights_from_as r) (λ s. on_object_as (These s)) Safe Words (rights_decided r) false (λ s e. absurd cc)) (λ x. AreSome (These r) → AreOn x)
+    is_as (thenby_as (rights_from_as r) (λ s. on_object_as (These s)) Safe Words (λ s. refl) false (λ s e. absurd cc)) (λ x. AreSome (These r) → AreOn x)
     (λ x h some. h.2 (ap has_rights (sym h.1.2) ∙ still_some r h.1.0 some))
 
 pub rights_is : (w : Wanted) (x : Granted × Rights) → (rights_and_object_as w).Is x → AreSome w → AreOn x
