@@ -16,12 +16,13 @@ use Rattle.ddl_parts.specs.Lexemes.{Lexeme, spelled, source, is_word, is_sign}
 use Rattle.ddl_parts.specs.Parts.{run, Runs}
 use Rattle.ddl_parts.specs.Expressions.{Nest, nested, nest_step, nest_done, ends_run, behind_kind, behind_not, behind_null, behind_other, is_inside, moved, step_by, default_and_null, are_not_null, without_not_null}
 use Rattle.ddl_parts.proofs.Leads.{words_apart}
+use Rattle.ddl_parts.proofs.Machines.{run_none}
 use Rattle.ddl_forms.specs.Texts.{semicolon, IsDefaultText}
 use Rattle.ddl_forms.proofs.Standing.{Stood, placed}
 use Rattle.ddl_forms.proofs.Kept.{AllCame, came_front, spelled-append}
 use Rattle.ddl_forms.proofs.Tokens.{space, word_token, a_word}
 use Rattle.ddl_write.specs.Paths.{only_if}
-use Rattle.ddl_forms.proofs.RunTexts.{AllPlain, not_some, run_none, run-append, placed-append, plain_last, run_kept, run_read}
+use Rattle.ddl_forms.proofs.RunTexts.{AllPlain, not_some, run-append, placed-append, plain_last, run_kept, run_read}
 use Rattle.ddl_forms.proofs.Behind.{Words, Safe, admits, admitted}
 use Rattle.ddl_forms.proofs.Putting.{Follows, IsPut, same_text}
 use Rattle.ddl_forms.proofs.Written.{Written, leaf_as, pieces_as, run_put}
@@ -129,32 +130,17 @@ word_keeps key t bs e = by t.kind t.word e
     by MetaLine w f = absurd cc
     by x w f = refl
 
-not_step : (takes : Bool) (spot : Spot) (t : Lexeme) → is_word (codes "not") t ≡ true → step_by true takes spot t [] ≡ cond (ends_run true t) None (behind_not spot)
-not_step takes spot t e = ap (λ (b : Bool). outside takes spot t.kind (ends_run true t) b (is_word (codes "null") t)) e
-
-null_step : (takes : Bool) (spot : Spot) (t : Lexeme) → is_word (codes "null") t ≡ true → step_by true takes spot t [] ≡ cond (ends_run true t) None (behind_null takes spot)
-null_step takes spot t e =
-    ap (λ (b : Bool). outside takes spot t.kind (ends_run true t) b (is_word (codes "null") t)) (words_apart (codes "null") (codes "not") refl t e)
-    ∙ ap (λ (b : Bool). outside takes spot t.kind (ends_run true t) false b) e
-
 -- where NOT NULL isn't taken, no run ends with it
-null_refused : (spot : Spot) (t : Lexeme) → is_word (codes "null") t ≡ true → behind_null false spot ≡ None → step_by true false spot t [] ≡ None
-null_refused spot t e none = null_step false spot t e ∙ by (ends_run true t)
-  where
-    by : (b : Bool) → cond b None (behind_null false spot) ≡ None
-    by true = refl
-    by false = none
+null_refused : (spot : Spot) (kind : TokenKind) (ends : Bool) → behind_null false spot ≡ None → outside false spot kind ends false true ≡ None
+null_refused spot kind true e = refl
+null_refused spot kind false e = e
 
-both_refused : (spot : Spot) (a b : Lexeme) → is_word (codes "not") a ≡ true → is_word (codes "null") b ≡ true → option_and_then (λ x. nest_step true false x b) (step_by true false spot a []) ≡ None
+both_refused : (spot : Spot) (kind : TokenKind) (ends is_null : Bool) (b : Lexeme) → is_word (codes "not") b ≡ false → is_word (codes "null") b ≡ true → option_and_then (λ x. nest_step true false x b) (outside false spot kind ends true is_null) ≡ None
 unfolding nest_step
-both_refused spot a b e f = ap (option_and_then (λ x. nest_step true false x b)) (not_step false spot a e) ∙ by (ends_run true a) spot
-  where
-    by : (ends : Bool) (s : Spot) → option_and_then (λ x. nest_step true false x b) (cond ends None (behind_not s)) ≡ None
-    by true s = refl
-    by false First = null_refused FirstNot b f refl
-    by false FirstNot = null_refused LaterNot b f refl
-    by false Shut = refl
-    by false x = null_refused LaterNot b f refl
+both_refused spot kind true is_null b e f = refl
+both_refused Shut kind false is_null b e f = refl
+both_refused First kind false is_null b e f = rw (e, f) (null_refused FirstNot b.kind (ends_run true b) refl)
+both_refused x kind false is_null b e f = rw (e, f) (null_refused LaterNot b.kind (ends_run true b) refl)
 
 both_within : (c : Bracket) (bs : List Bracket) (spot : Spot) (a b : Lexeme) → is_word (codes "not") a ≡ true → is_word (codes "null") b ≡ true
     → option_and_then (λ x. nest_step true false x b) (step_by true false spot a (c ∷ bs)) ≡ Some (nest (c ∷ bs) Inside)
@@ -166,7 +152,9 @@ unfolding nest_step nest_done
 none_at_end s last a b e f runs done = by s.brackets runs
   where
     by : (bs : List Bracket) → option_and_then (λ x. nest_step true false x b) (step_by true false s.spot a bs) ≡ Some last → ⊥
-    by [] g = not_some last (option_and_then (λ x. nest_step true false x b) (step_by true false s.spot a [])) g (both_refused s.spot a b e f)
+    by [] g =
+        let refused = both_refused s.spot a.kind (ends_run true a) (is_word (codes "null") a) b (words_apart (codes "null") (codes "not") refl b f) f in
+        not_some last (option_and_then (λ x. nest_step true false x b) (step_by true false s.spot a [])) g (rw e refused)
     by (c ∷ bs) g =
         let same = passed (λ y. nest_done y ≡ false) (nest (c ∷ bs) Inside) last (sym (both_within c bs s.spot a b e f) ∙ g) refl in
         absurd (cc (same, done))

@@ -3,7 +3,7 @@ use Rattle.std.proofs.Common.{◌≡◌, ℕ, zero, suc, ◌+◌, ◌-◌, ◌<�
 use Rattle.std.specs.Prelude.{◌==◌, slice_range}
 use Rattle.std.specs.List.{list_all}
 use Rattle.std.specs.Str.{is_utf8}
-use Rattle.std.proofs.lemmas.Bool.{or_parts, cases_Bool}
+use Rattle.std.proofs.lemmas.Bool.{and_parts, or_parts, cases_Bool}
 use Rattle.std.proofs.lemmas.Bool.Decides.{nat_tests}
 use Rattle.std.proofs.lemmas.List.{drop_at}
 use Rattle.std.proofs.lemmas.List.Folds.{drop_split}
@@ -11,19 +11,20 @@ use Rattle.sql_lex.specs.declared.token.TokenKind.{TokenKind}
 use Rattle.sql_lex.specs.declared.token.TokenKind.TheVariants.{Word, QuotedName, Literal, Number, Sign, MetaLine}
 use Rattle.sql_lex.specs.declared.token.Token.{Token}
 use Rattle.sql_lex.specs.declared.fault.LexFault.{LexFault}
-use Rattle.sql_lex.specs.Bytes.{is_digit, begins_word, in_word, next_is}
+use Rattle.sql_lex.specs.Bytes.{is_blank, is_digit, begins_word, in_word, is_sign as is_sign_byte, marks_escapes, next_is}
 use Rattle.sql_lex.specs.Next.{next_token_of}
 use Rattle.sql_lex.specs.Meaning.{spelling}
-use Rattle.sql_lex.specs.Spelling.{Spells, IsGap, goes_on, goes_on_behind_dot}
+use Rattle.sql_lex.specs.Spelling.{Spells, AreDigits, IsGap, goes_on, goes_on_behind_dot}
 use Rattle.sql_lex.specs.Answers.{Between, nothing, gap, IsNext}
 use Rattle.sql_lex.proofs.TextLaws.{next_found, piece_word}
 use Rattle.sql_lex.specs.Written.{quoted}
-use Rattle.sql_lex.proofs.PieceLaws.{quoted_is}
+use Rattle.sql_lex.proofs.PieceLaws.{quoted_is, word_free, digit_free}
 use Rattle.sql_lex.proofs.Passing.{lies_behind}
 use Rattle.sql_lex.proofs.WriteLaws.{spelling_is_read, gap_is_passed}
 use Rattle.ddl_parts.specs.Lexemes.{Lexeme, spelled, is_sign_kind}
 use Rattle.ddl_parts.specs.Pieces.{lexeme_of, lexemes}
 use Rattle.ddl_parts.specs.Collecting.{Collected, collected, collected_within, collected_by, nothing_more, preceded}
+use Rattle.ddl_parts.proofs.Telling.{and_false}
 use Rattle.ddl_parts.proofs.Slices.{drop_twice, seam}
 use Rattle.ddl_forms.proofs.Standing.{is_safe, is_safe_byte, Stands, Stood}
 
@@ -141,6 +142,45 @@ pub came_behind : (a b : List Lexeme) (r : List ℕ) → AllCame (a ++ b) r → 
 came_behind [] b r h = h
 came_behind (t ∷ a) b r h = came_behind a b r h.1
 
+-- ---- what a token begins with
+
+-- it begins with a byte that is no white space
+abbrev pub Begun : List ℕ → Type 0
+Begun [] = ⊥
+Begun (b ∷ rest) = is_blank b ≡ false
+
+pub begun_some : (word : List ℕ) → Begun word → 0 < length word
+begun_some [] h = absurd h
+begun_some (b ∷ rest) h = omega arith
+
+mark_solid : (b : ℕ) → marks_escapes b ≡ true → is_blank b ≡ false
+unfolding marks_escapes is_blank
+mark_solid b e = grind (arith, nat_tests)
+
+sign_byte_solid : (b : ℕ) → is_sign_byte b ≡ true → is_blank b ≡ false
+unfolding is_sign_byte is_blank
+sign_byte_solid b e = grind (arith, nat_tests)
+
+solid : (b : ℕ) (word rest : List ℕ) → word ≡ b ∷ rest → is_blank b ≡ false → Begun word
+solid b word rest e f = subst Begun (sym e) f
+
+pub token_begun : (kind : TokenKind) (word : List ℕ) → (kind ≡ MetaLine → ⊥) → Spells kind word → Begun word
+unfolding is_blank
+token_begun Word [] line h = absurd h
+token_begun Word (b ∷ word) line h = solid b (b ∷ word) word refl (word_free b h.0)
+token_begun QuotedName word line h = solid 34 word _ (h.1 ∙ quoted_is 34 h.0) refl
+token_begun Literal word line (inl h) = solid 39 word _ (h.1 ∙ quoted_is 39 h.0) refl
+token_begun Literal word line (inr h) = solid h.0 word _ h.4 (mark_solid h.0 h.2)
+token_begun Number [] line (inl h) = absurd (let e = h.0 in omega arith)
+token_begun Number (b ∷ word) line (inl h) = solid b (b ∷ word) word refl (digit_free b (and_parts _ _ h.1).0).0
+token_begun Number word line (inr h) = by h.0 h.2 h.4
+  where
+    by : (whole : List ℕ) → AreDigits whole → word ≡ whole ++ 46 ∷ h.1 → Begun word
+    by [] d e = absurd (let k = d.0 in omega arith)
+    by (b ∷ whole) d e = solid b word (whole ++ 46 ∷ h.1) e (digit_free b (and_parts _ _ d.1).0).0
+token_begun (Sign b) word line h = solid b word [] h.1 (sign_byte_solid b h.0)
+token_begun MetaLine word line h = absurd (line refl)
+
 -- ---- where they are kept
 
 safe_word : (b : ℕ) → is_safe_byte b ≡ true → in_word b ≡ false
@@ -157,10 +197,6 @@ safe_other b c e f = by (cases_Bool (b == c))
     by : ((b == c) ≡ true) ⊎ ((b == c) ≡ false) → (b == c) ≡ false
     by (inl is) = grind (arith, nat_tests)
     by (inr isnt) = isnt
-
-and_false : (x : Bool) → (x && false) ≡ false
-and_false true = refl
-and_false false = refl
 
 -- nothing that is safe goes on with a token
 pub safe_ends : (kind : TokenKind) (word after : List ℕ) → (kind ≡ MetaLine → ⊥) → is_safe after ≡ true → goes_on kind word after ≡ false
@@ -249,24 +285,10 @@ abbrev pub NoLine : List Lexeme → Type 0
 NoLine [] = Unit {0}
 NoLine (t ∷ ts) = (t.kind ≡ MetaLine → ⊥) × NoLine ts
 
-some_bytes : (kind : TokenKind) (word : List ℕ) → Spells kind word → 0 < length word
-some_bytes Word [] h = absurd h
-some_bytes Word (b ∷ word) h = omega arith
-some_bytes QuotedName word h = quoted_some 34 word h
-  where
-    quoted_some : (q : ℕ) (word : List ℕ) → (text : List ℕ) × (word ≡ quoted q text) → 0 < length word
-    quoted_some q word h = subst (λ (x : List ℕ). 0 < length x) (sym (h.1 ∙ quoted_is q h.0)) (omega arith)
-some_bytes Literal word (inl h) = subst (λ (x : List ℕ). 0 < length x) (sym (h.1 ∙ quoted_is 39 h.0)) (omega arith)
-some_bytes Literal word (inr h) = subst (λ (x : List ℕ). 0 < length x) (sym h.4) (omega arith)
-some_bytes Number word (inl h) = h.0
-some_bytes Number word (inr h) = subst (λ (x : List ℕ). 0 < length x) (sym h.4) (omega (arith, length-append h.0 (46 ∷ h.1)))
-some_bytes (Sign b) word h = subst (λ (x : List ℕ). 0 < length x) (sym h.1) (omega arith)
-some_bytes MetaLine word h = subst (λ (x : List ℕ). 0 < length x) (sym h.2) (omega arith)
-
 -- tokens that are kept stand before others that begin with what is safe
 pub all_stand_again : (ts others : List Lexeme) (r : List ℕ) → NoLine ts → AllCame ts r → Stood others → ((after : List ℕ) → is_safe after ≡ true → is_safe (spelled others ++ after) ≡ true) → Stood (ts ++ others)
 all_stand_again [] others r line came stood safe = stood
 all_stand_again (t ∷ ts) others r line came stood safe = (
-  subst (Stands t) (sym (spelled-append ts others)) (stands_again t (spelled ts) r (spelled others) line.0 (some_bytes t.kind t.word came.0.spells) came.0 safe),
+  subst (Stands t) (sym (spelled-append ts others)) (stands_again t (spelled ts) r (spelled others) line.0 (begun_some t.word (token_begun t.kind t.word line.0 came.0.spells)) came.0 safe),
   all_stand_again ts others r line.1 came.1 stood safe,
 )

@@ -13,13 +13,14 @@ use Rattle.ddl_parts.specs.declared.pieces.Piece.{Piece}
 use Rattle.ddl_parts.specs.Lexemes.{Lexeme, spelled, source, is_sign, is_sign_kind, start_of}
 use Rattle.ddl_parts.specs.Parts.{Machine, run, Runs}
 use Rattle.ddl_parts.specs.Pieces.{lexeme_of, lexemes}
+use Rattle.ddl_parts.proofs.Machines.{run_none}
 use Rattle.ddl_parts.specs.Collecting.{collected}
 use Rattle.ddl_forms.specs.Texts.{semicolon}
 use Rattle.ddl_forms.specs.Texts.{IsRunText}
 use Rattle.ddl_forms.proofs.Closing.{only_last}
 use Rattle.ddl_forms.proofs.Standing.{is_safe, Stands, Stood, placed, NoSemicolon, collects_all}
-use Rattle.ddl_forms.proofs.Kept.{AllCame, NoLine, have_come, whole_text, stands_again, all_stand_again, spelled-append}
-use Rattle.ddl_forms.proofs.Tokens.{Gap, none as none_before, Begun, gap_stands, begun_some}
+use Rattle.ddl_forms.proofs.Kept.{AllCame, NoLine, begun_some, token_begun, have_come, whole_text, stands_again, all_stand_again, spelled-append}
+use Rattle.ddl_forms.proofs.Tokens.{Gap, none as none_before, gap_stands}
 
 -- ---- machines
 
@@ -37,7 +38,7 @@ not_some x o e f = absurd (cc (e, f))
 abbrev bare : TokenKind → List ℕ → Lexeme
 bare kind word = record { gap = []; kind = kind; word = word; start = 0 }
 
-sign_kind : (b : ℕ) (k : TokenKind) → is_sign_kind b k ≡ true → k ≡ Sign b
+pub sign_kind : (b : ℕ) (k : TokenKind) → is_sign_kind b k ≡ true → k ≡ Sign b
 sign_kind b (Sign c) e = ap Sign (sym (eqb-true b c e))
 sign_kind b Word e = absurd cc
 sign_kind b x e = absurd cc
@@ -54,10 +55,6 @@ plain_by m same sign line begins = record { ends = λ s x t e. ends s x t (is_si
     ends : (s x : m.State) (t : Lexeme) (b : Bool) → is_sign_kind 59 t.kind ≡ b → m.step s t ≡ Some x → is_sign_kind 59 t.kind ≡ false
     ends s x t false is e = is
     ends s x t true is e = absurd (refused s x t (Sign 59) (sign_kind 59 t.kind is) (sign s t.word) e)
-
-pub run_none : (m : Machine) (ts : List Lexeme) → run m None ts ≡ None
-run_none m [] = refl
-run_none m (t ∷ ts) = run_none m ts
 
 pub run-append : (m : Machine) (s : Option m.State) (a b : List Lexeme) → run m s (a ++ b) ≡ run m (run m s a) b
 run-append m s [] b = refl
@@ -134,36 +131,6 @@ kinds_placed at (t ∷ ts) = ap (λ (ks : List TokenKind). t.kind ∷ ks) (kinds
 
 source_gapped : (g : List ℕ) (at : ℕ) (t : Lexeme) (ts : List Lexeme) → source (placed at (gapped g t ∷ ts)) ≡ t.word ++ spelled ts
 source_gapped g at t ts = ap (λ (x : List ℕ). t.word ++ x) (spelled_placed (at + length g + length t.word) ts)
-
--- ---- what a token begins with
-
-mark_solid : (b : ℕ) → marks_escapes b ≡ true → is_blank b ≡ false
-unfolding marks_escapes is_blank
-mark_solid b e = grind (arith, nat_tests)
-
-sign_byte_solid : (b : ℕ) → is_sign_byte b ≡ true → is_blank b ≡ false
-unfolding is_sign_byte is_blank
-sign_byte_solid b e = grind (arith, nat_tests)
-
-solid : (b : ℕ) (word rest : List ℕ) → word ≡ b ∷ rest → is_blank b ≡ false → Begun word
-solid b word rest e f = subst Begun (sym e) f
-
-token_begun : (kind : TokenKind) (word : List ℕ) → (kind ≡ MetaLine → ⊥) → Spells kind word → Begun word
-unfolding is_blank
-token_begun Word [] line h = absurd h
-token_begun Word (b ∷ word) line h = solid b (b ∷ word) word refl (word_free b h.0)
-token_begun QuotedName word line h = solid 34 word _ (h.1 ∙ quoted_is 34 h.0) refl
-token_begun Literal word line (inl h) = solid 39 word _ (h.1 ∙ quoted_is 39 h.0) refl
-token_begun Literal word line (inr h) = solid h.0 word _ h.4 (mark_solid h.0 h.2)
-token_begun Number [] line (inl h) = absurd (let e = h.0 in omega arith)
-token_begun Number (b ∷ word) line (inl h) = solid b (b ∷ word) word refl (digit_free b (and_parts _ _ h.1).0).0
-token_begun Number word line (inr h) = by h.0 h.2 h.4
-  where
-    by : (whole : List ℕ) → AreDigits whole → word ≡ whole ++ 46 ∷ h.1 → Begun word
-    by [] d e = absurd (let k = d.0 in omega arith)
-    by (b ∷ whole) d e = solid b word (whole ++ 46 ∷ h.1) e (digit_free b (and_parts _ _ d.1).0).0
-token_begun (Sign b) word line h = solid b word [] h.1 (sign_byte_solid b h.0)
-token_begun MetaLine word line h = absurd (line refl)
 
 -- ---- before what is safe
 

@@ -2,7 +2,7 @@
 use Rattle.std.proofs.Common.{◌≡◌, ℕ, zero, suc, ◌+◌, ◌-◌, ◌<◌, ◌≤◌, Bool, true, false, not, cond, ◌||◌, List, [], ◌∷◌, ◌++◌, length, length-append, append_assoc, append-nil, take, drop, Some, None, Ok, refl, sym, ap, subst, ◌∙◌, arith}
 use Rattle.std.specs.Prelude.{◌==◌, slice_range}
 use Rattle.std.proofs.lemmas.List.{take_at, drop_at}
-use Rattle.std.proofs.lemmas.Bool.{and_parts}
+use Rattle.std.proofs.lemmas.Bool.{and_parts, not-true}
 use Rattle.sql_lex.specs.declared.token.TokenKind.{TokenKind}
 use Rattle.sql_lex.specs.Next.{next_token_of}
 use Rattle.sql_lex.proofs.Passing.{next_at_end}
@@ -109,9 +109,27 @@ begun n text at t next b is = ap (collected_by (collected_within n text) at) nex
 sizes : (t : Lexeme) (ts : List Lexeme) → length (spelled (t ∷ ts)) ≡ length t.gap + length t.word + length (spelled ts)
 sizes t ts = omega (arith, length-append t.gap (t.word ++ spelled ts), length-append t.word (spelled ts))
 
-not_true : (b : Bool) → not b ≡ true → b ≡ false
-not_true false e = refl
-not_true true e = absurd cc
+abbrev past : List ℕ → Lexeme → List ℕ
+past front t = front ++ (t.gap ++ t.word)
+
+-- where the next token ends
+text_past : (text front : List ℕ) (t : Lexeme) (ts : List Lexeme) (after : List ℕ) → text ≡ front ++ (spelled (t ∷ ts) ++ after) → (text ≡ front ++ (t.gap ++ (t.word ++ (spelled ts ++ after)))) × (text ≡ past front t ++ (spelled ts ++ after))
+text_past text front t ts after e =
+    let here : text ≡ front ++ (t.gap ++ (t.word ++ (spelled ts ++ after))) =
+    e ∙ ap (λ (x : List ℕ). front ++ x) (append_assoc t.gap (t.word ++ spelled ts) after ∙ ap (λ (x : List ℕ). t.gap ++ x) (append_assoc t.word (spelled ts) after)) in
+    (here, here ∙ ap (λ (x : List ℕ). front ++ x) (sym (append_assoc t.gap t.word (spelled ts ++ after))) ∙ sym (append_assoc front (t.gap ++ t.word) (spelled ts ++ after)))
+
+one_more : (n : ℕ) (text front : List ℕ) (t : Lexeme) (ts : List Lexeme) → Next text (length front) t → semicolon t ≡ false → IsCollected text (length (past front t)) ts (collected_within n text (length (past front t)))
+    → IsCollected text (length front) (t ∷ ts) (collected_within (suc n) text (length front))
+unfolding is_sign
+one_more n text front t ts next none later =
+    let place : length (past front t) ≡ length front + length t.gap + length t.word = omega (arith, length-append front (t.gap ++ t.word), length-append t.gap t.word) in
+    let behind = subst (λ k. IsCollected text k ts (collected_within n text k)) place later in
+    subst (λ c. IsCollected text (length front) (t ∷ ts) c) (sym (begun n text (length front) t next false none)) (record {
+      tokens = ap (λ (l : Lexeme). l ∷ lexemes text (collected_within n text (length front + length t.gap + length t.word)).pieces) next.same ∙ ap (λ (ls : List Lexeme). lexeme t.gap t.kind t.word (length front + length t.gap) ∷ ls) behind.tokens;
+      end = let z = sizes t ts in behind.end ∙ (let k : length front + length t.gap + length t.word + length (spelled ts) ≡ length front + length (spelled (t ∷ ts)) = omega arith in k);
+      fault = behind.fault;
+    })
 
 pub are_collected : (n : ℕ) (text front : List ℕ) (ts : List Lexeme) (after : List ℕ) → text ≡ front ++ (spelled ts ++ after) → Stood ts → is_safe after ≡ true → only_last semicolon ts ≡ true → ends_with semicolon ts ≡ true → length ts ≤ n
     → IsCollected text (length front) ts (collected_within n text (length front))
@@ -119,31 +137,13 @@ unfolding is_sign
 are_collected n text front [] after e s safe last ends le = absurd cc
 are_collected zero text front (t ∷ ts) after e s safe last ends le = absurd (omega arith)
 are_collected (suc n) text front (t ∷ []) after e s safe last ends le =
-    let e' : text ≡ front ++ (t.gap ++ (t.word ++ ([] ++ after))) = e ∙ ap (λ (x : List ℕ). front ++ x) (append_assoc t.gap (t.word ++ []) after ∙ ap (λ (x : List ℕ). t.gap ++ x) (append_assoc t.word [] after)) in
-    let next = next_stands text front t [] after e' s.0 safe in
-    let is = begun n text (length front) t next true ends in
-    subst (λ c. IsCollected text (length front) (t ∷ []) c) (sym is) (record {
-      tokens = ap (λ (l : Lexeme). l ∷ []) next.same;
-      end = let z = sizes t [] in omega arith;
-      fault = refl;
-    })
+    let next = next_stands text front t [] after (text_past text front t [] after e).0 s.0 safe in
+    subst (λ c. IsCollected text (length front) (t ∷ []) c) (sym (begun n text (length front) t next true ends)) (record { tokens = ap (λ (l : Lexeme). l ∷ []) next.same; end = let z = sizes t [] in omega arith; fault = refl })
 are_collected (suc n) text front (t ∷ u ∷ ts) after e s safe last ends le =
     let more = u ∷ ts in
-    let e' : text ≡ front ++ (t.gap ++ (t.word ++ (spelled more ++ after))) =
-    e ∙ ap (λ (x : List ℕ). front ++ x) (append_assoc t.gap (t.word ++ spelled more) after ∙ ap (λ (x : List ℕ). t.gap ++ x) (append_assoc t.word (spelled more) after)) in
-    let next = next_stands text front t (spelled more) after e' s.0 safe in
     let h = and_parts (not (semicolon t)) (only_last semicolon more) last in
-    let is = begun n text (length front) t next false (not_true (semicolon t) h.0) in
-    let front' = front ++ (t.gap ++ t.word) in
-    let e'' : text ≡ front' ++ (spelled more ++ after) =
-    e' ∙ ap (λ (x : List ℕ). front ++ x) (sym (append_assoc t.gap t.word (spelled more ++ after))) ∙ sym (append_assoc front (t.gap ++ t.word) (spelled more ++ after)) in
-    let place : length front' ≡ length front + length t.gap + length t.word = omega (arith, length-append front (t.gap ++ t.word), length-append t.gap t.word) in
-    let behind = subst (λ k. IsCollected text k more (collected_within n text k)) place (are_collected n text front' more after e'' s.1 safe h.1 ends (omega arith)) in
-    subst (λ c. IsCollected text (length front) (t ∷ more) c) (sym is) (record {
-      tokens = ap (λ (l : Lexeme). l ∷ lexemes text (collected_within n text (length front + length t.gap + length t.word)).pieces) next.same ∙ ap (λ (ls : List Lexeme). lexeme t.gap t.kind t.word (length front + length t.gap) ∷ ls) behind.tokens;
-      end = let z = sizes t more in behind.end ∙ (let k : length front + length t.gap + length t.word + length (spelled more) ≡ length front + length (spelled (t ∷ more)) = omega arith in k);
-      fault = behind.fault;
-    })
+    let e' = text_past text front t more after e in
+    one_more n text front t more (next_stands text front t (spelled more) after e'.0 s.0 safe) (not-true (semicolon t) h.0) (are_collected n text (past front t) more after e'.1 s.1 safe h.1 ends (omega arith))
 
 -- no text has more tokens than bytes
 few : (ts : List Lexeme) → Stood ts → length ts ≤ length (spelled ts)
@@ -158,28 +158,18 @@ collects text front ts after e s safe last ends =
     (omega (arith, few ts s, ap (λ (x : List ℕ). length x) e, length-append front (spelled ts ++ after), length-append (spelled ts) after))
 
 -- tokens without a semicolon, up to the end of the text
-pub are_all_collected : (n : ℕ) (text front : List ℕ) (ts : List Lexeme) → text ≡ front ++ spelled ts → Stood ts → NoSemicolon ts → length ts ≤ n → IsCollected text (length front) ts (collected_within (suc n) text (length front))
+pub are_all_collected : (n : ℕ) (text front : List ℕ) (ts : List Lexeme) → text ≡ front ++ (spelled ts ++ []) → Stood ts → NoSemicolon ts → length ts ≤ n → IsCollected text (length front) ts (collected_within (suc n) text (length front))
 unfolding collected_within is_sign
 are_all_collected n text front [] e s plain le =
     let at_end : next_token_of text (length front) ≡ Ok None = next_at_end text (length front) (ap length (sym (e ∙ append-nil front))) in
     subst (λ c. IsCollected text (length front) [] c) (sym (ap (collected_by (collected_within n text) (length front)) at_end)) (record { tokens = refl; end = let z : length front ≡ length front + 0 = omega arith in z; fault = refl })
 are_all_collected zero text front (t ∷ ts) e s plain le = absurd (omega arith)
 are_all_collected (suc n) text front (t ∷ ts) e s plain le =
-    let whole : text ≡ front ++ (t.gap ++ (t.word ++ (spelled ts ++ []))) = e ∙ ap (λ (x : List ℕ). front ++ (t.gap ++ (t.word ++ x))) (sym (append-nil (spelled ts))) in
-    let next = next_stands text front t (spelled ts) [] whole s.0 refl in
-    let is = begun (suc n) text (length front) t next false plain.0 in
-    let front' = front ++ (t.gap ++ t.word) in
-    let e' : text ≡ front' ++ spelled ts = e ∙ ap (λ (x : List ℕ). front ++ x) (sym (append_assoc t.gap t.word (spelled ts))) ∙ sym (append_assoc front (t.gap ++ t.word) (spelled ts)) in
-    let place : length front' ≡ length front + length t.gap + length t.word = omega (arith, length-append front (t.gap ++ t.word), length-append t.gap t.word) in
-    let behind = subst (λ k. IsCollected text k ts (collected_within (suc n) text k)) place (are_all_collected n text front' ts e' s.1 plain.1 (omega arith)) in
-    subst (λ c. IsCollected text (length front) (t ∷ ts) c) (sym is) (record {
-      tokens = ap (λ (l : Lexeme). l ∷ lexemes text (collected_within (suc n) text (length front + length t.gap + length t.word)).pieces) next.same ∙ ap (λ (ls : List Lexeme). lexeme t.gap t.kind t.word (length front + length t.gap) ∷ ls) behind.tokens;
-      end = let z = sizes t ts in behind.end ∙ (let k : length front + length t.gap + length t.word + length (spelled ts) ≡ length front + length (spelled (t ∷ ts)) = omega arith in k);
-      fault = behind.fault;
-    })
+    let e' = text_past text front t ts [] e in
+    one_more (suc n) text front t ts (next_stands text front t (spelled ts) [] e'.0 s.0 refl) plain.0 (are_all_collected n text (past front t) ts e'.1 s.1 plain.1 (omega arith))
 
 pub collects_all : (text : List ℕ) (ts : List Lexeme) → text ≡ spelled ts → Stood ts → NoSemicolon ts → IsCollected text 0 ts (collected text 0)
 unfolding collected
 collects_all text ts e s plain =
     let fuel : suc (length text) ≡ length text + 1 = omega arith in
-    subst (λ n. IsCollected text 0 ts (collected_within n text 0)) fuel (are_all_collected (length text) text [] ts e s plain (omega (arith, few ts s, ap (λ (x : List ℕ). length x) e)))
+    subst (λ n. IsCollected text 0 ts (collected_within n text 0)) fuel (are_all_collected (length text) text [] ts (e ∙ sym (append-nil (spelled ts))) s plain (omega (arith, few ts s, ap (λ (x : List ℕ). length x) e)))

@@ -25,7 +25,8 @@ use Rattle.ddl_parts.specs.Lexemes.{Lexeme, is_word, is_sign_kind}
 use Rattle.ddl_parts.specs.Leaves.{name_in, name_value, text_in, literal_value}
 use Rattle.ddl_forms.proofs.Standing.{is_safe, GapStands, Stands}
 use Rattle.ddl_forms.proofs.Behind.{Words, parts_words, admits}
-use Rattle.ddl_forms.proofs.Kept.{safe_ends}
+use Rattle.ddl_forms.proofs.Kept.{Begun, begun_some, safe_ends}
+use Rattle.ddl_parts.proofs.Telling.{and_false}
 
 -- ---- the tokens
 
@@ -42,10 +43,6 @@ abbrev pub literal_token : List ℕ → List ℕ → Lexeme
 literal_token gap t = record { gap = gap; kind = Literal; word = written_literal t; start = 0 }
 
 -- ---- tokens
-
-and_false : (x : Bool) → (x && false) ≡ false
-and_false true = refl
-and_false false = refl
 
 -- what parts words goes on with no word and is no quote
 parted : (b : ℕ) → parts_words b ≡ true → (in_word b ≡ false) × ((b == 34) ≡ false) × ((b == 39) ≡ false)
@@ -75,11 +72,6 @@ bare_no_blank : (b : ℕ) → begins_bare b ≡ true → is_blank b ≡ false
 unfolding begins_bare is_blank
 bare_no_blank b e = grind (arith, nat_tests)
 
--- it begins with a byte that is no white space
-abbrev pub Begun : List ℕ → Type 0
-Begun [] = ⊥
-Begun (b ∷ rest) = is_blank b ≡ false
-
 bare_begun : (n : List ℕ) → is_bare n ≡ true → Begun n
 unfolding is_bare
 bare_begun [] e = absurd cc
@@ -88,10 +80,6 @@ bare_begun (b ∷ rest) e = bare_no_blank b (and_parts (begins_bare b) (list_all
 pub name_begun : (n : List ℕ) → Begun (written_name n)
 unfolding written_name quoted is_blank
 name_begun n = elim (cases_Bool (is_bare n && not (is_reserved n))) [ inl is ↦ rw is (bare_begun n (and_parts (is_bare n) (not (is_reserved n)) is).0) | inr isnt ↦ rw isnt refl ]
-
-pub begun_some : (word : List ℕ) → Begun word → 0 < length word
-begun_some [] h = absurd h
-begun_some (b ∷ rest) h = omega arith
 
 -- ---- each token behind no gap or white space
 

@@ -23,7 +23,8 @@ use Rattle.ddl_forms.proofs.Behind.{Words, Safe, admits, admitted}
 use Rattle.ddl_forms.proofs.Closing.{passed}
 use Rattle.ddl_forms.proofs.Kept.{AllCame}
 use Rattle.ddl_forms.proofs.Tokens.{Gap, value_name}
-use Rattle.ddl_forms.proofs.RunTexts.{IsPlainMachine, plain_by, not_some, run_none, kinds, run_read}
+use Rattle.ddl_parts.proofs.Machines.{run_none}
+use Rattle.ddl_forms.proofs.RunTexts.{IsPlainMachine, plain_by, not_some, kinds, run_read}
 use Rattle.ddl_forms.proofs.Putting.{Follows, IsPut, same_text, put_as}
 use Rattle.ddl_forms.proofs.Written.{Written, leaf_as, path_as, run_put}
 

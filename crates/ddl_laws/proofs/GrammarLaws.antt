@@ -16,6 +16,7 @@ use Rattle.ddl_parts.proofs.Machines.{CanEnd, run_none, machine_laws}
 use Rattle.ddl_parts.proofs.Leads.{a_word, a_sign, name_laws, qualified_laws, sign_is, words_apart, qualified_begins, literal_laws, literal_begins, word_no_sign}
 use Rattle.ddl_parts.proofs.Telling.{sign_no_word, signs_apart, free, stop_no_type, sign_no_name, sign_no_literal}
 use Rattle.ddl_parts.proofs.Composing.{Headed, lawful_seen, lawful_ended, lawful_next, headed_sign, headed_seen, lawful_unless, lawful_word, lawful_sign, headed_word, lawful_either, headed_next, lawful_choose, lawful_then, one_word, lawful_worded, one_sign, ◌also◌}
+use Rattle.ddl_forms.proofs.RunTexts.{sign_kind}
 use Rattle.ddl_laws.proofs.Computing.{reads}
 use Rattle.ddl_read.specs.declared.rests.RestSpot.{RestSpot}
 use Rattle.ddl_read.specs.declared.rests.RestSpot.TheVariants.{Begin, Deferrable, Initially, Ended, Foreign, FirstOn, Update, UpdateNo, UpdateSet, Updated, SecondOn, Delete, DeleteNo, DeleteSet, Chosen, Opened, Named, Deleted}
@@ -56,7 +57,7 @@ use Rattle.sql_lex.specs.declared.fault.LexFault.{LexFault}
 use Rattle.cat_model.specs.declared.object.QName.{QName}
 use Rattle.ddl_parts.specs.Pieces.{lexemes}
 use Rattle.ddl_parts.specs.Collecting.{collected_within, collected}
-use Rattle.ddl_numbers.proofs.NumberLaws.{whole_number_laws}
+use Rattle.ddl_numbers.proofs.NumberLaws.{whole_number_laws, zero_below}
 use Rattle.ddl_read.specs.ValueGrammar.{if_last, whole_path, path_in, path_value, literal_path, truth, value_of_sequence, set_value}
 use Rattle.ddl_read.specs.CopyGrammar.{some_columns, copy_from}
 use Rattle.ddl_rights.proofs.GrantLaws.{granted_laws, revoked_laws}
@@ -173,10 +174,6 @@ foreign_rest_ends t e = rw (ends_goes_on t e, sign_no_word 59 (codes "on") t e, 
 
 abbrev a_zero : Lexeme
 a_zero = record { gap = 32 ∷ []; kind = Number; word = 48 ∷ []; start = 0 }
-
-zero_below : (limit : ℕ) → 0 < limit → digits_below limit (48 ∷ []) ≡ Some 0
-unfolding digits_below is_digit
-zero_below limit some = rw (lt-ltb 0 limit some) refl
 
 below : digits_below (2 ^ 63) (48 ∷ []) ≡ Some 0
 below = zero_below (2 ^ 63) (omega arith)
@@ -328,14 +325,9 @@ begun_by_laws {A} test p lp some goes x passes = record {
 opened : (t : Lexeme) → is_sign 40 t ≡ true → (v : List ℕ) × (more : List Lexeme) × expression.Spells v (t ∷ more)
 unfolding expression is_sign nest_step nest_done ends_run
 opened t e =
-    let kind = by t.kind e in
+    let kind = sign_kind 40 t.kind e in
     let ts = t ∷ a_sign 41 ∷ [] in
     (source ts, a_sign 41 ∷ [], (ts, refl, (refl, record { last = record { brackets = []; spot = Inside }; runs = rw kind refl; done = refl })))
-  where
-    by : (k : TokenKind) → is_sign_kind 40 k ≡ true → k ≡ Sign 40
-    by (Sign c) e = ap Sign (sym (eqb-true 40 c e))
-    by Word e = absurd cc
-    by x e = absurd cc
 
 some_token : (v : List ℕ) → expression.Spells v [] → ⊥
 unfolding expression nest_done

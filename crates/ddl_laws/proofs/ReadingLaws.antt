@@ -9,6 +9,7 @@ use Rattle.cat_model.specs.declared.stmt.Stmt.{Stmt}
 use Rattle.ddl_parts.specs.declared.pieces.Piece.{Piece}
 use Rattle.ddl_parts.specs.Lexemes.{Lexeme, is_sign, is_sign_kind, starts, is_word, start_of}
 use Rattle.ddl_parts.specs.Pieces.{lexeme_of, lexemes, value_of}
+use Rattle.ddl_parts.proofs.Steps.{gives}
 use Rattle.ddl_parts.specs.Collecting.{Collected, collected, collected_within, collected_by, nothing_more, preceded}
 use Rattle.ddl_read.specs.Grammar.{semicolon, statement, command, created, altered, set_config, selected, setting, create_schema, altered_domain, domain_change, new_check, name_and_owner, path_and_owner, new_owner}
 use Rattle.ddl_forms.proofs.Tokens.{none as no_gap}
@@ -103,24 +104,13 @@ bounds text at le = bounds_within (length text + 1) text at le
 
 -- ---- one statement
 
-abbrev read_is : {A : Type 0} → A → List Lexeme → Reading A
-read_is v rest = Ok (v, rest)
+ok_read : {A : Type 0} (limit : ℕ) (fault : Option LexFault) (r : Reading A) (v : A) → told limit fault (value_of r) ≡ Ok v → (rest : List Lexeme) × (r ≡ Ok (v, rest))
+ok_read {A} limit fault (Ok x) v e = (x.1, let is : x.0 ≡ v = cc in ap (λ (u : A). gives u x.1) is)
+ok_read limit fault (Err s) v e = absurd cc
 
-value_ok : {A : Type 0} (r : Reading A) (v : A) → value_of r ≡ Ok v → (rest : List Lexeme) × (r ≡ Ok (v, rest))
-value_ok {A} (Ok x) v e = (x.1, let is : x.0 ≡ v = cc in ap (λ (u : A). read_is u x.1) is)
-value_ok (Err s) v e = absurd cc
-
-value_err : {A : Type 0} (r : Reading A) (s : Stop) → value_of r ≡ Err s → r ≡ Err s
-value_err (Ok x) s e = absurd cc
-value_err (Err u) s e = cc
-
-told_ok : {A : Type 0} (limit : ℕ) (fault : Option LexFault) (r : Result A Stop) (v : A) → told limit fault r ≡ Ok v → r ≡ Ok v
-told_ok limit fault (Ok x) v e = cc
-told_ok limit fault (Err s) v e = absurd cc
-
-told_err : {A : Type 0} (limit : ℕ) (fault : Option LexFault) (r : Result A Stop) (f : DdlFault) → told limit fault r ≡ Err f → (s : Stop) × (r ≡ Err s) × (f ≡ fault_of limit fault s)
-told_err limit fault (Ok x) f e = absurd cc
-told_err limit fault (Err s) f e = (s, refl, sym (let is : fault_of limit fault s ≡ f = cc in is))
+err_read : {A : Type 0} (limit : ℕ) (fault : Option LexFault) (r : Reading A) (f : DdlFault) → told limit fault (value_of r) ≡ Err f → (s : Stop) × (r ≡ Err s) × (f ≡ fault_of limit fault s)
+err_read limit fault (Ok x) f e = absurd cc
+err_read limit fault (Err s) f e = (s, refl, sym (let is : fault_of limit fault s ≡ f = cc in is))
 
 -- nothing goes on with a statement
 left_free : (ts : List Lexeme) → starts statement.goes_on ts ≡ false
@@ -132,7 +122,7 @@ left_free (t ∷ ts) = refl
 pub is_spelled : (limit : ℕ) (ts : List Lexeme) (fault : Option LexFault) (s : Option Stmt) → statement_of limit ts fault ≡ Ok s → (front : List Lexeme) × (rest : List Lexeme) × (ts ≡ front ++ rest) × statement.Spells s front
 unfolding statement_of
 is_spelled limit ts fault s e =
-    let v = value_ok (statement.read ts) s (told_ok limit fault (value_of (statement.read ts)) s e) in
+    let v = ok_read limit fault (statement.read ts) s e in
     let f = statement_laws.found ts s v.0 v.1 in
     (f.front, v.0, f.parts, f.spells)
 
@@ -154,8 +144,8 @@ pub is_stuck : (text : List ℕ) (at : ℕ) (fault : DdlFault) → statement_of 
 unfolding statement_of
 is_stuck text at fault e =
     let ts = lexemes text (collected text at).pieces in
-    let t = told_err (length text) (collected text at).fault (value_of (statement.read ts)) fault e in
-    let read = value_err (statement.read ts) t.0 t.1 in
+    let t = err_read (length text) (collected text at).fault (statement.read ts) fault e in
+    let read = t.1 in
     let f = statement_laws.stopped ts t.0 read in
     record {
       front = f.front;
@@ -263,9 +253,6 @@ whole_bounds text at None w le e = let same : at ≡ w.end = cc e in (omega (ari
 whole_bounds text at (Some s) w le e = let same : at ≡ w.end = cc e in (omega (arith, same), rw (← same) le)
 
 -- ---- all statements
-
-abbrev read_all : List Located → Result (List Located) DdlFault
-read_all found = Ok found
 
 abbrev pub header : List ℕ → ℕ → Result (Option Stmt) DdlFault
 header text at = statement_of (length text) (lexemes text (collected text at).pieces) (collected text at).fault

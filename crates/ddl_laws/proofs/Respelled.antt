@@ -25,7 +25,7 @@ use Rattle.ddl_parts.specs.Collecting.{Collected, collected, collected_within, c
 use Rattle.ddl_laws.specs.Readings.{IsLine, Reads, all_read, one_read, line_read, line_token}
 use Rattle.ddl_laws.proofs.ReadingLaws.{collected_first, statement_closes, only, found, ends_past, line_past}
 use Rattle.ddl_laws.proofs.Paths.{name_utf8}
-use Rattle.ddl_forms.proofs.Tokens.{a_name, Gap, space, Begun, gap_stands, name_begun, name_no_sign, name_means, none, newline, spaced, indented, tabbed, indent}
+use Rattle.ddl_forms.proofs.Tokens.{a_name, Gap, space, gap_stands, name_begun, name_no_sign, name_means, none, newline, spaced, indented, tabbed, indent}
 use Rattle.copy_text.specs.Texts.{IsName}
 use Rattle.sql_lex.specs.Bytes.{is_blank, is_digit, begins_word, in_word, marks_escapes, in_line, next_is}
 use Rattle.sql_lex.specs.Pieces.{begins_line}
@@ -44,7 +44,7 @@ use Rattle.ddl_lines.proofs.RowTexts.{rows_read_back, read_are_rows}
 use Rattle.copy_text.specs.Marks.{newline as line_feed, end_mark}
 use Rattle.cat_model.specs.declared.object.QName.{QName}
 use Rattle.ddl_forms.proofs.Putting.{nothing_follows, joined-append}
-use Rattle.ddl_laws.proofs.Whole.{command_as, statement_as, IsSpelled, given, spelled_so, copy_head, copy_is, copy_spelled}
+use Rattle.ddl_laws.proofs.Whole.{command_as, statement_as, IsSpelled, given, spelled_so, copy_head, copy_is, copy_spelled, both_behind}
 use Rattle.ddl_laws.specs.Respelling.{IsWritable, AllWritable, joined, spellings, said, IsPath}
 use Rattle.ddl_forms.proofs.Closing.{ends_with, only_last}
 use Rattle.ddl_forms.proofs.Standing.{Stood, placed, collects}
@@ -293,9 +293,6 @@ front_behind head rows mark b rest = simp append_assoc
 fresh_behind : (head rows mark : List ℕ) (b : ℕ) → (head ++ (10 ∷ (rows ++ (mark ++ b ∷ [])))) ++ [] ≡ (head ++ (10 ∷ (rows ++ mark))) ++ b ∷ []
 fresh_behind head rows mark b = simp (append_assoc, append-nil)
 
-line_front : (front g line rest : List ℕ) → front ++ (g ++ (line ++ rest)) ≡ (front ++ (g ++ line)) ++ rest
-line_front front g line rest = simp append_assoc
-
 -- what is read of the text behind a statement
 abbrev ReadsRest : List ℕ → List ℕ → List Stmt → Type 0
 ReadsRest text rest more = (front g : List ℕ) → Gap g → IsFresh (front ++ g) → text ≡ front ++ (g ++ rest) → ReadsAs text (length front) more
@@ -372,7 +369,7 @@ line_behind text front g n more rest gap fresh is plain e later =
     let line = connect_line n in
     let e' : text ≡ front ++ (g ++ (line ++ 10 ∷ rest)) = e ∙ ap (λ (x : List ℕ). front ++ (g ++ x)) (append_assoc line (10 ∷ []) rest) in
     let front' = front ++ (g ++ line) in
-    let there : text ≡ front' ++ ((10 ∷ []) ++ rest) = e' ∙ line_front front g line (10 ∷ rest) in
+    let there : text ≡ front' ++ ((10 ∷ []) ++ rest) = e' ∙ both_behind front g line (10 ∷ rest) in
     let place : length front + length g + length line ≡ length front' = omega (arith, length-append front (g ++ line), length-append g line) in
     let l = subst (λ (x : List ℕ). IsLine x (length front) (Some s) (length front + length g) (length front + length g + length line)) (sym e') (line_stands front g n rest gap fresh is plain) in
     let others = later front' (10 ∷ []) newline_gap (inr (front', refl)) there in

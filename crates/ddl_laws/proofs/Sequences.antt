@@ -322,12 +322,6 @@ kind_keeps c ts k =
     (keeps (reached (record c { kind = Some SmallInt }) Between) k)
     (only_keeps (starts (is_word (codes "integer")) ts) (reached (record c { kind = Some Integer }) Between) k)
 
-pub with_lower : (c : Clauses) → AreGiven c → AreGiven (record c { least = Usual })
-with_lower c k = (k.0, (k.1.0, (tt, k.1.1.1)))
-
-pub with_upper : (c : Clauses) → AreGiven c → AreGiven (record c { greatest = Usual })
-with_upper c k = (k.0, (k.1.0, (k.1.1.0, (tt, k.1.1.1.1))))
-
 pub with_given : (f : Field) (z : ℤ) (c : Clauses) → IsInt z → AreGiven c → AreGiven (with_number f z c)
 with_given First z c is k = (is, k.1)
 with_given Step z c is k = (k.0, (is, k.1.1))
@@ -340,10 +334,10 @@ number_keeps f sign limit c None ints k below = nothing
 number_keeps f sign limit c (Some n) ints k below = keeps (reached (with_number f (sign n) c) Between) (with_given f (sign n) c (ints n below) k)
 
 pub lower_keeps : (c : Clauses) (ts : List Lexeme) → AreGiven c → Keeps (lower c ts)
-lower_keeps c ts k = only_keeps (starts (is_word (codes "minvalue")) ts) (reached (record c { least = Usual }) Between) (with_lower c k)
+lower_keeps c ts k = only_keeps (starts (is_word (codes "minvalue")) ts) (reached (record c { least = Usual }) Between) (k.0, (k.1.0, (tt, k.1.1.1)))
 
 pub upper_keeps : (c : Clauses) (ts : List Lexeme) → AreGiven c → Keeps (upper c ts)
-upper_keeps c ts k = only_keeps (starts (is_word (codes "maxvalue")) ts) (reached (record c { greatest = Usual }) Between) (with_upper c k)
+upper_keeps c ts k = only_keeps (starts (is_word (codes "maxvalue")) ts) (reached (record c { greatest = Usual }) Between) (k.0, (k.1.0, (k.1.1.0, (tt, k.1.1.1.1))))
 
 pub step_keeps : (spot : ClauseSpot) (c : Clauses) (ts : List Lexeme) → AreGiven c → Keeps (step_first (reached c spot) ts)
 unfolding step_first usual_first
@@ -365,36 +359,28 @@ pub run_keeps : (o : Option Reached) (ts : List Lexeme) → Keeps o → Keeps (r
 run_keeps o [] k = k
 run_keeps o (t ∷ ts) k = run_keeps (option_and_then (λ r. clausing.step r t) o) ts (one_keeps o t k)
 
-pub none_given : AreGiven no_clauses
-none_given = (tt, (tt, (tt, (tt, tt))))
-
 pub clauses_keep : (o : Option Reached) → Keeps o → AreGiven (clauses_of o)
-clauses_keep None k = none_given
+clauses_keep None k = (tt, (tt, (tt, (tt, tt))))
 clauses_keep (Some r) k = k.kept
 
 pub sequence_clauses_yield : Yields AreGiven sequence_clauses
 unfolding sequence_clauses
 sequence_clauses_yield c ts r came spells =
-    subst AreGiven (sym spells.1) (clauses_keep (run clausing (Some first_reached) spells.0) (run_keeps (Some first_reached) spells.0 (keeps first_reached none_given)))
+    subst AreGiven (sym spells.1) (clauses_keep (run clausing (Some first_reached) spells.0) (run_keeps (Some first_reached) spells.0 (keeps first_reached (tt, (tt, (tt, (tt, tt)))))))
 
 -- ---- the usual numbers
 
-pub one_is : IsInt (pos 1)
-one_is = lt-ltb 1 (2 ^ 63) (omega arith)
-
 pub usual_min_is : (kind : SequenceKind) (step : ℤ) → IsInt (usual_min kind step)
 unfolding usual_min
-usual_min_is kind (pos n) = one_is
-usual_min_is SmallInt (negsuc n) = lt-ltb 32767 (2 ^ 63) (omega arith)
-usual_min_is Integer (negsuc n) = lt-ltb 2147483647 (2 ^ 63) (omega arith)
-usual_min_is BigInt (negsuc n) = lt-ltb 9223372036854775807 (2 ^ 63) (omega arith)
+usual_min_is kind (pos n) = refl
+usual_min_is SmallInt (negsuc n) = refl
+usual_min_is x (negsuc n) = refl
 
 pub usual_max_is : (kind : SequenceKind) (step : ℤ) → IsInt (usual_max kind step)
 unfolding usual_max
-usual_max_is kind (negsuc n) = lt-ltb 0 (2 ^ 63) (omega arith)
-usual_max_is SmallInt (pos n) = lt-ltb 32767 (2 ^ 63) (omega arith)
-usual_max_is Integer (pos n) = lt-ltb 2147483647 (2 ^ 63) (omega arith)
-usual_max_is BigInt (pos n) = lt-ltb 9223372036854775807 (2 ^ 63) (omega arith)
+usual_max_is kind (negsuc n) = refl
+usual_max_is SmallInt (pos n) = refl
+usual_max_is x (pos n) = refl
 
 pub given_is : (usual : ℤ) (o : Option ℤ) → IsInt usual → IsGiven o → IsInt (given_or usual o)
 given_is usual None u k = u
@@ -418,7 +404,7 @@ writable q c path k =
     let max = bound_or (usual_max kind step) c.greatest in
     let min_is = bound_given (usual_min kind step) c.least (usual_min_is kind step) k.1.1.0 in
     let max_is = bound_given (usual_max kind step) c.greatest (usual_max_is kind step) k.1.1.1.0 in
-    (path, given_is (usual_start step min max) c.start (start_is step min max min_is max_is) k.0, given_is (pos 1) c.step one_is k.1.0, min_is, max_is, given_is (pos 1) c.cache one_is k.1.1.1.1)
+    (path, given_is (usual_start step min max) c.start (start_is step min max min_is max_is) k.0, given_is (pos 1) c.step refl k.1.0, min_is, max_is, given_is (pos 1) c.cache refl k.1.1.1.1)
 
 -- ---- the statement
 

@@ -273,10 +273,7 @@ unfolding command_as
 copy_spelled gap q [] rows is = ((command_as gap).pick 4 (stmt.CopyRows q [] []) ((q, []), (is.0, inr refl), refl), refl)
 copy_spelled gap q (n ∷ ns) rows is = ((command_as gap).pick 4 (stmt.CopyRows q (n ∷ ns) []) ((q, n ∷ ns), (is.0, inl is.1), refl), refl)
 
-pub columns_behind : (p c f r : List ℕ) → p ++ (c ++ (f ++ r)) ≡ (p ++ (c ++ f)) ++ r
-columns_behind p c f r = simp append_assoc
-
 pub copy_is : (q : QName) (ns : List (List ℕ)) (rows : List ℕ) → copy_text q ns rows ≡ copy_head q ns ++ (rows ++ (end_mark ++ newline ∷ []))
 unfolding copy_text
 copy_is q [] rows = ap (λ (x : List ℕ). codes "COPY " ++ x) (sym (append_assoc (path q) (codes " FROM stdin;\n") (rows ++ (end_mark ++ newline ∷ []))))
-copy_is q (n ∷ ns) rows = ap (λ (x : List ℕ). codes "COPY " ++ x) (columns_behind (path q) (codes " " ++ listed (n ∷ ns)) (codes " FROM stdin;\n") (rows ++ (end_mark ++ newline ∷ [])))
+copy_is q (n ∷ ns) rows = ap (λ (x : List ℕ). codes "COPY " ++ x) (both_behind (path q) (codes " " ++ listed (n ∷ ns)) (codes " FROM stdin;\n") (rows ++ (end_mark ++ newline ∷ [])))
