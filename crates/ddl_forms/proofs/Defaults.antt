@@ -19,10 +19,10 @@ use Rattle.ddl_parts.proofs.Leads.{words_apart}
 use Rattle.ddl_parts.proofs.Machines.{run_none}
 use Rattle.ddl_forms.specs.Texts.{semicolon, IsDefaultText}
 use Rattle.ddl_forms.proofs.Standing.{Stood, placed}
-use Rattle.ddl_forms.proofs.Kept.{AllCame, came_front, spelled-append}
+use Rattle.ddl_forms.proofs.Kept.{AllCame, AllPlain, came_front, spelled-append}
 use Rattle.ddl_forms.proofs.Tokens.{space, word_token, a_word}
 use Rattle.ddl_write.specs.Paths.{only_if}
-use Rattle.ddl_forms.proofs.RunTexts.{AllPlain, not_some, run-append, placed-append, plain_last, run_kept, run_read}
+use Rattle.ddl_forms.proofs.RunTexts.{not_some, run-append, placed-append, plain_last, run_kept, run_read}
 use Rattle.ddl_forms.proofs.Behind.{Words, Safe, admits, admitted}
 use Rattle.ddl_forms.proofs.Putting.{Follows, IsPut, same_text}
 use Rattle.ddl_forms.proofs.Written.{Written, leaf_as, pieces_as, run_put}

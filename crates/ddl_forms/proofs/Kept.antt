@@ -12,7 +12,7 @@ use Rattle.sql_lex.specs.declared.token.TokenKind.TheVariants.{Word, QuotedName,
 use Rattle.sql_lex.specs.declared.token.Token.{Token}
 use Rattle.sql_lex.specs.declared.fault.LexFault.{LexFault}
 use Rattle.sql_lex.specs.Bytes.{is_blank, is_digit, begins_word, in_word, is_sign as is_sign_byte, marks_escapes, next_is}
-use Rattle.sql_lex.specs.Next.{next_token_of}
+use Rattle.sql_lex.specs.Next.{next_token_of, LiesBehind}
 use Rattle.sql_lex.specs.Meaning.{spelling}
 use Rattle.sql_lex.specs.Spelling.{Spells, AreDigits, IsGap, goes_on, goes_on_behind_dot}
 use Rattle.sql_lex.specs.Answers.{Between, nothing, gap, IsNext}
@@ -26,6 +26,7 @@ use Rattle.ddl_parts.specs.Pieces.{lexeme_of, lexemes}
 use Rattle.ddl_parts.specs.Collecting.{Collected, collected, collected_within, collected_by, nothing_more, preceded}
 use Rattle.ddl_parts.proofs.Telling.{and_false}
 use Rattle.ddl_parts.proofs.Slices.{drop_twice, seam}
+use Rattle.ddl_forms.specs.Texts.{semicolon}
 use Rattle.ddl_forms.proofs.Standing.{is_safe, is_safe_byte, Stands, Stood}
 
 -- ---- tokens as they came
@@ -87,37 +88,40 @@ record HasCome (text : List ℕ) (at : ℕ) (c : Collected) : Type 0 where
 one_whole : (text : List ℕ) (at : ℕ) (t : Token) → at ≤ t.start → t.start < t.end → drop at text ≡ slice_range text at t.start ++ (slice_range text t.start t.end ++ drop t.end text)
 one_whole text at t low long = drop_split text at t.start low ∙ ap (λ (x : List ℕ). slice_range text at t.start ++ x) (drop_split text t.start t.end (omega (arith, long)))
 
-come_by_sign : (behind : ℕ → Collected) (text : List ℕ) (at : ℕ) (t : Token) → at ≤ length text → next_token_of text at ≡ Ok (Some t) → at ≤ t.start → t.start < t.end → HasCome text t.end (behind t.end)
-    → (b : Bool) → HasCome text at (preceded (record { from = at; token = t }) (cond b (nothing_more t.end None) (behind t.end)))
-unfolding spelling
-come_by_sign behind text at t le e low long later true = record {
-  came = (came_token text at t le e, tt);
-  whole = one_whole text at t low long ∙ regroup (slice_range text at t.start) (slice_range text t.start t.end) (drop t.end text);
-}
+-- what holds where nothing is collected, and is handed on by each token, holds of what is collected from a place on
+pub collected_has : (text : List ℕ) (P : ℕ → Collected → Type 0) → ((at : ℕ) (fault : Option LexFault) → at ≤ length text → P at (nothing_more at fault))
+    → ((at : ℕ) (t : Token) (c : Collected) → at ≤ length text → next_token_of text at ≡ Ok (Some t) → LiesBehind text at (Ok (Some t)) → (is_sign_kind 59 t.kind ≡ true → c.pieces ≡ []) → P t.end c → P at (preceded (record { from = at; token = t }) c))
+    → (n at : ℕ) → at ≤ length text → P at (collected_within n text at)
+unfolding collected_within
+collected_has text P none one zero at le = none at None le
+collected_has text P none one (suc n) at le = by (next_token_of text at) refl (λ end high. collected_has text P none one n end high)
   where
-    regroup : (a b c : List ℕ) → a ++ (b ++ c) ≡ (a ++ (b ++ [])) ++ c
-    regroup a b c = sym (append_assoc a (b ++ []) c ∙ ap (λ (x : List ℕ). a ++ (x ++ c)) (append-nil b))
-come_by_sign behind text at t le e low long later false =
-    let ts = lexemes text (behind t.end).pieces in
-    let r = drop (behind t.end).end text in
+    by_sign : (end : ℕ) → end ≤ length text → P end (collected_within n text end) → (b : Bool) → (b ≡ true → (cond b (nothing_more end None) (collected_within n text end)).pieces ≡ []) × P end (cond b (nothing_more end None) (collected_within n text end))
+    by_sign end high later true = ((λ e. refl), none end None high)
+    by_sign end high later false = ((λ e. absurd cc), later)
+
+    by : (r : Result (Option Token) LexFault) → next_token_of text at ≡ r → ((end : ℕ) → end ≤ length text → P end (collected_within n text end)) → P at (collected_by (collected_within n text) at r)
+    by (Err fault) e later = none at (Some fault) le
+    by (Ok None) e later = none at None le
+    by (Ok (Some t)) e later =
+        let lies = lies_behind text at (Ok (Some t)) le (sym e) in
+        let s = by_sign t.end lies.2 (later t.end lies.2) (is_sign_kind 59 t.kind) in
+        one at t (cond (is_sign_kind 59 t.kind) (nothing_more t.end None) (collected_within n text t.end)) le e lies s.0 s.1
+
+one_comes : (text : List ℕ) (at : ℕ) (t : Token) (c : Collected) → at ≤ length text → next_token_of text at ≡ Ok (Some t) → LiesBehind text at (Ok (Some t)) → HasCome text t.end c → HasCome text at (preceded (record { from = at; token = t }) c)
+unfolding spelling
+one_comes text at t c le e lies later =
+    let ts = lexemes text c.pieces in
+    let r = drop c.end text in
     record {
       came = (subst (Came (lexeme_of text (record { from = at; token = t }))) later.whole (came_token text at t le e), later.came);
-      whole = one_whole text at t low long ∙ ap (λ (x : List ℕ). slice_range text at t.start ++ (slice_range text t.start t.end ++ x)) later.whole
+      whole = one_whole text at t lies.0 lies.1 ∙ ap (λ (x : List ℕ). slice_range text at t.start ++ (slice_range text t.start t.end ++ x)) later.whole
           ∙ ap (λ (x : List ℕ). slice_range text at t.start ++ x) (sym (append_assoc (slice_range text t.start t.end) (spelled ts) r))
           ∙ sym (append_assoc (slice_range text at t.start) (slice_range text t.start t.end ++ spelled ts) r);
     }
 
-come_by : (behind : ℕ → Collected) (text : List ℕ) (at : ℕ) (r : Result (Option Token) LexFault) → at ≤ length text → next_token_of text at ≡ r → ((end : ℕ) → end ≤ length text → HasCome text end (behind end)) → HasCome text at (collected_by behind at r)
-come_by behind text at (Err fault) le e later = record { came = tt; whole = refl }
-come_by behind text at (Ok None) le e later = record { came = tt; whole = refl }
-come_by behind text at (Ok (Some t)) le e later =
-    let lies = lies_behind text at (Ok (Some t)) le (sym e) in
-    come_by_sign behind text at t le e lies.0 lies.1 (later t.end lies.2) (is_sign_kind 59 t.kind)
-
 come_within : (n : ℕ) (text : List ℕ) (at : ℕ) → at ≤ length text → HasCome text at (collected_within n text at)
-unfolding collected_within
-come_within zero text at le = record { came = tt; whole = refl }
-come_within (suc n) text at le = come_by (collected_within n text) text at (next_token_of text at) le refl (λ end high. come_within n text end high)
+come_within n text = collected_has text (HasCome text) (λ at fault le. record { came = tt; whole = refl }) (λ at t c le e lies last. one_comes text at t c le e lies) n
 
 pub whole_text : (text : List ℕ) (at : ℕ) → at ≤ length text → drop at text ≡ spelled (lexemes text (collected text at).pieces) ++ drop (collected text at).end text
 unfolding collected
@@ -281,14 +285,19 @@ stands_again t m r s line some came safe = record {
   some = some;
 }
 
-abbrev pub NoLine : List Lexeme → Type 0
-NoLine [] = Unit {0}
-NoLine (t ∷ ts) = (t.kind ≡ MetaLine → ⊥) × NoLine ts
+-- none of the tokens is a semicolon, or a line that begins with a backslash
+pub record Plain (t : Lexeme) : Type 0 where
+  pub ends : semicolon t ≡ false
+  pub line : t.kind ≡ MetaLine → ⊥
+
+abbrev pub AllPlain : List Lexeme → Type 0
+AllPlain [] = Unit {0}
+AllPlain (t ∷ ts) = Plain t × AllPlain ts
 
 -- tokens that are kept stand before others that begin with what is safe
-pub all_stand_again : (ts others : List Lexeme) (r : List ℕ) → NoLine ts → AllCame ts r → Stood others → ((after : List ℕ) → is_safe after ≡ true → is_safe (spelled others ++ after) ≡ true) → Stood (ts ++ others)
-all_stand_again [] others r line came stood safe = stood
-all_stand_again (t ∷ ts) others r line came stood safe = (
-  subst (Stands t) (sym (spelled-append ts others)) (stands_again t (spelled ts) r (spelled others) line.0 (begun_some t.word (token_begun t.kind t.word line.0 came.0.spells)) came.0 safe),
-  all_stand_again ts others r line.1 came.1 stood safe,
+pub all_stand_again : (ts others : List Lexeme) (r : List ℕ) → AllPlain ts → AllCame ts r → Stood others → ((after : List ℕ) → is_safe after ≡ true → is_safe (spelled others ++ after) ≡ true) → Stood (ts ++ others)
+all_stand_again [] others r plain came stood safe = stood
+all_stand_again (t ∷ ts) others r plain came stood safe = (
+  subst (Stands t) (sym (spelled-append ts others)) (stands_again t (spelled ts) r (spelled others) plain.0.line (begun_some t.word (token_begun t.kind t.word plain.0.line came.0.spells)) came.0 safe),
+  all_stand_again ts others r plain.1 came.1 stood safe,
 )

@@ -19,7 +19,7 @@ use Rattle.ddl_forms.specs.Texts.{semicolon}
 use Rattle.ddl_forms.specs.Texts.{IsRunText}
 use Rattle.ddl_forms.proofs.Closing.{only_last}
 use Rattle.ddl_forms.proofs.Standing.{is_safe, Stands, Stood, placed, NoSemicolon, collects_all}
-use Rattle.ddl_forms.proofs.Kept.{AllCame, NoLine, begun_some, token_begun, have_come, whole_text, stands_again, all_stand_again, spelled-append}
+use Rattle.ddl_forms.proofs.Kept.{AllCame, AllPlain, begun_some, token_begun, have_come, whole_text, stands_again, all_stand_again, spelled-append}
 use Rattle.ddl_forms.proofs.Tokens.{Gap, none as none_before, gap_stands}
 
 -- ---- machines
@@ -60,15 +60,6 @@ pub run-append : (m : Machine) (s : Option m.State) (a b : List Lexeme) → run 
 run-append m s [] b = refl
 run-append m s (t ∷ a) b = run-append m (option_and_then (λ x. m.step x t) s) a b
 
--- none of the tokens is a semicolon, or a line that begins with a backslash
-pub record Plain (t : Lexeme) : Type 0 where
-  pub ends : semicolon t ≡ false
-  pub line : t.kind ≡ MetaLine → ⊥
-
-abbrev pub AllPlain : List Lexeme → Type 0
-AllPlain [] = Unit {0}
-AllPlain (t ∷ ts) = Plain t × AllPlain ts
-
 pub are_plain : (m : Machine) → IsPlainMachine m → (s last : m.State) (ts : List Lexeme) → run m (Some s) ts ≡ Some last → AllPlain ts
 are_plain m h s last [] e = tt
 are_plain m h s last (t ∷ ts) e = by (m.step s t) refl (λ x f. are_plain m h x last ts f) e
@@ -76,10 +67,6 @@ are_plain m h s last (t ∷ ts) e = by (m.step s t) refl (λ x f. are_plain m h 
     by : (next : Option m.State) → m.step s t ≡ next → ((x : m.State) → run m (Some x) ts ≡ Some last → AllPlain ts) → run m next ts ≡ Some last → AllPlain (t ∷ ts)
     by None is later f = absurd (not_some last (run m None ts) f (run_none m ts))
     by (Some x) is later f = (record { ends = h.ends s x t is; line = h.line s x t is }, later x f)
-
-no_lines : (ts : List Lexeme) → AllPlain ts → NoLine ts
-no_lines [] h = tt
-no_lines (t ∷ ts) h = (h.0.line, no_lines ts h.1)
 
 pub last_more : (test : Lexeme → Bool) (t : Lexeme) (us : List Lexeme) → test t ≡ false → only_last test us ≡ true → only_last test (t ∷ us) ≡ true
 last_more test t [] e last = refl
@@ -163,7 +150,7 @@ unfolding is_sign
 kept_by m h g v t ts others r gap is runs came same stood safe =
     let all = are_plain m h m.start runs.last (t ∷ ts) runs.runs in
     let first = token_begun t.kind t.word all.0.line came.0.spells in
-    let behind = all_stand_again ts others r (no_lines ts all.1) came.1 stood safe in
+    let behind = all_stand_again ts others r all.1 came.1 stood safe in
     let here = subst (Stands t) (sym (spelled-append ts others)) (stands_again t (spelled ts) r (spelled others) all.0.line (begun_some t.word first) came.0 safe) in
     record {
       tokens = gapped g t ∷ ts;
@@ -200,8 +187,8 @@ no_semicolons (t ∷ ts) h = (h.0.ends, no_semicolons ts h.1)
 nothing_follows : (after : List ℕ) → is_safe after ≡ true → is_safe ([] ++ after) ≡ true
 nothing_follows after e = e
 
-kept_alone : (ts : List Lexeme) (r : List ℕ) → NoLine ts → AllCame ts r → Stood ts
-kept_alone ts r line came = subst Stood (append-nil ts) (all_stand_again ts [] r line came tt nothing_follows)
+kept_alone : (ts : List Lexeme) (r : List ℕ) → AllPlain ts → AllCame ts r → Stood ts
+kept_alone ts r plain came = subst Stood (append-nil ts) (all_stand_again ts [] r plain came tt nothing_follows)
 
 -- what tokens of a text say, as a text of its own: a run's text, with tokens of the same kinds
 pub record IsRunRead (m : Machine) (ts : List Lexeme) : Type 0 where
@@ -215,7 +202,7 @@ run_read m h [] r came runs = let same : m.start ≡ runs.last = cc runs.runs in
 run_read m h (t ∷ ts) r came runs =
     let all = are_plain m h m.start runs.last (t ∷ ts) runs.runs in
     let first = token_begun t.kind t.word all.0.line came.0.spells in
-    let others = kept_alone ts r (no_lines ts all.1) came.1 in
+    let others = kept_alone ts r all.1 came.1 in
     let here : Stands t (spelled ts) = subst (Stands t) (append-nil (spelled ts)) (stands_again t (spelled ts) r [] all.0.line (begun_some t.word first) came.0 nothing_follows) in
     let us = gapped [] t ∷ ts in
     let stood : Stood us = (record { gap = gap_stands [] t.word (spelled ts) none_before first; token = here.token; some = here.some }, others) in

@@ -15,6 +15,7 @@ use Rattle.ddl_read.specs.Grammar.{semicolon, statement, command, created, alter
 use Rattle.ddl_forms.proofs.Tokens.{none as no_gap}
 use Rattle.ddl_laws.proofs.Whole.{statement_as}
 use Rattle.ddl_forms.proofs.Closing.{Closes, only_last, nothing_left}
+use Rattle.ddl_forms.proofs.Kept.{collected_has}
 use Rattle.sql_lex.specs.declared.token.TokenKind.{TokenKind}
 use Rattle.sql_lex.specs.declared.token.TokenKind.TheVariants.{Word, MetaLine}
 use Rattle.sql_lex.specs.Meaning.{spelling, is_keyword_of}
@@ -49,58 +50,33 @@ statement_closes = (statement_as no_gap).closes refl
 
 -- ---- the tokens that are collected
 
-abbrev by_sign : (ℕ → Collected) → ℕ → Token → Bool → Collected
-by_sign behind at t semicolon = preceded (record { from = at; token = t }) (cond semicolon (nothing_more t.end None) (behind t.end))
-
 preceded_last : (text : List ℕ) (p : Piece) (ps : List Piece) → semicolon (lexeme_of text p) ≡ false → only_last semicolon (lexemes text ps) ≡ true → only_last semicolon (lexemes text (p ∷ ps)) ≡ true
 preceded_last text p [] none e = refl
 preceded_last text p (q ∷ ps) none e = and_from (not (semicolon (lexeme_of text p))) (only_last semicolon (lexemes text (q ∷ ps))) (ap not none) e
 
-last_within : (n : ℕ) (text : List ℕ) (at : ℕ) → only_last semicolon (lexemes text (collected_within n text at).pieces) ≡ true
-unfolding collected_within is_sign
-last_within zero text at = refl
-last_within (suc n) text at = by (next_token_of text at) (λ end. last_within n text end)
+collected_last : (text : List ℕ) (at : ℕ) → at ≤ length text → only_last semicolon (lexemes text (collected text at).pieces) ≡ true
+unfolding collected is_sign
+collected_last text = collected_has text (λ at c. only_last semicolon (lexemes text c.pieces) ≡ true) (λ at fault le. refl) (λ at t c le e lies. by (record { from = at; token = t }) c (is_sign_kind 59 t.kind) refl) (length text + 1)
   where
-    by_kind : (t : Token) → only_last semicolon (lexemes text (collected_within n text t.end).pieces) ≡ true → (b : Bool) → is_sign_kind 59 t.kind ≡ b → only_last semicolon (lexemes text (by_sign (collected_within n text) at t b).pieces) ≡ true
-    by_kind t e true is = refl
-    by_kind t e false is = preceded_last text (record { from = at; token = t }) (collected_within n text t.end).pieces is e
-
-    by : (r : Result (Option Token) LexFault) → ((end : ℕ) → only_last semicolon (lexemes text (collected_within n text end).pieces) ≡ true) → only_last semicolon (lexemes text (collected_by (collected_within n text) at r).pieces) ≡ true
-    by (Err fault) e = refl
-    by (Ok None) e = refl
-    by (Ok (Some t)) e = by_kind t (e t.end) (is_sign_kind 59 t.kind) refl
-
-collected_last : (text : List ℕ) (at : ℕ) → only_last semicolon (lexemes text (collected text at).pieces) ≡ true
-unfolding collected
-collected_last text at = last_within (length text + 1) text at
+    by : (p : Piece) (c : Collected) (b : Bool) → is_sign_kind 59 p.token.kind ≡ b → (b ≡ true → c.pieces ≡ []) → only_last semicolon (lexemes text c.pieces) ≡ true → only_last semicolon (lexemes text (p ∷ c.pieces)) ≡ true
+    by p c true is none behind = ap (λ (ps : List Piece). only_last semicolon (lexemes text (p ∷ ps))) (none refl)
+    by p c false is none behind = preceded_last text p c.pieces is behind
 
 -- what a statement's tokens begin with is all of them
-takes_all : (text : List ℕ) (at : ℕ) (s : Option Stmt) (front rest : List Lexeme) → lexemes text (collected text at).pieces ≡ front ++ rest → statement.Spells s front → rest ≡ []
-takes_all text at s front rest parts spells =
-    nothing_left semicolon front rest (ap (only_last semicolon) (sym parts) ∙ collected_last text at) (statement_closes s front spells)
+takes_all : (text : List ℕ) (at : ℕ) → at ≤ length text → (s : Option Stmt) (front rest : List Lexeme) → lexemes text (collected text at).pieces ≡ front ++ rest → statement.Spells s front → rest ≡ []
+takes_all text at le s front rest parts spells =
+    nothing_left semicolon front rest (ap (only_last semicolon) (sym parts) ∙ collected_last text at le) (statement_closes s front spells)
 
 -- ---- where collected tokens end
 
 abbrev pub Bounds : List ℕ → ℕ → Collected → Type 0
 Bounds text at c = (at ≤ c.end) × (c.end ≤ length text) × ((start : ℕ) → first_start c.pieces ≡ Some start → at < c.end)
 
-sign_bounds : (behind : ℕ → Collected) (text : List ℕ) (at : ℕ) (t : Token) → at ≤ t.start → t.start < t.end → t.end ≤ length text → Bounds text t.end (behind t.end) → (b : Bool) → Bounds text at (by_sign behind at t b)
-sign_bounds behind text at t low long high rest true = (omega arith, high, λ start e. omega arith)
-sign_bounds behind text at t low long high rest false = (omega (arith, rest.0), rest.1, λ start e. omega (arith, rest.0))
-
-bounds_by : (behind : ℕ → Collected) (text : List ℕ) (at : ℕ) (r : Result (Option Token) LexFault) → at ≤ length text → LiesBehind text at r → ((end : ℕ) → end ≤ length text → Bounds text end (behind end)) → Bounds text at (collected_by behind at r)
-bounds_by behind text at (Err fault) le lies rest = (omega arith, le, λ start e. absurd cc)
-bounds_by behind text at (Ok None) le lies rest = (omega arith, le, λ start e. absurd cc)
-bounds_by behind text at (Ok (Some t)) le lies rest = sign_bounds behind text at t lies.0 lies.1 lies.2 (rest t.end lies.2) (is_sign_kind 59 t.kind)
-
-bounds_within : (n : ℕ) (text : List ℕ) (at : ℕ) → at ≤ length text → Bounds text at (collected_within n text at)
-unfolding collected_within
-bounds_within zero text at le = (omega arith, le, λ start e. absurd cc)
-bounds_within (suc n) text at le = bounds_by (collected_within n text) text at (next_token_of text at) le (lies_behind text at (next_token_of text at) le refl) (λ end high. bounds_within n text end high)
-
 pub bounds : (text : List ℕ) (at : ℕ) → at ≤ length text → Bounds text at (collected text at)
 unfolding collected
-bounds text at le = bounds_within (length text + 1) text at le
+bounds text =
+    collected_has text (Bounds text) (λ at fault le. (omega arith, le, λ start e. absurd cc))
+    (λ at t c le e lies none behind. (omega (arith, lies.0, lies.1, behind.0), behind.1, λ start f. omega (arith, lies.0, lies.1, behind.0))) (length text + 1)
 
 -- ---- one statement
 
@@ -273,10 +249,10 @@ begun_by n text at line e = ap (by_line n text at) e
 pub begun : (n : ℕ) (text : List ℕ) (at : ℕ) (start : Option ℕ) → line_at text at ≡ None → first_start (collected text at).pieces ≡ start → statements_within (suc n) text at ≡ by_start n text at start
 begun n text at start plain e = begun_by n text at None plain ∙ ap (by_start n text at) e
 
-pub spelled_whole : (text : List ℕ) (at : ℕ) (h : Option Stmt) → header text at ≡ Ok h → statement.Spells h (lexemes text (collected text at).pieces)
-spelled_whole text at h e =
+pub spelled_whole : (text : List ℕ) (at : ℕ) → at ≤ length text → (h : Option Stmt) → header text at ≡ Ok h → statement.Spells h (lexemes text (collected text at).pieces)
+spelled_whole text at le h e =
     let p = is_spelled (length text) (lexemes text (collected text at).pieces) (collected text at).fault h e in
-    let all : lexemes text (collected text at).pieces ≡ p.0 = p.2 ∙ ap (λ (r : List Lexeme). p.0 ++ r) (takes_all text at h p.0 p.1 p.2 p.3) ∙ append-nil p.0 in
+    let all : lexemes text (collected text at).pieces ≡ p.0 = p.2 ∙ ap (λ (r : List Lexeme). p.0 ++ r) (takes_all text at le h p.0 p.1 p.2 p.3) ∙ append-nil p.0 in
     subst (λ (ts : List Lexeme). statement.Spells h ts) (sym all) p.3
 
 -- a statement ends behind its place
@@ -314,9 +290,9 @@ told_within (suc n) text at le enough = subst (Told text at) (sym (begun_by n te
   where
     by_rows : (start : ℕ) (h : Option Stmt) → first_start (collected text at).pieces ≡ Some start → header text at ≡ Ok h → ((end : ℕ) → end ≤ length text → length text - end < n → Told text end (statements_within n text end)) → (r : Result Whole DdlFault) → completed text (collected text at).end h ≡ r
         → Told text at (r >>= λ w. statements_within n text w.end >>= λ more. Ok (listed w.stmt start w.end more))
-    by_rows start h first is behind (Err fault) e = no_rows at fault (record { header = h; spells = spelled_whole text at h is; none = e })
+    by_rows start h first is behind (Err fault) e = no_rows at fault (record { header = h; spells = spelled_whole text at le h is; none = e })
     by_rows start h first is behind (Ok w) e =
-        let s : IsStatement text at w.stmt start w.end = record { first = first; header = h; spells = spelled_whole text at h is; all = e } in
+        let s : IsStatement text at w.stmt start w.end = record { first = first; header = h; spells = spelled_whole text at le h is; all = e } in
         let past = ends_past text at w.stmt start w.end le s in
         told_on text at w.stmt start w.end s (statements_within n text w.end) (behind w.end past.1 (omega (arith, past.0)))
 
@@ -445,11 +421,11 @@ not_stuck text at fault s h spells = by h.rest refl
     by [] is = h.short is s (subst (statement.Spells s) (h.tokens ∙ ap (λ (r : List Lexeme). h.front ++ r) is ∙ append-nil h.front) spells)
     by (t ∷ behind) is = h.none t behind is s behind (subst (statement.Spells s) (h.tokens ∙ ap (λ (r : List Lexeme). h.front ++ r) is) spells)
 
-header_fails : (text : List ℕ) (at : ℕ) (fault : DdlFault) → IsStuck text at fault → Fails (header text at) fault
-header_fails text at fault h = by (header text at) refl
+header_fails : (text : List ℕ) (at : ℕ) (fault : DdlFault) → at ≤ length text → IsStuck text at fault → Fails (header text at) fault
+header_fails text at fault le h = by (header text at) refl
   where
     by : (r : Result (Option Stmt) DdlFault) → header text at ≡ r → Fails r fault
-    by (Ok s) e = absurd (not_stuck text at fault s h (spelled_whole text at s e))
+    by (Ok s) e = absurd (not_stuck text at fault s h (spelled_whole text at le s e))
     by (Err g) e = (g, refl, stuck_once text at g fault (is_stuck text at g e) h)
 
 -- ---- a statement has a token
@@ -468,7 +444,7 @@ fails_only text _ _ (no_token at fault first is) le n enough =
     (Lex fault, ap (λ m. statements_within m text at) k.1 ∙ begun k.0 text at None (no_line_left text at first) first ∙ ap no_more is, refl)
 fails_only text _ _ (stuck at start fault plain first h) le n enough =
     let k = some_fuel n (length text - at) enough in
-    let f = header_fails text at fault h in
+    let f = header_fails text at fault le h in
     let end = (collected text at).end in
     (f.0, ap (λ m. statements_within m text at) k.1 ∙ begun k.0 text at (Some start) plain first ∙ ap (λ r. with_others k.0 text start (whole_of text end r)) f.1, f.2)
 fails_only text _ _ (no_rows at fault h) le n enough =
