@@ -40,7 +40,7 @@ use Rattle.ddl_rights.specs.Grants.{grant_option, to_grantee, from_grantee, gran
 use Rattle.ddl_rights.specs.Writable.{kind_of, IsObject, AreRights, IsGrantee, IsGrantor}
 use Rattle.ddl_rights.proofs.RightsLaws.{object_on, right_word}
 use Rattle.ddl_rights.proofs.RightSets.{has_some, has_it, kind_some, kind_whole, all_is, listed_is, some_listed, written_word, words_are, AllGo, all_go}
-use Rattle.ddl_forms.proofs.Behind.{Behind, Anything, Words, Safe, End, admits, covers, through, admitted, looser, loose, Opens}
+use Rattle.ddl_forms.proofs.Behind.{Behind, Anything, Words, Safe, End, admits, covers, through, admitted, looser, Opens, then_opens}
 use Rattle.ddl_forms.proofs.Closing.{Closes, ends_with, ends_append}
 use Rattle.ddl_forms.proofs.Kept.{AllCame, came_front, came_behind}
 use Rattle.ddl_forms.proofs.Putting.{Follows, IsPut, put_as, joined-append}
@@ -55,10 +55,6 @@ use Rattle.ddl_laws.specs.Respelling.{IsWritable}
 abbrev pub decides : {A B : Type 0} → {p : Part A} → {q : Part B} → Behind → Behind → Written p → Written q → Bool
 decides opens m a b = meets a.after b && (covers b.after m && (covers opens b.opens && not b.lacks))
 
-pub admits_some : (l : Bool) (m : Behind) (text : List ℕ) → admits m text ≡ true → admits (cond l m Anything) text ≡ true
-admits_some true m text e = e
-admits_some false m text e = refl
-
 pub thenby_puts : {A B : Type 0} {p : Part A} {f : A → Part B} (a : Written p) (b : (v : A) → Written (f v)) (opens m : Behind) (v : A) → decides opens m a (b v) ≡ true → (w : B) (fit : a.Fit v) (other : (b v).Fit w) (others : List Lexeme) → Follows others → admits m (spelled others) ≡ true
     → IsPut (p thenby f) w (joined (a.pieces v fit ++ (b v).pieces w other)) others
 thenby_puts {p = p} {f = f} a b opens m v e w fit other others follows h =
@@ -68,17 +64,15 @@ thenby_puts {p = p} {f = f} a b opens m v e w fit other others follows h =
     put_as (p then f v) (p thenby f) (v, w) w (joined (a.pieces v fit ++ x.pieces w other)) others
     (then_puts a x both.0 v w fit other others follows (admitted x.after m (spelled others) after.0 h)) (λ ts s. (v, s.0, s.1, s.2, s.3, s.4))
 
-pub thenby_begins : {A B : Type 0} {p : Part A} {f : A → Part B} (a : Written p) (b : (v : A) → Written (f v)) (opens m : Behind) (v : A) → decides opens m a (b v) ≡ true → (w : B) (fit : a.Fit v) (other : (b v).Fit w) → Opens false (looser a.opens opens) (joined (a.pieces v fit ++ (b v).pieces w other))
-thenby_begins a b opens m v e w fit other n c rest h =
+pub thenby_begins : {A B : Type 0} {p : Part A} {f : A → Part B} (a : Written p) (b : (v : A) → Written (f v)) (opens m : Behind) (v : A) → decides opens m a (b v) ≡ true → (w : B) (fit : a.Fit v) (other : (b v).Fit w)
+    → Opens (cond a.lacks false false) (cond a.lacks (looser a.opens opens) a.opens) (joined (a.pieces v fit ++ (b v).pieces w other))
+thenby_begins a b opens m v e w fit other =
     let x = b v in
     let both = and_parts (meets a.after x) (covers x.after m && (covers opens x.opens && not x.lacks)) e in
-    let after = and_parts (covers x.after m) (covers opens x.opens && not x.lacks) both.1 in
-    let opening = and_parts (covers opens x.opens) (not x.lacks) after.1 in
-    let k = loose n a.opens opens c in
-    let behind = x.begins w other n (through n opens x.opens k.1 opening.0) rest (ap (λ (l : Bool). admits (cond l n Anything) rest) (not-true x.lacks opening.1)) in
-    let tail = joined (x.pieces w other) in
-    ap (λ (t : List ℕ). admits n (t ++ rest)) (joined-append (a.pieces v fit) (x.pieces w other)) ∙ ap (admits n) (append_assoc (joined (a.pieces v fit)) tail rest)
-    ∙ a.begins v fit n k.0 (tail ++ rest) (admits_some a.lacks n (tail ++ rest) behind)
+    let opening = and_parts (covers opens x.opens) (not x.lacks) (and_parts (covers x.after m) (covers opens x.opens && not x.lacks) both.1).1 in
+    subst (Opens (cond a.lacks false false) (cond a.lacks (looser a.opens opens) a.opens)) (sym (joined-append (a.pieces v fit) (x.pieces w other)))
+    (then_opens a.lacks false a.opens opens (joined (a.pieces v fit)) (joined (x.pieces w other)) (a.begins v fit)
+    (λ n c rest h. x.begins w other n (through n opens x.opens c opening.0) rest (ap (λ (l : Bool). admits (cond l n Anything) rest) (not-true x.lacks opening.1))))
 
 abbrev pub thenby_as : {A B : Type 0} → {p : Part A} → {f : A → Part B} → (a : Written p) → (b : (v : A) → Written (f v)) → (opens m : Behind) → ((v : A) → decides opens m a (b v) ≡ true) → (closed : Bool) → ((v : A) → closed ≡ true → Closes (is_sign 59) (f v)) → Written (p thenby f)
 thenby_as {A} {p = p} {f = f} a b opens m e closed closes = record {
@@ -86,8 +80,8 @@ thenby_as {A} {p = p} {f = f} a b opens m e closed closes = record {
   Is = λ w. (v : A) × a.Is v × (b v).Is w;
   pieces = λ w fit. a.pieces fit.0 fit.1 ++ (b fit.0).pieces w fit.2;
   after = m;
-  opens = looser a.opens opens;
-  lacks = false;
+  opens = cond a.lacks (looser a.opens opens) a.opens;
+  lacks = cond a.lacks false false;
   closed = closed;
   put = λ w fit. thenby_puts a b opens m fit.0 (e fit.0) w fit.1 fit.2;
   begins = λ w fit. thenby_begins a b opens m fit.0 (e fit.0) w fit.1 fit.2;
