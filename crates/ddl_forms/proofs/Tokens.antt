@@ -96,7 +96,8 @@ pub data Gap : List ℕ → Type 0 where
   indented : Gap indent
   tabbed : Gap (10 ∷ 9 ∷ [])
 
-white : (g : List ℕ) → Gap g → ([] ≡ g) ⊎ ((0 < length g) × (list_all is_blank g ≡ true) × (is_utf8 g ≡ true))
+-- it is empty or white space
+pub white : (g : List ℕ) → Gap g → ([] ≡ g) ⊎ ((0 < length g) × (list_all is_blank g ≡ true) × (is_utf8 g ≡ true))
 unfolding is_blank is_utf8 chars encode
 white _ none = inl refl
 white _ x = inr (omega arith, refl, refl)

@@ -25,7 +25,7 @@ use Rattle.ddl_parts.specs.Collecting.{Collected, collected, collected_within, c
 use Rattle.ddl_laws.specs.Readings.{IsLine, Reads, all_read, one_read, line_read, line_token}
 use Rattle.ddl_laws.proofs.ReadingLaws.{collected_first, statement_closes, only, found, ends_past, line_past}
 use Rattle.ddl_laws.proofs.Paths.{name_utf8}
-use Rattle.ddl_forms.proofs.Tokens.{a_name, Gap, space, gap_stands, name_begun, name_no_sign, name_means, none, newline, spaced, indented, tabbed, indent}
+use Rattle.ddl_forms.proofs.Tokens.{a_name, Gap, white, space, gap_stands, name_begun, name_no_sign, name_means, none, newline, spaced, indented, tabbed, indent}
 use Rattle.copy_text.specs.Texts.{IsName}
 use Rattle.sql_lex.specs.Bytes.{is_blank, is_digit, begins_word, in_word, marks_escapes, in_line, next_is}
 use Rattle.sql_lex.specs.Pieces.{begins_line}
@@ -124,16 +124,12 @@ in_one_line q (b ∷ n) mark all =
       | inr isnt ↦ rw isnt (and_from (in_line b) (list_all in_line (doubled q n)) parts.0 more)
     ]
 
-in_34 : in_line 34 ≡ true
-unfolding in_line
-in_34 = refl
-
 name_in_line : (n : List ℕ) → list_all in_line n ≡ true → list_all in_line (written_name n) ≡ true
-unfolding written_name quoted
+unfolding written_name quoted in_line
 name_in_line n all =
     elim (cases_Bool (is_bare n && not (is_reserved n))) [
       | inl is ↦ rw is all
-      | inr isnt ↦ rw isnt (and_from (in_line 34) (list_all in_line (doubled 34 n ++ 34 ∷ [])) in_34 (list_all-append in_line (doubled 34 n) (34 ∷ []) ∙ and_from (list_all in_line (doubled 34 n)) (in_line 34 && true) (in_one_line 34 n in_34 all) (and_from (in_line 34) true in_34 refl)))
+      | inr isnt ↦ rw isnt (and_from (in_line 34) (list_all in_line (doubled 34 n ++ 34 ∷ [])) refl (list_all-append in_line (doubled 34 n) (34 ∷ []) ∙ and_from (list_all in_line (doubled 34 n)) (in_line 34 && true) (in_one_line 34 n refl all) (and_from (in_line 34) true refl refl)))
     ]
 
 words_utf8 : IsUtf8 (codes "\\connect ")
@@ -231,27 +227,17 @@ can_be_written {g} gap s is = record {
 -- ---- where nothing is left
 
 none_collected : (text : List ℕ) (at : ℕ) → next_token_of text at ≡ Ok None → (first_start (collected text at).pieces ≡ None) × ((collected text at).fault ≡ None)
-unfolding collected collected_within
 none_collected text at e =
-    let fuel : length text + 1 ≡ suc (length text) = omega arith in
-    let is : collected_within (length text + 1) text at ≡ collected_by (collected_within (length text) text) at (Ok None) =
-    ap (λ n. collected_within n text at) fuel ∙ ap (collected_by (collected_within (length text) text) at) e in
+    let is = collected_first text at ∙ ap (collected_by (collected_within (length text) text) at) e in
     (ap (λ (c : Collected). first_start c.pieces) is, ap (λ (c : Collected). c.fault) is)
 
-blank_passed : (front g : List ℕ) → 0 < length g → list_all is_blank g ≡ true → is_utf8 g ≡ true → next_token_of (front ++ g) (length front) ≡ Ok None
-unfolding next_is
-blank_passed front g some all utf8 =
-    subst (λ (x : List ℕ). next_token_of (front ++ x) (length front) ≡ Ok None) (append-nil g)
-    (gap_is_passed front g [] (inl ((some, all), refl)) utf8 ∙ next_at_end (front ++ (g ++ [])) (length front + length g) (sym (ap (λ (x : List ℕ). length (front ++ x)) (append-nil g) ∙ length-append front g)))
-
 no_token : (front g : List ℕ) → Gap g → next_token_of (front ++ g) (length front) ≡ Ok None
-unfolding is_blank next_is is_utf8 chars encode
-no_token front _ none = next_at_end (front ++ []) (length front) (ap length (sym (append-nil front)))
-no_token front _ newline = blank_passed front (10 ∷ []) (let e : 0 < 1 = omega arith in e) refl refl
-no_token front _ spaced = blank_passed front (10 ∷ 32 ∷ []) (let e : 0 < 2 = omega arith in e) refl refl
-no_token front _ indented = blank_passed front indent (let e : 0 < 5 = omega arith in e) refl refl
-no_token front _ tabbed = blank_passed front (10 ∷ 9 ∷ []) (let e : 0 < 2 = omega arith in e) refl refl
-no_token front _ space = blank_passed front (32 ∷ []) (let e : 0 < 1 = omega arith in e) refl refl
+unfolding next_is
+no_token front g gap = elim (white g gap) [
+  | inl e ↦ subst (λ (x : List ℕ). next_token_of (front ++ x) (length front) ≡ Ok None) e (next_at_end (front ++ []) (length front) (ap length (sym (append-nil front))))
+  | inr w ↦ subst (λ (x : List ℕ). next_token_of (front ++ x) (length front) ≡ Ok None) (append-nil g)
+      (gap_is_passed front g [] (inl ((w.0, w.1), refl)) w.2 ∙ next_at_end (front ++ (g ++ [])) (length front + length g) (sym (ap (λ (x : List ℕ). length (front ++ x)) (append-nil g) ∙ length-append front g)))
+]
 
 -- ---- one after another
 
@@ -280,9 +266,6 @@ ends_at s n = Ok (whole s n)
 
 abbrev copied_to : List ℕ → ℕ → Result Copied ℕ
 copied_to rows n = Ok (record { rows = rows; end = n })
-
-newline_gap : Gap (10 ∷ [])
-newline_gap = newline
 
 head_behind : (head rows mark feed rest : List ℕ) → (head ++ (rows ++ (mark ++ feed))) ++ rest ≡ head ++ (rows ++ (mark ++ (feed ++ rest)))
 head_behind head rows mark feed rest = simp append_assoc
@@ -324,7 +307,7 @@ tokens_read text front g s words more rest l complete e later =
     let e' : text ≡ front ++ (spelled l.tokens ++ (10 ∷ rest)) = e ∙ ap (λ (x : List ℕ). front ++ x) (regrouped g words rest (spelled l.tokens) l.bytes) in
     let k = tokens_collected text front rest l.tokens s e' l.stood l.last l.says in
     let front' = front ++ spelled l.tokens in
-    let others = later front' (10 ∷ []) newline_gap (inr (front', refl)) (e' ∙ sym (append_assoc front (spelled l.tokens) (10 ∷ rest))) in
+    let others = later front' (10 ∷ []) newline (inr (front', refl)) (e' ∙ sym (append_assoc front (spelled l.tokens) (10 ∷ rest))) in
     record {
       found = listed (Some s) k.start (length front') others.found;
       reads = one_read (length front) (Some s) k.start (length front') others.found (record {
@@ -372,7 +355,7 @@ line_behind text front g n more rest gap fresh is plain e later =
     let there : text ≡ front' ++ ((10 ∷ []) ++ rest) = e' ∙ both_behind front g line (10 ∷ rest) in
     let place : length front + length g + length line ≡ length front' = omega (arith, length-append front (g ++ line), length-append g line) in
     let l = subst (λ (x : List ℕ). IsLine x (length front) (Some s) (length front + length g) (length front + length g + length line)) (sym e') (line_stands front g n rest gap fresh is plain) in
-    let others = later front' (10 ∷ []) newline_gap (inr (front', refl)) there in
+    let others = later front' (10 ∷ []) newline (inr (front', refl)) there in
     let reads = subst (λ k. Reads text k others.found) (sym place) others.reads in
     record {
       found = listed (Some s) (length front + length g) (length front + length g + length line) others.found;
@@ -455,15 +438,12 @@ one_more : (start end : ℕ) (more : List Located) (s : Option Stmt) → IsDone 
 one_more start end more None is later = later
 one_more start end more (Some s) is later = (is, later)
 
-in_92 : in_line 92 ≡ true
-unfolding in_line
-in_92 = refl
-
 -- what a line with a backslash says can be written
 line_spelled : (text : List ℕ) (at start end : ℕ) → at ≤ length text → next_token_of text at ≡ Ok (Some (line_token start end)) → list_all in_line (token_text text (line_token start end)) ≡ true
+unfolding in_line
 line_spelled text at start end le e =
     let c = came_token text at (line_token start end) le e in
-    ap (list_all in_line) c.spells.2 ∙ and_from (in_line 92) (list_all in_line c.spells.0) in_92 c.spells.1
+    ap (list_all in_line) c.spells.2 ∙ and_from (in_line 92) (list_all in_line c.spells.0) refl c.spells.1
 
 line_done : (text : List ℕ) (at start end : ℕ) (s : Option Stmt) → at ≤ length text → IsLine text at s start end → IsDone s
 line_done text at start end s le is = by (said_is_a_name (token_text text (line_token start end)) s (line_spelled text at start end le is.next) is.says)
