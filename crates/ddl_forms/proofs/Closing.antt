@@ -38,7 +38,7 @@ only_last test (t ∷ u ∷ ts) = not (test t) && only_last test (u ∷ ts)
 
 not_both : (a b : Bool) → a ≡ true → (not a && b) ≡ true → ⊥
 not_both true b e h = absurd cc
-not_both false b e h = absurd cc
+not_both x b e h = absurd cc
 
 pub nothing_left : (test : Lexeme → Bool) (front rest : List Lexeme) → only_last test (front ++ rest) ≡ true → ends_with test front ≡ true → rest ≡ []
 nothing_left test [] rest last ends = absurd cc

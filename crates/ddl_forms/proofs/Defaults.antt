@@ -231,13 +231,10 @@ not_null_stood others stood e = (a_word (codes "NOT") (spelled (word_token (32 �
 
 nulls_taken : (spot : Spot) (bs : List Bracket) (at : ℕ) → nest_done (nest bs spot) ≡ true → is_shut spot ≡ false → run (nested true true) (Some (nest bs spot)) (placed at not_null) ≡ Some (nest [] Shut)
 unfolding nest_step nest_done ends_run is_word is_sign is_keyword_of
-nulls_taken First bs at done free = absurd cc
 nulls_taken FirstNot [] at done free = refl
-nulls_taken Shut bs at done free = absurd cc
-nulls_taken FirstNot (b ∷ bs) at done free = absurd cc
-nulls_taken LaterNot (b ∷ bs) at done free = absurd cc
-nulls_taken Inside (b ∷ bs) at done free = absurd cc
-nulls_taken x [] at done free = refl
+nulls_taken LaterNot [] at done free = refl
+nulls_taken Inside [] at done free = refl
+nulls_taken x bs at done free = absurd cc
 
 shut_is_done : nest_done (nest [] Shut) ≡ true
 unfolding nest_done
@@ -292,9 +289,8 @@ default_put v true others is follows e =
 -- nothing follows NOT NULL
 shut_outside : (kind : TokenKind) (ends is_not is_null : Bool) → outside true Shut kind ends is_not is_null ≡ None
 shut_outside kind true is_not is_null = refl
-shut_outside kind false true is_null = refl
 shut_outside kind false false true = refl
-shut_outside kind false false false = refl
+shut_outside kind x y z = refl
 
 stays_shut : (last : Nest) (ts : List Lexeme) → run (nested true true) (Some (nest [] Shut)) ts ≡ Some last → is_shut last.spot ≡ true
 unfolding nest_step

@@ -225,14 +225,10 @@ safe_next_digit (b ∷ after) e = safe_digit b e
 -- one byte of what goes on stays
 one_stays : (kind : TokenKind) (word : List ℕ) (x : ℕ) (r after : List ℕ) → goes_on kind word (x ∷ r) ≡ false → is_safe after ≡ true → goes_on kind word (x ∷ after) ≡ false
 unfolding goes_on next_is goes_on_behind_dot
-one_stays Word word x r after e safe = e
-one_stays QuotedName word x r after e safe = e
-one_stays Literal word x r after e safe = e
 one_stays Number word x r after e safe =
     let h = or_parts (is_digit x) (list_all is_digit word && (x == 46 && next_is is_digit r)) e in
     rw (h.0, safe_next_digit after safe, and_false (x == 46)) (and_false _)
-one_stays (Sign b) word x r after e safe = e
-one_stays MetaLine word x r after e safe = e
+one_stays kind word x r after e safe = e
 
 two_stay : (kind : TokenKind) (word : List ℕ) (x y : ℕ) (r after : List ℕ) → goes_on kind word (x ∷ y ∷ r) ≡ false → goes_on kind word (x ∷ y ∷ after) ≡ false
 unfolding goes_on next_is goes_on_behind_dot

@@ -40,7 +40,6 @@ bare kind word = record { gap = []; kind = kind; word = word; start = 0 }
 
 pub sign_kind : (b : ℕ) (k : TokenKind) → is_sign_kind b k ≡ true → k ≡ Sign b
 sign_kind b (Sign c) e = ap Sign (sym (eqb-true b c e))
-sign_kind b Word e = absurd cc
 sign_kind b x e = absurd cc
 
 -- a machine that goes by kinds and words is plain where it takes neither such token

@@ -90,10 +90,8 @@ first_spot is_word r = cond is_word (Some (FirstWord (is_ok r))) (if_name r Sche
 
 dot_step : (dot : Lexeme) → is_sign 46 dot ≡ true → (b : Bool) (r : Result (List ℕ) Bool) → option_and_then (λ s. type_step s dot) (first_spot b r) ≡ only_if (is_ok r) Dotted
 unfolding type_step
-dot_step dot e true (Ok n) = rw e refl
-dot_step dot e true (Err long) = rw e refl
-dot_step dot e false (Ok n) = rw e refl
 dot_step dot e false (Err long) = refl
+dot_step dot e b r = rw e refl
 
 abbrev name_spot : Bool → Result (List ℕ) Bool → Option TypeSpot
 name_spot ok r = cond ok (if_name r Path) None
@@ -122,15 +120,13 @@ path_type a dot b q e f g = rw (e, f, g) refl
 
 path_names : (ts : List Lexeme) (last : TypeSpot) → run typing (Some Begin) ts ≡ Some last → has_dot (kinds ts) ≡ true → IsPath (path_of ts)
 unfolding is_sign
-path_names [] last e is = absurd cc
-path_names (a ∷ []) last e is = absurd cc
-path_names (a ∷ b ∷ []) last e is = absurd cc
 path_names (a ∷ dot ∷ b ∷ rest) last e is = by (name_value a) (name_value b) refl refl (sym (three_steps a dot b rest is) ∙ e)
   where
     by : (x y : Result (List ℕ) Bool) → name_value a ≡ x → name_value b ≡ y → run typing (name_spot (is_ok x) y) rest ≡ Some last → IsName (named x) × IsName (named y)
     by (Ok m) (Ok n) f g h = (value_name a m f, value_name b n g)
     by (Ok m) (Err long) f g h = absurd (not_some last (run typing None rest) h (run_none typing rest))
     by (Err long) y f g h = absurd (not_some last (run typing None rest) h (run_none typing rest))
+path_names ts last e is = absurd cc
 
 -- ---- a type's text
 

@@ -445,10 +445,8 @@ unfolding ends_run
 word_ends t e = rw e (by (is_end_kind t.kind) (is_sign 44 t) (is_word (codes "default") t))
   where
     by : (a b c : Bool) → (a || ((b || c) || true)) ≡ true
-    by true b c = refl
-    by false true c = refl
     by false false true = refl
-    by false false false = refl
+    by a b c = refl
 
 bracket_no_attributes : Apart (is_sign 41) attributes.goes_on
 bracket_no_attributes = sign_end 41 (closing_ends 41 refl) refl refl refl

@@ -141,7 +141,6 @@ line_by t b = cond b (Some t) None
 
 line_kind : (k : TokenKind) → is_line_kind k ≡ true → k ≡ MetaLine
 line_kind MetaLine e = refl
-line_kind Word e = absurd cc
 line_kind x e = absurd cc
 
 abbrev with_kind : Token → TokenKind → Token
@@ -158,9 +157,8 @@ line_chosen t u true is e =
 line_chosen t u false is e = absurd cc
 
 line_found : (r : Result (Option Token) LexFault) (u : Token) → line_in r ≡ Some u → r ≡ Ok (Some (line_token u.start u.end))
-line_found (Err fault) u e = absurd cc
-line_found (Ok None) u e = absurd cc
 line_found (Ok (Some t)) u e = line_chosen t u (is_line_kind t.kind) refl e
+line_found r u e = absurd cc
 
 a_line : (text : List ℕ) (at : ℕ) (u : Token) → line_at text at ≡ Some u → next_token_of text at ≡ Ok (Some (line_token u.start u.end))
 unfolding line_at
@@ -225,8 +223,7 @@ rows_within text at q columns w le (Err place) is e = absurd cc
 
 pub whole_bounds : (text : List ℕ) (at : ℕ) (h : Option Stmt) (w : Whole) → at ≤ length text → completed text at h ≡ Ok w → (at ≤ w.end) × (w.end ≤ length text)
 whole_bounds text at (Some (stmt.CopyRows q columns rows)) w le e = rows_within text at q columns w le (rows_behind text at) refl e
-whole_bounds text at None w le e = let same : at ≡ w.end = cc e in (omega (arith, same), rw (← same) le)
-whole_bounds text at (Some s) w le e = let same : at ≡ w.end = cc e in (omega (arith, same), rw (← same) le)
+whole_bounds text at h w le e = let same : at ≡ w.end = cc e in (omega (arith, same), rw (← same) le)
 
 -- ---- all statements
 
@@ -394,9 +391,8 @@ same_rest S (x ∷ a) (y ∷ b) r q m n e ends ends' one other =
 place_by : (limit : ℕ) (fault : Option LexFault) (long long' : Bool) (at : Option ℕ) → fault_place (fault_by limit fault long at) ≡ fault_place (fault_by limit fault long' at)
 place_by limit fault long long' None = refl
 place_by limit fault true true (Some at) = refl
-place_by limit fault true false (Some at) = refl
 place_by limit fault false true (Some at) = refl
-place_by limit fault false false (Some at) = refl
+place_by limit fault x y at = refl
 
 abbrev Spelled : List Lexeme → Type 0
 Spelled ts = (s : Option Stmt) × statement.Spells s ts

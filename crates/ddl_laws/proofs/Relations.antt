@@ -210,9 +210,9 @@ view_and_body_as = then_as (path_as space) (word_then (codes "AS") refl (end_as 
 -- the kind alone says whether a token is a sign
 pub same_start : (b : ℕ) (a c : List Lexeme) → kinds a ≡ kinds c → starts (is_sign b) c ≡ true → starts (is_sign b) a ≡ true
 unfolding is_sign
-same_start b a [] e is = absurd cc
-same_start b [] (u ∷ c) e is = absurd cc
 same_start b (t ∷ a) (u ∷ c) e is = let same : t.kind ≡ u.kind = cc in ap (is_sign_kind b) same ∙ is
+same_start b [] (u ∷ c) e is = absurd cc
+same_start b a [] e is = absurd cc
 
 pub bracket_put : (v : List ℕ) (others : List Lexeme) → IsBracketText v → Follows others → admits Safe (spelled others) ≡ true → IsPut bracketed v ((32 ∷ []) ++ v) others
 unfolding bracketed expression

@@ -133,12 +133,9 @@ attributes_as domain = pieces_as (either_attributes_as domain) (λ x is. attribu
     by : (domain : Bool) (d : Option (List ℕ)) (b : Bool) (is : IsDefault d) → joined ((either_attributes_as domain).pieces (d, b) is) ≡ joined (attribute_pieces domain d b)
     by true None true is = refl
     by true (Some v) true is = refl
-    by true None false is = refl
-    by true (Some v) false is = refl
     by false None true is = refl
     by false (Some v) true is = refl
-    by false None false is = refl
-    by false (Some v) false is = refl
+    by x d b is = refl
 
 unfoldable pub typed_as : (domain : Bool) → Written typed
 unfolding typed attributes_as
@@ -234,8 +231,7 @@ unfolding checks_fit at_spot
 checks_text Opening [] all = refl
 checks_text s [] all = refl
 checks_text Opening (c ∷ checks) all = ap (λ (x : List ℕ). (indent ++ check_line c) ++ x) (checks_text BehindCheck checks all.1)
-checks_text BehindColumn (c ∷ checks) all = ap (λ (x : List ℕ). in_line (check_line c) ++ x) (checks_text BehindCheck checks all.1)
-checks_text BehindCheck (c ∷ checks) all = ap (λ (x : List ℕ). in_line (check_line c) ++ x) (checks_text BehindCheck checks all.1)
+checks_text s (c ∷ checks) all = ap (λ (x : List ℕ). in_line (check_line c) ++ x) (checks_text BehindCheck checks all.1)
 
 pub elements_text : (first : Bool) (columns : List ColumnDef) (checks : List CheckDef) (all : AllByRecursion IsColumn columns) (others : AllByRecursion IsCheck checks)
     → joined (items_pieces elements (λ s. (at_spot s).written) (spot_at first) (listed_elements columns checks) (elements_fit first columns checks all others)) ≡ spot_lines (spot_at first) (table_lines columns checks)
