@@ -1,5 +1,5 @@
 -- Tokens of a text are read as the same tokens in another text, where they are kept with what stands between them.
-use Rattle.std.proofs.Common.{◌≡◌, ℕ, zero, suc, ◌+◌, ◌-◌, ◌<◌, ◌≤◌, Bool, true, false, cond, ◌&&◌, List, [], ◌∷◌, ◌++◌, length, length-append, append_assoc, append-nil, take, drop, Option, Some, None, Result, Ok, Err, refl, sym, ap, subst, ◌∙◌, ◌⊎◌, arith, inl, inr}
+use Rattle.std.proofs.Common.{◌≡◌, ℕ, zero, suc, ◌+◌, ◌-◌, ◌<◌, ◌≤◌, Bool, true, false, cond, ◌&&◌, List, [], ◌∷◌, ◌++◌, length, length-append, append_assoc, take, drop, Option, Some, None, Result, Ok, Err, refl, sym, ap, subst, ◌∙◌, ◌⊎◌, arith, inl, inr}
 use Rattle.std.specs.Prelude.{◌==◌, slice_range}
 use Rattle.std.specs.List.{list_all}
 use Rattle.std.specs.Str.{is_utf8}
@@ -17,7 +17,6 @@ use Rattle.sql_lex.specs.Meaning.{spelling}
 use Rattle.sql_lex.specs.Spelling.{Spells, AreDigits, IsGap, goes_on, goes_on_behind_dot}
 use Rattle.sql_lex.specs.Answers.{Between, nothing, gap, IsNext}
 use Rattle.sql_lex.proofs.TextLaws.{next_found, piece_word}
-use Rattle.sql_lex.specs.Written.{quoted}
 use Rattle.sql_lex.proofs.PieceLaws.{quoted_is, word_free, digit_free}
 use Rattle.sql_lex.proofs.Passing.{lies_behind}
 use Rattle.sql_lex.proofs.WriteLaws.{spelling_is_read, gap_is_passed}

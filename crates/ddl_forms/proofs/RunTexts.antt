@@ -1,14 +1,10 @@
 -- The text of a run of a machine is written with the tokens that it has: behind a gap and before other tokens, and what
 -- was read of a text is such a text.
-use Rattle.std.proofs.Common.{◌≡◌, ℕ, ◌+◌, ◌-◌, ◌≤◌, Bool, true, false, not, List, [], ◌∷◌, ◌++◌, length, length-append, append-nil, take, drop, Option, Some, None, refl, sym, ap, subst, ◌∙◌, arith, inl, inr, option_and_then, eqb-true}
+use Rattle.std.proofs.Common.{◌≡◌, ℕ, ◌+◌, ◌-◌, ◌≤◌, Bool, true, false, not, List, [], ◌∷◌, ◌++◌, length, length-append, append-nil, take, drop, Option, Some, None, refl, sym, ap, subst, ◌∙◌, arith, option_and_then, eqb-true}
 use Rattle.std.proofs.Math.Seq.{drop-length}
-use Rattle.std.proofs.lemmas.Bool.{and_parts, and_from}
-use Rattle.std.proofs.lemmas.Bool.Decides.{nat_tests}
+use Rattle.std.proofs.lemmas.Bool.{and_from}
 use Rattle.sql_lex.specs.declared.token.TokenKind.{TokenKind}
-use Rattle.sql_lex.specs.declared.token.TokenKind.TheVariants.{Word, QuotedName, Literal, Number, Sign, MetaLine}
-use Rattle.sql_lex.specs.Bytes.{is_blank, is_sign as is_sign_byte, marks_escapes}
-use Rattle.sql_lex.specs.Spelling.{Spells, AreDigits}
-use Rattle.sql_lex.proofs.PieceLaws.{quoted_is, word_free, digit_free}
+use Rattle.sql_lex.specs.declared.token.TokenKind.TheVariants.{Sign, MetaLine}
 use Rattle.ddl_parts.specs.declared.pieces.Piece.{Piece}
 use Rattle.ddl_parts.specs.Lexemes.{Lexeme, spelled, source, is_sign, is_sign_kind, start_of}
 use Rattle.ddl_parts.specs.Parts.{Machine, run, Runs}

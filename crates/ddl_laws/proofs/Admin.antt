@@ -1,5 +1,5 @@
 -- Comments, roles and databases: each part of their grammar with the text that it is written in.
-use Rattle.std.proofs.Common.{◌≡◌, ℕ, ℤ, Bool, true, false, List, [], ◌∷◌, ◌++◌, Option, Some, None, Ok, refl, ap, subst, ◌⊎◌, inl, inr, codes}
+use Rattle.std.proofs.Common.{◌≡◌, ℕ, Bool, true, false, List, [], ◌∷◌, ◌++◌, Option, Some, None, Ok, refl, ap, ◌⊎◌, inl, inr, codes}
 use Rattle.std.specs.Str.{IsUtf8, is_utf8, chars, str_to_ascii_lowercase}
 use Rattle.std.proofs.Math.Utf8.{encode}
 use Rattle.std.proofs.lemmas.Str.{IsUtf8-from_is_utf8}
@@ -17,7 +17,6 @@ use Rattle.ddl_admin.specs.Choices.{any_word, clause, flag, said, ◌before◌}
 use Rattle.ddl_admin.specs.Comments.{remark, remark_end, name_remarked, path_remarked, column_remarked, constraint_remarked, commented_object, comment_on}
 use Rattle.ddl_admin.specs.Roles.{later_flags, role_flags, role_settings, changes_by, role_changes, alter_role}
 use Rattle.ddl_admin.specs.Databases.{furthers, utf8_in, utf8_value, encoded, goes_on, maybe_encoded, options, create_database}
-use Rattle.ddl_forms.specs.Texts.{IsInt}
 use Rattle.ddl_forms.proofs.Behind.{Words, Safe}
 use Rattle.ddl_forms.proofs.Numbers.{number_as}
 use Rattle.ddl_forms.proofs.Tokens.{none, space}

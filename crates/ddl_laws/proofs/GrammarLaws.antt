@@ -1,16 +1,16 @@
 -- The grammar of statements has the laws of a part: what is read is spelled so, what is spelled so is read, and where
 -- reading stops nothing goes on.
-use Rattle.std.proofs.Common.{◌≡◌, Bool, true, false, ◌||◌, List, [], ◌∷◌, Some, None, refl, ap, codes, ℕ, ◌+◌, ◌<◌, ◌^◌, pos, arith, ◌++◌, append-nil, append_assoc, Ok, Err, sym, ◌∙◌, eqb-true, not, cond, Result, Option, subst, ◌⊎◌, inl, inr}
-use Rattle.std.proofs.lemmas.Bool.{or_parts, lt-ltb, not-true}
+use Rattle.std.proofs.Common.{◌≡◌, Bool, true, false, ◌||◌, List, [], ◌∷◌, Some, None, refl, ap, codes, ℕ, ◌+◌, ◌^◌, pos, arith, ◌++◌, append-nil, append_assoc, Ok, Err, sym, ◌∙◌, not, cond, Result, Option, subst, ◌⊎◌, inl, inr}
+use Rattle.std.proofs.lemmas.Bool.{or_parts, not-true}
 use Rattle.std.specs.Str.{is_utf8, chars}
 use Rattle.std.proofs.Math.Utf8.{encode}
 use Rattle.std.specs.Prelude.{◌==◌, is_some}
-use Rattle.sql_lex.specs.Meaning.{is_keyword_of, name_of, inside, undoubled, literal_of, spelling}
-use Rattle.ddl_parts.specs.Lexemes.{Lexeme, is_word, is_sign, source, starts, is_sign_kind}
+use Rattle.sql_lex.specs.Meaning.{is_keyword_of, name_of}
+use Rattle.ddl_parts.specs.Lexemes.{Lexeme, is_word, is_sign, source, starts}
 use Rattle.ddl_parts.specs.Parts.{Runs, run, runs_of, seen, Part, Reading, Stop, stop, choose_at, ◌then◌, Many, no_more, one_more, many, passes, ◌◂◌}
 use Rattle.ddl_parts.specs.Laws.{Lawful, Begins, Apart, Found, Stopped, Avoids}
 use Rattle.ddl_parts.specs.Lists.{comma, listed}
-use Rattle.ddl_parts.specs.Leaves.{name_in, name_value, is_name, is_name_kind, qualified, literal, is_literal, text_in, literal_value}
+use Rattle.ddl_parts.specs.Leaves.{name_in, name_value, is_name, qualified, literal, is_literal}
 use Rattle.ddl_parts.proofs.Repeated.{many_laws}
 use Rattle.ddl_parts.proofs.Machines.{CanEnd, run_none, machine_laws}
 use Rattle.ddl_parts.proofs.Leads.{a_word, a_sign, name_laws, qualified_laws, sign_is, words_apart, qualified_begins, literal_laws, literal_begins, word_no_sign}
@@ -23,18 +23,14 @@ use Rattle.ddl_read.specs.declared.rests.RestSpot.TheVariants.{Begin, Deferrable
 use Rattle.ddl_read.specs.Columns.{more_names, names_of, columns}
 use Rattle.ddl_read.specs.Rests.{only_if, either, rest_step, rest_done, rest_goes_on, resting, key_rest, begins_foreign, foreign_rest}
 use Rattle.ddl_read.proofs.ColumnLaws.{names_apart}
-use Rattle.sql_lex.specs.Bytes.{is_digit, is_blank, begins_word, in_word, is_sign as is_sign_byte, marks_escapes, in_line, next_is}
-use Rattle.sql_lex.specs.declared.token.TokenKind.TheVariants.{Number, Word, Sign, QuotedName, Literal}
-use Rattle.cat_model.specs.declared.constraint.SequenceKind.TheVariants.{SmallInt}
+use Rattle.sql_lex.specs.declared.token.TokenKind.TheVariants.{Number, Literal}
 use Rattle.ddl_numbers.specs.Numbers.{digits_below, whole_number}
-use Rattle.ddl_read.specs.declared.sequences.Bound.TheVariants.{Usual}
 use Rattle.ddl_read.specs.declared.sequences.Field.TheVariants.{First, Step}
 use Rattle.ddl_read.specs.declared.sequences.Open.TheVariants.{Both, Lower, Upper}
 use Rattle.ddl_read.specs.declared.sequences.ClauseSpot.{ClauseSpot}
 use Rattle.ddl_read.specs.declared.sequences.ClauseSpot.TheVariants.{Between, BehindAs, BehindStart, BehindIncrement, BehindNo, Due, BehindMinus}
 use Rattle.ddl_read.specs.declared.sequences.Clauses.{Clauses}
 use Rattle.ddl_read.specs.SequenceGrammar.{with_number, reached, clause_first, kind_first, usual_first, step_first, is_between, begins_clause, first_reached, clausing, clauses_of, sequence_clauses, sequence_of, create_sequence}
-use Rattle.sql_lex.specs.declared.token.TokenKind.{TokenKind}
 use Rattle.ddl_parts.specs.Expressions.{expression, nested, nest_step, nest_done, ends_run, default_text, is_end_kind}
 use Rattle.ddl_parts.specs.declared.runs.Spot.TheVariants.{Inside}
 use Rattle.ddl_parts.proofs.Steps.{starts-append, starts_again, err_is}
@@ -50,13 +46,10 @@ use Rattle.ddl_parts.proofs.Listing.{listed_laws}
 use Rattle.cat_model.specs.declared.table.CheckDef.{CheckDef}
 use Rattle.ddl_read.specs.TableGrammar.{create_enum, enum_of, attributes, typed, checking, domain_of, create_domain, more_elements, elements, parted, table_elements, table_of, create_table}
 use Rattle.ddl_read.proofs.TableLaws.{named_check_is, checks_apart, typed_laws, attributes_end, sign_end, column_ends, elements_apart, named_check_free}
-use Rattle.sql_lex.specs.Ends.{run_end, quote_end, escape_end, comment_end, fraction_end, number_end}
-use Rattle.sql_lex.specs.Pieces.{begins_line, closed, begun, in_utf8, piece_at}
-use Rattle.sql_lex.specs.Next.{next_within, next_token_of}
 use Rattle.sql_lex.specs.declared.fault.LexFault.{LexFault}
 use Rattle.cat_model.specs.declared.object.QName.{QName}
 use Rattle.ddl_parts.specs.Pieces.{lexemes}
-use Rattle.ddl_parts.specs.Collecting.{collected_within, collected}
+use Rattle.ddl_parts.specs.Collecting.{collected}
 use Rattle.ddl_numbers.proofs.NumberLaws.{whole_number_laws, zero_below}
 use Rattle.ddl_read.specs.ValueGrammar.{if_last, whole_path, path_in, path_value, literal_path, truth, value_of_sequence, set_value}
 use Rattle.ddl_read.specs.CopyGrammar.{some_columns, copy_from}

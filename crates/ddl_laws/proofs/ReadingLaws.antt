@@ -4,20 +4,20 @@ use Rattle.std.proofs.Common.{◌≡◌, ℕ, zero, suc, ◌+◌, Bool, true, fa
 use Rattle.std.proofs.lemmas.Bool.{and_from}
 use Rattle.sql_lex.specs.declared.token.Token.{Token}
 use Rattle.sql_lex.specs.declared.fault.LexFault.{LexFault}
-use Rattle.sql_lex.specs.Next.{next_token_of, LiesBehind}
+use Rattle.sql_lex.specs.Next.{next_token_of}
 use Rattle.cat_model.specs.declared.stmt.Stmt.{Stmt}
 use Rattle.ddl_parts.specs.declared.pieces.Piece.{Piece}
 use Rattle.ddl_parts.specs.Lexemes.{Lexeme, is_sign, is_sign_kind, starts, is_word, start_of}
 use Rattle.ddl_parts.specs.Pieces.{lexeme_of, lexemes, value_of}
 use Rattle.ddl_parts.proofs.Steps.{gives}
-use Rattle.ddl_parts.specs.Collecting.{Collected, collected, collected_within, collected_by, nothing_more, preceded}
+use Rattle.ddl_parts.specs.Collecting.{Collected, collected, collected_within, collected_by}
 use Rattle.ddl_read.specs.Grammar.{semicolon, statement, command, created, altered, set_config, selected, setting, create_schema, altered_domain, domain_change, new_check, name_and_owner, path_and_owner, new_owner}
 use Rattle.ddl_forms.proofs.Tokens.{none as no_gap}
 use Rattle.ddl_laws.proofs.Whole.{statement_as}
 use Rattle.ddl_forms.proofs.Closing.{Closes, only_last, nothing_left}
 use Rattle.ddl_forms.proofs.Kept.{collected_has}
 use Rattle.sql_lex.specs.declared.token.TokenKind.{TokenKind}
-use Rattle.sql_lex.specs.declared.token.TokenKind.TheVariants.{Word, MetaLine}
+use Rattle.sql_lex.specs.declared.token.TokenKind.TheVariants.{MetaLine}
 use Rattle.sql_lex.specs.Meaning.{spelling, is_keyword_of}
 use Rattle.cat_model.specs.declared.object.QName.{QName}
 use Rattle.sql_lex.proofs.Passing.{lies_behind}

@@ -3,7 +3,7 @@ use Rattle.std.proofs.lemmas.Bool.{cases_Bool, and_parts, and_from, or_right}
 use Rattle.std.proofs.lemmas.List.{drop_all}
 use Rattle.std.proofs.lemmas.List.Folds.{list_all-append}
 use Rattle.std.proofs.lemmas.Str.{IsUtf8-append, IsUtf8-from_is_utf8, is_utf8-from_IsUtf8}
-use Rattle.std.proofs.Common.{◌≡◌, ℕ, suc, ◌+◌, Bool, true, false, cond, not, ◌&&◌, ◌-◌, List, [], ◌∷◌, ◌++◌, length, length-append, append_assoc, append-nil, Option, Some, None, Result, Ok, Err, refl, sym, ap, subst, ◌∙◌, arith, ◌⊎◌, inl, inr, codes, ◌<◌, ◌≤◌}
+use Rattle.std.proofs.Common.{◌≡◌, ℕ, suc, ◌+◌, Bool, true, false, cond, not, ◌&&◌, ◌-◌, List, [], ◌∷◌, ◌++◌, length, length-append, append_assoc, append-nil, Option, Some, None, Result, Ok, Err, refl, sym, ap, subst, ◌∙◌, arith, ◌⊎◌, inl, inr, codes, ◌≤◌}
 use Rattle.std.specs.Prelude.{◌==◌, slice_index}
 use Rattle.std.specs.List.{list_all, AllByRecursion}
 use Rattle.std.specs.Str.{is_utf8, IsUtf8, chars}
@@ -16,7 +16,7 @@ use Rattle.sql_lex.specs.Spelling.{IsMetaLine, goes_on}
 use Rattle.sql_lex.specs.Reserved.{is_reserved}
 use Rattle.sql_lex.specs.ReadBack.{token_at, written_kind}
 use Rattle.sql_lex.proofs.Passing.{next_at_end}
-use Rattle.sql_lex.proofs.WriteLaws.{name_is_read, spelling_is_read, gap_is_passed}
+use Rattle.sql_lex.proofs.WriteLaws.{spelling_is_read, gap_is_passed}
 use Rattle.ddl_parts.specs.declared.pieces.Piece.{Piece}
 use Rattle.ddl_parts.specs.Lexemes.{is_sign_kind, Lexeme, spelled, is_sign, start_of}
 use Rattle.ddl_parts.specs.Leaves.{name_value}
@@ -25,9 +25,9 @@ use Rattle.ddl_parts.specs.Collecting.{Collected, collected, collected_within, c
 use Rattle.ddl_laws.specs.Readings.{IsLine, Reads, all_read, one_read, line_read, line_token}
 use Rattle.ddl_laws.proofs.ReadingLaws.{collected_first, statement_closes, only, found, ends_past, line_past}
 use Rattle.ddl_laws.proofs.Paths.{name_utf8}
-use Rattle.ddl_forms.proofs.Tokens.{a_name, Gap, white, space, gap_stands, name_begun, name_no_sign, name_means, none, newline, spaced, indented, tabbed, indent}
+use Rattle.ddl_forms.proofs.Tokens.{a_name, Gap, white, space, gap_stands, name_no_sign, name_means, none, newline}
 use Rattle.copy_text.specs.Texts.{IsName}
-use Rattle.sql_lex.specs.Bytes.{is_blank, is_digit, begins_word, in_word, marks_escapes, in_line, next_is}
+use Rattle.sql_lex.specs.Bytes.{is_blank, in_line, next_is}
 use Rattle.sql_lex.specs.Pieces.{begins_line}
 use Rattle.sql_lex.specs.Written.{is_bare, doubled, quoted, written_name}
 use Rattle.sql_lex.specs.declared.token.TokenKind.TheVariants.{MetaLine}
