@@ -73,9 +73,8 @@ abbrev pub either_flag_as : (w : List ℕ) → is_key (str_to_ascii_lowercase w)
 either_flag_as w is isnt = like_as (choose_as (seen_as (said true) (mark_as (word_as space w is))) (choose_as (seen_as (said false) (mark_as (word_as space (codes "NO" ++ w) isnt))) (nothing_as None))) (λ b. Unit {0}) flagged (λ b h. tt)
 
 pub flag_same : (w : List ℕ) (is : is_key (str_to_ascii_lowercase w) w ≡ true) (isnt : is_key (str_to_ascii_lowercase (codes "NO" ++ w)) (codes "NO" ++ w) ≡ true) (b : Option Bool) (u : Unit {0}) → joined ((either_flag_as w is isnt).pieces b u) ≡ joined (flag_text w b ∷ [])
-flag_same w is isnt None u = refl
 flag_same w is isnt (Some true) u = refl
-flag_same w is isnt (Some false) u = refl
+flag_same w is isnt x u = refl
 
 -- an attribute, or the word behind NO
 abbrev pub flag_as : (w : List ℕ) → is_key (str_to_ascii_lowercase w) w ≡ true → is_key (str_to_ascii_lowercase (codes "NO" ++ w)) (codes "NO" ++ w) ≡ true → Written (flag (str_to_ascii_lowercase w) (str_to_ascii_lowercase (codes "NO" ++ w)))

@@ -156,21 +156,18 @@ opening_name (Some x) = right_word x
 
 pub opening_bare : (o : Option Right) → is_bare_word (opening_word o) ≡ true
 unfolding is_bare_word
-opening_bare None = refl
 opening_bare (Some Select) = refl
-opening_bare (Some x) = refl
+opening_bare x = refl
 
 pub wanted_says : (o : Option Right) (t : Lexeme) → t.kind ≡ Word → t.word ≡ opening_word o → wanted_first (t ∷ []) ≡ Some (wanting o)
 unfolding wanted_first right_first is_word is_keyword_of
-wanted_says None t k w = rw (k, w) refl
 wanted_says (Some Select) t k w = rw (k, w) refl
-wanted_says (Some x) t k w = rw (k, w) refl
+wanted_says x t k w = rw (k, w) refl
 
 pub wanted_named : (o : Option Right) (t : Lexeme) → t.kind ≡ Word → t.word ≡ opening_word o → name_value t ≡ Ok (opening_name o)
 unfolding name_value name_in name_of is_utf8 chars encode
-wanted_named None t k w = rw (k, w) refl
 wanted_named (Some Select) t k w = rw (k, w) refl
-wanted_named (Some x) t k w = rw (k, w) refl
+wanted_named x t k w = rw (k, w) refl
 
 -- all of a kind, or one at least
 abbrev pub AreSome : Wanted → Type 0
@@ -467,9 +464,8 @@ first_as =
 
 pub behind_decided : (n : List ℕ) (o : Option Wanted) → decides Safe End first_as (behind_as n o) ≡ true
 unfolding behind_as first_as rights_and_object_as to_as
-behind_decided n None = refl
 behind_decided n (Some All) = refl
-behind_decided n (Some (These r)) = refl
+behind_decided n x = refl
 
 unfoldable pub granted_as : Kinds IsWritable granted
 unfolding granted behind_as first_as

@@ -386,9 +386,8 @@ given_is usual None u k = u
 given_is usual (Some z) u k = k
 
 pub bound_given : (usual : ℤ) (b : Bound) → IsInt usual → IsBound b → IsInt (bound_or usual b)
-bound_given usual Unsaid u k = u
-bound_given usual Usual u k = u
 bound_given usual (Given z) u k = k
+bound_given usual x u k = u
 
 pub start_is : (step min max : ℤ) → IsInt min → IsInt max → IsInt (usual_start step min max)
 start_is (pos n) min max a b = a
