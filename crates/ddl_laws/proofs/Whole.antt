@@ -160,57 +160,39 @@ role_spelled_so {g} gap role m c admin inherit z is text e =
 
 pub spelled_so : {g : List ℕ} (gap : Gap g) (s : Stmt) → IsWords s → IsWritable s → IsSpelled gap s (given (spelling s))
 unfolding in_create in_alter in_comment added_fit member_fit spelling schema_text enum_text domain_text table_text sequence_text role_text database_text view_text index_text owner_text owned_object domain_check_text owned_by_text changes_text key_text foreign_text added_check_text default_text set_text setting_text value_text grant_text revoke_text member_text comment_text written_literal quoted doubled
-spelled_so gap (stmt.CreateSchema n) words is = (in_create gap (stmt.CreateSchema n) 0 (n, is, refl), refl)
+spelled_so gap (stmt.CreateSchema n) words is = (in_create gap _ 0 (n, is, refl), refl)
 spelled_so {g} gap (stmt.CreateEnum q labels) words is = (
-  in_create gap (stmt.CreateEnum q labels) 1 ((q, labels), (is.0, is.1), refl),
+  in_create gap _ 1 ((q, labels), (is.0, is.1), refl),
   ap (λ (x : List ℕ). g ++ (codes "CREATE TYPE " ++ (path q ++ (codes " AS ENUM (" ++ x)))) (lines_end (map written_literal labels) (41 ∷ ending)),
 )
-spelled_so {g} gap (stmt.CreateDomain q base not_null default checks) words is = (
-  in_create gap (stmt.CreateDomain q base not_null default checks) 2 ((q, ((base, (default, not_null)), checks)), (is.0, ((is.1, is.2), is.3)), refl),
-  refl,
-)
+spelled_so {g} gap (stmt.CreateDomain q base not_null default checks) words is = (in_create gap _ 2 ((q, ((base, (default, not_null)), checks)), (is.0, ((is.1, is.2), is.3)), refl), refl)
 spelled_so {g} gap (stmt.CreateTable q columns checks) words is = (
-  in_create gap (stmt.CreateTable q columns checks) 3 ((q, (columns, checks)), (is.0, (is.1, is.2)), refl),
+  in_create gap _ 3 ((q, (columns, checks)), (is.0, (is.1, is.2)), refl),
   ap (λ (x : List ℕ). g ++ (codes "CREATE TABLE " ++ (path q ++ (codes " (" ++ x)))) (lines_end (table_lines columns checks) (41 ∷ ending)),
 )
-spelled_so gap (stmt.CreateRole n) words is = (in_create gap (stmt.CreateRole n) 4 (n, is, refl), refl)
-spelled_so gap (stmt.CreateDatabase n None) words is = (in_create gap (stmt.CreateDatabase n None) 5 ((n, None), (is, tt), refl), refl)
-spelled_so gap (stmt.CreateDatabase n (Some Utf8)) words is = (in_create gap (stmt.CreateDatabase n (Some Utf8)) 5 ((n, Some Utf8), (is, tt), refl), refl)
-spelled_so gap (stmt.CreateView q body) words is = (in_create gap (stmt.CreateView q body) 6 ((q, body), (is.0, is.1), refl), refl)
-spelled_so gap (stmt.ReplaceView q body) words is = (in_create gap (stmt.ReplaceView q body) 7 ((q, body), (is.0, is.1), refl), refl)
-spelled_so gap (stmt.CreateIndex q n m rest) words is = (in_create gap (stmt.CreateIndex q n m rest) 8 ((n, (q, (m, rest))), (is.1, (is.0, (is.2, is.3))), refl), refl)
-spelled_so gap (stmt.CreateUniqueIndex q n m rest) words is = (in_create gap (stmt.CreateUniqueIndex q n m rest) 9 ((n, (q, (m, rest))), (is.1, (is.0, (is.2, is.3))), refl), refl)
+spelled_so gap (stmt.CreateRole n) words is = (in_create gap _ 4 (n, is, refl), refl)
+spelled_so gap (stmt.CreateDatabase n None) words is = (in_create gap _ 5 ((n, None), (is, tt), refl), refl)
+spelled_so gap (stmt.CreateDatabase n (Some Utf8)) words is = (in_create gap _ 5 ((n, Some Utf8), (is, tt), refl), refl)
+spelled_so gap (stmt.CreateView q body) words is = (in_create gap _ 6 ((q, body), (is.0, is.1), refl), refl)
+spelled_so gap (stmt.ReplaceView q body) words is = (in_create gap _ 7 ((q, body), (is.0, is.1), refl), refl)
+spelled_so gap (stmt.CreateIndex q n m rest) words is = (in_create gap _ 8 ((n, (q, (m, rest))), (is.1, (is.0, (is.2, is.3))), refl), refl)
+spelled_so gap (stmt.CreateUniqueIndex q n m rest) words is = (in_create gap _ 9 ((n, (q, (m, rest))), (is.1, (is.0, (is.2, is.3))), refl), refl)
 spelled_so gap (stmt.CreateSequence q kind start step min max cache cycle) words is =
     let v : Values = record { kind = kind; start = start; step = step; min = min; max = max; cache = cache; cycle = cycle } in
-    (in_create gap (stmt.CreateSequence q kind start step min max cache cycle) 10 ((q, written v), (is.0, (v, (is.1, is.2, is.3, is.4, is.5), refl)), sequence_is q v), refl)
-spelled_so {g} gap (stmt.OwnerTo (owned.Schema n) r) words is = (
-  in_alter gap (stmt.OwnerTo (owned.Schema n) r) 0 ((n, r), (is.0, is.1), refl),
-  owner_behind g (codes "ALTER SCHEMA ") (written_name n) (written_name r),
-)
-spelled_so {g} gap (stmt.OwnerTo (owned.Type q) r) words is = (in_alter gap (stmt.OwnerTo (owned.Type q) r) 1 ((q, r), (is.0, is.1), refl), owner_behind g (codes "ALTER TYPE ") (path q) (written_name r))
-spelled_so {g} gap (stmt.OwnerTo (owned.Domain q) r) words is = (
-  in_alter gap (stmt.OwnerTo (owned.Domain q) r) 2 ((q, its_owner r), (is.0, inl (r, is.1, refl)), refl),
-  owner_behind g (codes "ALTER DOMAIN ") (path q) (written_name r),
-)
-spelled_so {g} gap (stmt.OwnerTo (owned.Table q) r) words is = (
-  in_alter gap (stmt.OwnerTo (owned.Table q) r) 3 (altered_table_as.pick 1 (stmt.OwnerTo (owned.Table q) r) ((q, Owner r), (is.0, inl (r, is.1, refl)), refl)),
-  owner_behind g (codes "ALTER TABLE ") (path q) (written_name r),
-)
-spelled_so {g} gap (stmt.OwnerTo (owned.Sequence q) r) words is = (
-  in_alter gap (stmt.OwnerTo (owned.Sequence q) r) 4 ((q, its_role r), (is.0, inl (r, is.1, refl)), refl),
-  owner_behind g (codes "ALTER SEQUENCE ") (path q) (written_name r),
-)
-spelled_so {g} gap (stmt.OwnerTo (owned.View q) r) words is = (in_alter gap (stmt.OwnerTo (owned.View q) r) 5 ((q, r), (is.0, is.1), refl), owner_behind g (codes "ALTER VIEW ") (path q) (written_name r))
-spelled_so {g} gap (stmt.OwnerTo (owned.Database n) r) words is = (
-  in_alter gap (stmt.OwnerTo (owned.Database n) r) 6 ((n, r), (is.0, is.1), refl),
-  owner_behind g (codes "ALTER DATABASE ") (written_name n) (written_name r),
-)
+    (in_create gap _ 10 ((q, written v), (is.0, (v, (is.1, is.2, is.3, is.4, is.5), refl)), sequence_is q v), refl)
+spelled_so {g} gap (stmt.OwnerTo (owned.Schema n) r) words is = (in_alter gap _ 0 ((n, r), (is.0, is.1), refl), owner_behind g (codes "ALTER SCHEMA ") (written_name n) (written_name r))
+spelled_so {g} gap (stmt.OwnerTo (owned.Type q) r) words is = (in_alter gap _ 1 ((q, r), (is.0, is.1), refl), owner_behind g (codes "ALTER TYPE ") (path q) (written_name r))
+spelled_so {g} gap (stmt.OwnerTo (owned.Domain q) r) words is = (in_alter gap _ 2 ((q, its_owner r), (is.0, inl (r, is.1, refl)), refl), owner_behind g (codes "ALTER DOMAIN ") (path q) (written_name r))
+spelled_so {g} gap (stmt.OwnerTo (owned.Table q) r) words is = (in_alter gap _ 3 (altered_table_as.pick 1 _ ((q, Owner r), (is.0, inl (r, is.1, refl)), refl)), owner_behind g (codes "ALTER TABLE ") (path q) (written_name r))
+spelled_so {g} gap (stmt.OwnerTo (owned.Sequence q) r) words is = (in_alter gap _ 4 ((q, its_role r), (is.0, inl (r, is.1, refl)), refl), owner_behind g (codes "ALTER SEQUENCE ") (path q) (written_name r))
+spelled_so {g} gap (stmt.OwnerTo (owned.View q) r) words is = (in_alter gap _ 5 ((q, r), (is.0, is.1), refl), owner_behind g (codes "ALTER VIEW ") (path q) (written_name r))
+spelled_so {g} gap (stmt.OwnerTo (owned.Database n) r) words is = (in_alter gap _ 6 ((n, r), (is.0, is.1), refl), owner_behind g (codes "ALTER DATABASE ") (written_name n) (written_name r))
 spelled_so {g} gap (stmt.AddDomainCheck q n v) words is = (
-  in_alter gap (stmt.AddDomainCheck q n v) 2 ((q, one_more_check (record { name = n; text = v })), (is.0, inr (record { name = n; text = v }, (is.1, is.2), refl)), refl),
+  in_alter gap _ 2 ((q, one_more_check (record { name = n; text = v })), (is.0, inr (record { name = n; text = v }, (is.1, is.2), refl)), refl),
   ap (λ (x : List ℕ). g ++ (codes "ALTER DOMAIN " ++ x)) (two_behind (path q) (codes "\n    ADD ") (check_text n v) ending),
 )
-spelled_so gap (stmt.OwnedBy q table column) words is = (in_alter gap (stmt.OwnedBy q table column) 4 ((q, its_column (table, column)), (is.0, inr ((table, column), (is.1, is.2), refl)), refl), refl)
-spelled_so gap (stmt.AlterRole n changes) words is = (in_alter gap (stmt.AlterRole n changes) 7 ((n, changes), (is.0, is.1), refl), refl)
+spelled_so gap (stmt.OwnedBy q table column) words is = (in_alter gap _ 4 ((q, its_column (table, column)), (is.0, inr ((table, column), (is.1, is.2), refl)), refl), refl)
+spelled_so gap (stmt.AlterRole n changes) words is = (in_alter gap _ 7 ((n, changes), (is.0, is.1), refl), refl)
 spelled_so gap (stmt.SetDefault q n v) words is = (table_fit gap q (Default n v) is.0 (own_change_as.pick 1 (Default n v) ((n, v), (is.1, is.2), refl)), refl)
 spelled_so gap (stmt.AddCheck q n v) words is = (added_fit gap q n (Check v) is.0 is.1 (constraint_body_as.pick 0 (Check v) (v, is.2, refl)), refl)
 spelled_so gap (stmt.AddPrimary q n ns rest) words is = (added_fit gap q n (Primary ns rest) is.0 is.1 (constraint_body_as.pick 1 (Primary ns rest) ((ns, rest), (is.2, is.3), refl)), refl)
@@ -220,30 +202,21 @@ spelled_so {g} gap (stmt.AddForeign q n ns parent theirs rest) words is = (
   refl,
 )
 spelled_so {g} gap (stmt.SetConfig n v) words is = (
-  (command_as gap).pick 2 (stmt.SetConfig n v) (selected_as.pick 0 (stmt.SetConfig n v) ((n, v), (is.0, is.1), refl)),
+  (command_as gap).pick 2 _ (selected_as.pick 0 _ ((n, v), (is.0, is.1), refl)),
   ap (λ (x : List ℕ). g ++ (codes "SELECT pg_catalog.set_config(" ++ x)) (both_behind (written_literal n) (codes ", ") (written_literal v) (codes ", false)" ++ ending)),
 )
-spelled_so {g} gap (stmt.SetVal q n true) words is = (
-  (command_as gap).pick 2 (stmt.SetVal q n true) (selected_as.pick 1 (stmt.SetVal q n true) ((q, (n, true)), (is.0, (is.1, inl (tt, tt, refl))), refl)),
-  refl,
-)
-spelled_so {g} gap (stmt.SetVal q n false) words is = (
-  (command_as gap).pick 2 (stmt.SetVal q n false) (selected_as.pick 1 (stmt.SetVal q n false) ((q, (n, false)), (is.0, (is.1, inr (tt, tt, refl))), refl)),
-  refl,
-)
-spelled_so {g} gap (stmt.Set n v) words is = (
-  (command_as gap).pick 3 (stmt.Set n v) ((n, (tt, v)), (is.0, (inl tt, is.1)), refl),
-  ap (λ (x : List ℕ). g ++ (codes "SET " ++ x)) (two_behind (written_name n) (codes " = ") v ending),
-)
-spelled_so gap (stmt.Comment (commented.Schema n) text) words is = (in_comment gap (stmt.Comment (commented.Schema n) text) 0 ((n, text), (is.0, is.1), refl), refl)
-spelled_so gap (stmt.Comment (commented.Type q) text) words is = (in_comment gap (stmt.Comment (commented.Type q) text) 1 ((q, text), (is.0, is.1), refl), refl)
-spelled_so gap (stmt.Comment (commented.Domain q) text) words is = (in_comment gap (stmt.Comment (commented.Domain q) text) 2 ((q, text), (is.0, is.1), refl), refl)
-spelled_so gap (stmt.Comment (commented.Table q) text) words is = (in_comment gap (stmt.Comment (commented.Table q) text) 3 ((q, text), (is.0, is.1), refl), refl)
-spelled_so gap (stmt.Comment (commented.View q) text) words is = (in_comment gap (stmt.Comment (commented.View q) text) 4 ((q, text), (is.0, is.1), refl), refl)
-spelled_so gap (stmt.Comment (commented.Sequence q) text) words is = (in_comment gap (stmt.Comment (commented.Sequence q) text) 5 ((q, text), (is.0, is.1), refl), refl)
-spelled_so gap (stmt.Comment (commented.Index q) text) words is = (in_comment gap (stmt.Comment (commented.Index q) text) 6 ((q, text), (is.0, is.1), refl), refl)
-spelled_so gap (stmt.Comment (commented.Column q n) text) words is = (in_comment gap (stmt.Comment (commented.Column q n) text) 7 ((q, (n, text)), (is.0.0, (is.0.1, is.1)), refl), refl)
-spelled_so gap (stmt.Comment (commented.Constraint q n) text) words is = (in_comment gap (stmt.Comment (commented.Constraint q n) text) 8 ((n, (q, text)), (is.0.1, (is.0.0, is.1)), refl), refl)
+spelled_so {g} gap (stmt.SetVal q n true) words is = ((command_as gap).pick 2 _ (selected_as.pick 1 _ ((q, (n, true)), (is.0, (is.1, inl (tt, tt, refl))), refl)), refl)
+spelled_so {g} gap (stmt.SetVal q n false) words is = ((command_as gap).pick 2 _ (selected_as.pick 1 _ ((q, (n, false)), (is.0, (is.1, inr (tt, tt, refl))), refl)), refl)
+spelled_so {g} gap (stmt.Set n v) words is = ((command_as gap).pick 3 _ ((n, (tt, v)), (is.0, (inl tt, is.1)), refl), ap (λ (x : List ℕ). g ++ (codes "SET " ++ x)) (two_behind (written_name n) (codes " = ") v ending))
+spelled_so gap (stmt.Comment (commented.Schema n) text) words is = (in_comment gap _ 0 ((n, text), (is.0, is.1), refl), refl)
+spelled_so gap (stmt.Comment (commented.Type q) text) words is = (in_comment gap _ 1 ((q, text), (is.0, is.1), refl), refl)
+spelled_so gap (stmt.Comment (commented.Domain q) text) words is = (in_comment gap _ 2 ((q, text), (is.0, is.1), refl), refl)
+spelled_so gap (stmt.Comment (commented.Table q) text) words is = (in_comment gap _ 3 ((q, text), (is.0, is.1), refl), refl)
+spelled_so gap (stmt.Comment (commented.View q) text) words is = (in_comment gap _ 4 ((q, text), (is.0, is.1), refl), refl)
+spelled_so gap (stmt.Comment (commented.Sequence q) text) words is = (in_comment gap _ 5 ((q, text), (is.0, is.1), refl), refl)
+spelled_so gap (stmt.Comment (commented.Index q) text) words is = (in_comment gap _ 6 ((q, text), (is.0, is.1), refl), refl)
+spelled_so gap (stmt.Comment (commented.Column q n) text) words is = (in_comment gap _ 7 ((q, (n, text)), (is.0.0, (is.0.1, is.1)), refl), refl)
+spelled_so gap (stmt.Comment (commented.Constraint q n) text) words is = (in_comment gap _ 8 ((n, (q, text)), (is.0.1, (is.0.0, is.1)), refl), refl)
 spelled_so {g} gap (stmt.Grant o r who option) words is =
     let s = stmt.Grant o r who option in
     let h = rights_opened o r is.0 is.1 in (
