@@ -22,9 +22,8 @@ use Rattle.ddl_parts.specs.Parts.{mark, seen, ◌then◌, ◌▸◌}
 use Rattle.ddl_numbers.specs.Numbers.{count, count_first, count_value, counted, digits_below, opposite, whole_number}
 use Rattle.ddl_forms.specs.Texts.{is_int, IsInt}
 use Rattle.ddl_forms.proofs.Standing.{Stands}
-use Rattle.ddl_forms.proofs.Kept.{safe_ends, spelled-append}
+use Rattle.ddl_forms.proofs.Kept.{safe_ends, spelled-append, Begun}
 use Rattle.ddl_forms.proofs.Tokens.{Gap, none, gap_stands, sign_token}
-use Rattle.ddl_forms.proofs.Kept.{Begun}
 use Rattle.ddl_forms.proofs.Behind.{Safe, admits}
 use Rattle.ddl_forms.proofs.RunTexts.{safe_behind}
 use Rattle.ddl_forms.proofs.Putting.{Follows, IsPut, followed, put_as, one_put, same_text, then_put, Yields}

@@ -11,8 +11,7 @@ use Rattle.ddl_parts.specs.Parts.{Machine, run, Runs}
 use Rattle.ddl_parts.specs.Pieces.{lexeme_of, lexemes}
 use Rattle.ddl_parts.proofs.Machines.{run_none}
 use Rattle.ddl_parts.specs.Collecting.{collected}
-use Rattle.ddl_forms.specs.Texts.{semicolon}
-use Rattle.ddl_forms.specs.Texts.{IsRunText}
+use Rattle.ddl_forms.specs.Texts.{semicolon, IsRunText}
 use Rattle.ddl_forms.proofs.Closing.{only_last}
 use Rattle.ddl_forms.proofs.Standing.{is_safe, Stands, Stood, placed, NoSemicolon, collects_all}
 use Rattle.ddl_forms.proofs.Kept.{AllCame, AllPlain, begun_some, token_begun, have_come, whole_text, stands_again, all_stand_again, spelled-append}
