@@ -22,7 +22,7 @@ use Rattle.ddl_parts.specs.Lexemes.{is_sign_kind, Lexeme, spelled, is_sign, star
 use Rattle.ddl_parts.specs.Leaves.{name_value}
 use Rattle.ddl_parts.specs.Pieces.{lexeme_of, lexemes}
 use Rattle.ddl_parts.specs.Collecting.{Collected, collected, collected_within, collected_by, nothing_more, preceded}
-use Rattle.ddl_laws.specs.Readings.{IsLine, Reads, all_read, one_read, line_read, line_token}
+use Rattle.ddl_laws.specs.Readings.{IsLine, IsStatement, Reads, all_read, one_read, line_read, line_token}
 use Rattle.ddl_laws.proofs.ReadingLaws.{collected_first, statement_closes, only, found, ends_past, line_past}
 use Rattle.ddl_laws.proofs.Paths.{name_utf8}
 use Rattle.ddl_forms.proofs.Tokens.{a_name, Gap, white, space, gap_stands, name_no_sign, name_means, none, newline}
@@ -302,22 +302,17 @@ tokens_collected text front rest ts s e stood last says =
 regrouped : (g text rest tokens : List ℕ) → tokens ++ 10 ∷ [] ≡ g ++ text → g ++ (text ++ rest) ≡ tokens ++ (10 ∷ rest)
 regrouped g text rest tokens bytes = sym (append_assoc g text rest) ∙ ap (λ (x : List ℕ). x ++ rest) (sym bytes) ∙ append_assoc tokens (10 ∷ []) rest
 
+one_as : (text : List ℕ) (at : ℕ) (s : Stmt) (start end : ℕ) (more : List Stmt) → IsStatement text at (Some s) start end → ReadsAs text end more → ReadsAs text at (s ∷ more)
+one_as text at s start end more is others = record { found = listed (Some s) start end others.found; reads = one_read at (Some s) start end others.found is others.reads; same = ap (λ (x : List Stmt). s ∷ x) others.same }
+
 tokens_read : (text front g : List ℕ) (s : Stmt) (words : List ℕ) (more : List Stmt) (rest : List ℕ) → (l : IsLaidOut g s words) → ((t : List ℕ) (end : ℕ) → completed t end (Some s) ≡ Ok (whole (Some s) end)) → text ≡ front ++ (g ++ (words ++ rest)) → ReadsRest text rest more → ReadsAs text (length front) (s ∷ more)
 tokens_read text front g s words more rest l complete e later =
     let e' : text ≡ front ++ (spelled l.tokens ++ (10 ∷ rest)) = e ∙ ap (λ (x : List ℕ). front ++ x) (regrouped g words rest (spelled l.tokens) l.bytes) in
     let k = tokens_collected text front rest l.tokens s e' l.stood l.last l.says in
     let front' = front ++ spelled l.tokens in
     let others = later front' (10 ∷ []) newline (inr (front', refl)) (e' ∙ sym (append_assoc front (spelled l.tokens) (10 ∷ rest))) in
-    record {
-      found = listed (Some s) k.start (length front') others.found;
-      reads = one_read (length front) (Some s) k.start (length front') others.found (record {
-        first = k.first;
-        header = Some s;
-        spells = k.spells;
-        all = complete text (collected text (length front)).end ∙ ap (λ n. ends_at (Some s) n) k.place;
-      }) others.reads;
-      same = ap (λ (x : List Stmt). s ∷ x) others.same;
-    }
+    let all = complete text (collected text (length front)).end ∙ ap (λ n. ends_at (Some s) n) k.place in
+    one_as text (length front) s k.start (length front') more (record { first = k.first; header = Some s; spells = k.spells; all = all }) others
 
 rows_read : (text front g : List ℕ) (q : QName) (columns : List (List ℕ)) (rows : List ℕ) (more : List Stmt) (rest : List ℕ) → IsLaidOut g (stmt.CopyRows q columns []) (copy_head q columns) → AreRows rows
     → text ≡ front ++ (g ++ ((copy_head q columns ++ (rows ++ (end_mark ++ line_feed ∷ []))) ++ rest)) → ReadsRest text rest more → ReadsAs text (length front) (stmt.CopyRows q columns rows ∷ more)
@@ -335,16 +330,7 @@ rows_read text front g q columns rows more rest l are e later =
     let place : length head + 1 + length rows + 3 ≡ length front' = omega (arith, length-append head (10 ∷ (rows ++ (end_mark ++ line_feed ∷ []))), length-append rows (end_mark ++ line_feed ∷ [])) in
     let found : rows_behind text (collected text (length front)).end ≡ Ok (record { rows = rows; end = length front' }) =
     ap (rows_behind text) k.place ∙ ap (λ (x : List ℕ). rows_behind x (length head)) text_is ∙ rows_read_back head rows rest are ∙ ap (λ n. copied_to rows n) place in
-    record {
-      found = listed (Some s) k.start (length front') others.found;
-      reads = one_read (length front) (Some s) k.start (length front') others.found (record {
-        first = k.first;
-        header = Some (stmt.CopyRows q columns []);
-        spells = k.spells;
-        all = ap (with_rows q columns) found;
-      }) others.reads;
-      same = ap (λ (x : List Stmt). s ∷ x) others.same;
-    }
+    one_as text (length front) s k.start (length front') more (record { first = k.first; header = Some (stmt.CopyRows q columns []); spells = k.spells; all = ap (with_rows q columns) found }) others
 
 line_behind : (text front g : List ℕ) (n : List ℕ) (more : List Stmt) (rest : List ℕ) → Gap g → IsFresh (front ++ g) → IsName n → list_all in_line n ≡ true → text ≡ front ++ (g ++ ((connect_line n ++ 10 ∷ []) ++ rest)) → ReadsRest text rest more → ReadsAs text (length front) (stmt.Connect n ∷ more)
 line_behind text front g n more rest gap fresh is plain e later =
