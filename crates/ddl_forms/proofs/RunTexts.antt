@@ -30,25 +30,28 @@ pub record IsPlainMachine (m : Machine) : Type 0 where
 pub not_some : {A : Type 0} (x : A) (o : Option A) → o ≡ Some x → o ≡ None → ⊥
 not_some x o e f = absurd (cc (e, f))
 
-abbrev bare : TokenKind → List ℕ → Lexeme
+abbrev pub bare : TokenKind → List ℕ → Lexeme
 bare kind word = record { gap = []; kind = kind; word = word; start = 0 }
 
 pub sign_kind : (b : ℕ) (k : TokenKind) → is_sign_kind b k ≡ true → k ≡ Sign b
 sign_kind b (Sign c) e = ap Sign (sym (eqb-true b c e))
 sign_kind b x e = absurd cc
 
--- a machine that goes by kinds and words is plain where it takes neither such token
-pub plain_by : (m : Machine) → ((s : m.State) (gap : List ℕ) (start : ℕ) (t : Lexeme) → m.step s (record { gap = gap; kind = t.kind; word = t.word; start = start }) ≡ m.step s t) → ((s : m.State) (word : List ℕ) → m.step s (record { gap = []; kind = Sign 59; word = word; start = 0 }) ≡ None)
-    → ((s : m.State) (word : List ℕ) → m.step s (record { gap = []; kind = MetaLine; word = word; start = 0 }) ≡ None) → m.done m.start ≡ false → IsPlainMachine m
+-- a step goes by kinds and words, and takes neither a semicolon nor a line that begins with a backslash
+abbrev pub GoesByWords : {S : Type 0} → (Lexeme → Option S) → Type 0
+GoesByWords step =
+    ((gap : List ℕ) (start : ℕ) (t : Lexeme) → step (record { gap = gap; kind = t.kind; word = t.word; start = start }) ≡ step t) × ((word : List ℕ) → (step (bare (Sign 59) word) ≡ None) × (step (bare MetaLine word) ≡ None))
+
+pub plain_by : (m : Machine) → ((s : m.State) → GoesByWords (m.step s)) → m.done m.start ≡ false → IsPlainMachine m
 unfolding is_sign
-plain_by m same sign line begins = record { ends = λ s x t e. ends s x t (is_sign_kind 59 t.kind) refl e; line = λ s x t e is. refused s x t MetaLine is (line s t.word) e; same = same; begins = begins }
+plain_by m goes begins = record { ends = λ s x t e. ends s x t (is_sign_kind 59 t.kind) refl e; line = λ s x t e is. refused s x t MetaLine is ((goes s).1 t.word).1 e; same = λ s. (goes s).0; begins = begins }
   where
     refused : (s x : m.State) (t : Lexeme) (k : TokenKind) → t.kind ≡ k → m.step s (bare k t.word) ≡ None → m.step s t ≡ Some x → ⊥
-    refused s x t k is none e = not_some x (m.step s t) e (sym (same s [] 0 t) ∙ ap (λ (k : TokenKind). m.step s (bare k t.word)) is ∙ none)
+    refused s x t k is none e = not_some x (m.step s t) e (sym ((goes s).0 [] 0 t) ∙ ap (λ (k : TokenKind). m.step s (bare k t.word)) is ∙ none)
 
     ends : (s x : m.State) (t : Lexeme) (b : Bool) → is_sign_kind 59 t.kind ≡ b → m.step s t ≡ Some x → is_sign_kind 59 t.kind ≡ false
     ends s x t false is e = is
-    ends s x t true is e = absurd (refused s x t (Sign 59) (sign_kind 59 t.kind is) (sign s t.word) e)
+    ends s x t true is e = absurd (refused s x t (Sign 59) (sign_kind 59 t.kind is) ((goes s).1 t.word).0 e)
 
 pub run-append : (m : Machine) (s : Option m.State) (a b : List Lexeme) → run m s (a ++ b) ≡ run m (run m s a) b
 run-append m s [] b = refl

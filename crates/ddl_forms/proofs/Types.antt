@@ -24,30 +24,20 @@ use Rattle.ddl_forms.proofs.Closing.{passed}
 use Rattle.ddl_forms.proofs.Kept.{AllCame}
 use Rattle.ddl_forms.proofs.Tokens.{Gap, value_name}
 use Rattle.ddl_parts.proofs.Machines.{run_none}
-use Rattle.ddl_forms.proofs.RunTexts.{IsPlainMachine, plain_by, not_some, kinds, run_read}
+use Rattle.ddl_forms.proofs.RunTexts.{IsPlainMachine, GoesByWords, plain_by, not_some, kinds, run_read}
 use Rattle.ddl_forms.proofs.Putting.{Follows, IsPut, same_text, put_as}
 use Rattle.ddl_forms.proofs.Written.{Written, leaf_as, path_as, run_put}
 
 -- ---- the machine
 
-same_type_step : (s : TypeSpot) (gap : List ℕ) (start : ℕ) (t : Lexeme) → type_step s (record { gap = gap; kind = t.kind; word = t.word; start = start }) ≡ type_step s t
-unfolding type_step is_type_word is_number is_word is_sign name_value
-same_type_step Begin gap start t = refl
-same_type_step x gap start t = refl
-
-semicolon_none : (s : TypeSpot) (word : List ℕ) → type_step s (record { gap = []; kind = Sign 59; word = word; start = 0 }) ≡ None
+typing_goes : (s : TypeSpot) → GoesByWords (type_step s)
 unfolding type_step is_type_word is_number is_word is_sign name_value name_in name_of is_keyword_of
-semicolon_none Begin word = refl
-semicolon_none x word = refl
-
-line_none : (s : TypeSpot) (word : List ℕ) → type_step s (record { gap = []; kind = MetaLine; word = word; start = 0 }) ≡ None
-unfolding type_step is_type_word is_number is_word is_sign name_value name_in name_of is_keyword_of
-line_none Begin word = refl
-line_none x word = refl
+typing_goes Begin = ((λ gap start t. refl), λ word. (refl, refl))
+typing_goes x = ((λ gap start t. refl), λ word. (refl, refl))
 
 typing_plain : IsPlainMachine typing
 unfolding type_done
-typing_plain = plain_by typing same_type_step semicolon_none line_none refl
+typing_plain = plain_by typing typing_goes refl
 
 abbrev name_is : List ℕ → Result (List ℕ) Bool
 name_is n = Ok n

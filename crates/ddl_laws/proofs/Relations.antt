@@ -19,7 +19,7 @@ use Rattle.ddl_read.specs.declared.rests.RestSpot.TheVariants.{Begin, Foreign}
 use Rattle.ddl_read.specs.Rests.{rest_step, rest_done, resting, key_rest, foreign_rest}
 use Rattle.ddl_forms.proofs.Behind.{Words, Safe, admits}
 use Rattle.ddl_forms.proofs.Putting.{joined-append, Follows, IsPut, Yields}
-use Rattle.ddl_forms.proofs.RunTexts.{plain_by, kinds, run_read}
+use Rattle.ddl_forms.proofs.RunTexts.{GoesByWords, plain_by, kinds, run_read}
 use Rattle.ddl_forms.proofs.Tokens.{Gap, none, space, newline, spaced, indented, no_key, value_name}
 use Rattle.ddl_forms.proofs.Written.{Written, opening_as, closing_as, comma_as, name_as, then_as, lead_as, close_as, like_as, shown_as, pieces_as, choose_as, nothing_as, alike_as, either_pieces, run_as, Kinds, leaf_as, is_key, dot_as, equals_as, word_as, mark_as, literal_as, path_as, word_then, end_as, seen_as, heard_as, run_put, kind_as, is_bare_word, word_said, name_said, is_as, path_same, led_as, or_as}
 use Rattle.ddl_laws.specs.Respelling.{IsRunText, IsRest, AreColumns, IsCheck, IsWritable}
@@ -88,20 +88,10 @@ columns_as {g} gap = pieces_as (in_brackets_as gap) (λ ns is. g ∷ listed ns �
 
 -- ---- what follows them
 
-pub same_rest_step : (s : RestSpot) (gap : List ℕ) (start : ℕ) (t : Lexeme) → rest_step s (record { gap = gap; kind = t.kind; word = t.word; start = start }) ≡ rest_step s t
-unfolding rest_step is_word is_sign name_value
-same_rest_step Begin gap start t = refl
-same_rest_step x gap start t = refl
-
-pub semicolon_none : (s : RestSpot) (word : List ℕ) → rest_step s (record { gap = []; kind = Sign 59; word = word; start = 0 }) ≡ None
+pub rest_goes : (s : RestSpot) → GoesByWords (rest_step s)
 unfolding rest_step is_word is_sign is_keyword_of name_value name_in name_of
-semicolon_none Begin word = refl
-semicolon_none x word = refl
-
-pub line_none : (s : RestSpot) (word : List ℕ) → rest_step s (record { gap = []; kind = MetaLine; word = word; start = 0 }) ≡ None
-unfolding rest_step is_word is_sign is_keyword_of name_value name_in name_of
-line_none Begin word = refl
-line_none x word = refl
+rest_goes Begin = ((λ gap start t. refl), λ word. (refl, refl))
+rest_goes x = ((λ gap start t. refl), λ word. (refl, refl))
 
 pub begins : (rest_done Begin ≡ false) × (rest_done Foreign ≡ false)
 unfolding rest_done
@@ -116,13 +106,13 @@ rest_from s [] h = tt
 rest_from s (b ∷ v) (inl is) = is
 rest_from s (b ∷ v) (inr e) = absurd cc
 
-pub rest_same : (s : RestSpot) (start : rest_done s ≡ false) (v : List ℕ) (is : IsRest s v) → joined (either_pieces (run_as (plain_by (resting s) same_rest_step semicolon_none line_none start) space) (nothing_as {test = never} []) v (rest_to s v is)) ≡ joined (rest_text v ∷ [])
+pub rest_same : (s : RestSpot) (start : rest_done s ≡ false) (v : List ℕ) (is : IsRest s v) → joined (either_pieces (run_as (plain_by (resting s) rest_goes start) space) (nothing_as {test = never} []) v (rest_to s v is)) ≡ joined (rest_text v ∷ [])
 rest_same s start [] is = refl
 rest_same s start (b ∷ v) is = refl
 
 -- a run's text behind a space, or nothing
 abbrev pub rest_as : {test : Lexeme → Bool} → (s : RestSpot) → rest_done s ≡ false → Written (choose test (seen source (runs_of (resting s))) (nothing test []))
-rest_as s start = pieces_as (like_as (choose_as (run_as (plain_by (resting s) same_rest_step semicolon_none line_none start) space) (nothing_as [])) (IsRest s) (rest_to s) (rest_from s)) (λ v is. rest_text v ∷ []) (rest_same s start)
+rest_as s start = pieces_as (like_as (choose_as (run_as (plain_by (resting s) rest_goes start) space) (nothing_as [])) (IsRest s) (rest_to s) (rest_from s)) (λ v is. rest_text v ∷ []) (rest_same s start)
 
 unfoldable pub key_rest_as : Written key_rest
 unfolding key_rest
