@@ -88,12 +88,15 @@ bare_word (b ∷ w) e =
     let rest = and_parts _ _ first.1 in
     ((first.0, rest.0), rest.1)
 
+-- a bare word that a token may be, and what that token means
+abbrev pub Says : {A : Type 0} → (Lexeme → Result A Bool) → List ℕ → A → Type 0
+Says value word v = (is_bare_word word ≡ true) × ((t : Lexeme) → t.kind ≡ Word → t.word ≡ word → value t ≡ Ok v)
+
 -- a token that is written as a word, a name or a literal: what it means, and what one that was read is
-abbrev pub word_said : {A : Type 0} → {value : Lexeme → Result A Bool} → {g : List ℕ} → Gap g → (Fit Is : A → Type 0) → (word : (v : A) → Fit v → List ℕ) → ((v : A) (fit : Fit v) → is_bare_word (word v fit) ≡ true) → ((v : A) (fit : Fit v) (t : Lexeme) → t.kind ≡ Word → t.word ≡ word v fit → value t ≡ Ok v)
-    → ((t : Lexeme) (v : A) → value t ≡ Ok v → Is v) → Written (one value)
-word_said {g = g} gap Fit Is word bare means made =
+abbrev pub word_said : {A : Type 0} → {value : Lexeme → Result A Bool} → {g : List ℕ} → Gap g → (Fit Is : A → Type 0) → (word : (v : A) → Fit v → List ℕ) → ((v : A) (fit : Fit v) → Says value (word v fit) v) → ((t : Lexeme) (v : A) → value t ≡ Ok v → Is v) → Written (one value)
+word_said {g = g} gap Fit Is word says made =
     leaf_as Fit Is g word Words
-    (λ v fit others follows e. one_puts Word (word v fit) v others (a_word (word v fit) (spelled others) gap (bare_word (word v fit) (bare v fit)).0 (bare_word (word v fit) (bare v fit)).1 e) refl (means v fit) follows) (λ v ts r came spells. made spells.0 v spells.2)
+    (λ v fit others follows e. let bare = bare_word (word v fit) (says v fit).0 in one_puts Word (word v fit) v others (a_word (word v fit) (spelled others) gap bare.0 bare.1 e) refl (says v fit).1 follows) (λ v ts r came spells. made spells.0 v spells.2)
 
 abbrev pub name_said : {A : Type 0} → {value : Lexeme → Result A Bool} → {g : List ℕ} → Gap g → (Fit Is : A → Type 0) → (name : A → List ℕ) → ((v : A) → Fit v → IsName (name v)) → ((v : A) (fit : Fit v) (t : Lexeme) → t.kind ≡ written_kind (name v) → t.word ≡ written_name (name v) → name_value t ≡ Ok (name v) → value t ≡ Ok v)
     → ((t : Lexeme) (v : A) → value t ≡ Ok v → Is v) → Written (one value)

@@ -21,7 +21,7 @@ use Rattle.ddl_forms.proofs.Behind.{Words, Safe, admits}
 use Rattle.ddl_forms.proofs.Putting.{joined-append, Follows, IsPut, Yields}
 use Rattle.ddl_forms.proofs.RunTexts.{GoesByWords, plain_by, kinds, run_read}
 use Rattle.ddl_forms.proofs.Tokens.{Gap, none, space, newline, spaced, indented, no_key, value_name}
-use Rattle.ddl_forms.proofs.Written.{Written, opening_as, closing_as, comma_as, name_as, then_as, lead_as, close_as, like_as, shown_as, pieces_as, choose_as, nothing_as, alike_as, either_pieces, run_as, Kinds, leaf_as, is_key, dot_as, equals_as, word_as, mark_as, literal_as, path_as, word_then, end_as, seen_as, heard_as, run_put, kind_as, is_bare_word, word_said, name_said, is_as, path_same, led_as, or_as}
+use Rattle.ddl_forms.proofs.Written.{Written, Says, opening_as, closing_as, comma_as, name_as, then_as, lead_as, close_as, like_as, shown_as, pieces_as, choose_as, nothing_as, alike_as, either_pieces, run_as, Kinds, leaf_as, is_key, dot_as, equals_as, word_as, mark_as, literal_as, path_as, word_then, end_as, seen_as, heard_as, run_put, kind_as, is_bare_word, word_said, name_said, is_as, path_same, led_as, or_as}
 use Rattle.ddl_laws.specs.Respelling.{IsRunText, IsRest, AreColumns, IsCheck, IsWritable}
 use Rattle.copy_text.specs.Lines.{before_end_mark}
 use Rattle.copy_text.proofs.LineLemmas.{lines_nil}
@@ -295,10 +295,6 @@ change_is q (Added n (ForeignKey ns parent theirs rest)) named is = (named, is.0
 abbrev pub name_is : List ℕ → Result (List ℕ) Bool
 name_is n = Ok n
 
-pub only_word : is_bare_word (codes "ONLY") ≡ true
-unfolding is_bare_word
-only_word = refl
-
 -- what a token means by its kind and its word
 abbrev pub only_by : TokenKind → List ℕ → Result (List ℕ) Bool
 only_by k w = cond (is_keyword_of k w (codes "only")) (name_in (name_of k w)) (Err false)
@@ -307,13 +303,13 @@ pub only_is_read : only_by Word (codes "ONLY") ≡ Ok (codes "only")
 unfolding is_keyword_of name_in name_of is_utf8 chars encode
 only_is_read = refl
 
-pub only_means : (n : List ℕ) → n ≡ codes "only" → (t : Lexeme) → t.kind ≡ Word → t.word ≡ codes "ONLY" → only_value t ≡ Ok n
-unfolding only_value is_word name_value
-only_means n is t kind word = ap (λ (k : TokenKind). only_by k t.word) kind ∙ ap (only_by Word) word ∙ only_is_read ∙ ap name_is (sym is)
+pub only_says : (n : List ℕ) → n ≡ codes "only" → Says only_value (codes "ONLY") n
+unfolding is_bare_word only_value is_word name_value
+only_says n is = (refl, λ t kind word. ap (λ (k : TokenKind). only_by k t.word) kind ∙ ap (only_by Word) word ∙ only_is_read ∙ ap name_is (sym is))
 
 -- the bare word ONLY
 abbrev pub only_name_as : Written only_name
-only_name_as = word_said space (λ n. n ≡ codes "only") IsName (λ n is. codes "ONLY") (λ n is. only_word) only_means (λ t n e. value_name t n (only_is t n e).1)
+only_name_as = word_said space (λ n. n ≡ codes "only") IsName (λ n is. codes "ONLY") only_says (λ t n e. value_name t n (only_is t n e).1)
 
 pub other_means : (n : List ℕ) → IsName n → (t : Lexeme) → t.kind ≡ written_kind n → t.word ≡ written_name n → name_value t ≡ Ok n → other_value t ≡ Ok n
 unfolding other_value is_reserved

@@ -45,7 +45,7 @@ use Rattle.ddl_forms.proofs.Closing.{Closes, ends_with, ends_append}
 use Rattle.ddl_forms.proofs.Kept.{AllCame, came_front, came_behind}
 use Rattle.ddl_forms.proofs.Putting.{Follows, IsPut, put_as, joined-append}
 use Rattle.ddl_forms.proofs.Tokens.{none, space, name_token, value_name}
-use Rattle.ddl_forms.proofs.Written.{Written, Kinds, given_or, or_given, meets, is_bare_word, word_said, name_said, is_key, comma_as, ending, mark_as, name_as, path_as, then_as, then_puts, lead_as, word_then, end_as, seen_as, is_as, like_as, pieces_as, choose_as, heard_as, also_as, AllFit, items_pieces, many_as, lone_as}
+use Rattle.ddl_forms.proofs.Written.{Written, Kinds, given_or, or_given, meets, is_bare_word, Says, word_said, name_said, is_key, comma_as, ending, mark_as, name_as, path_as, then_as, then_puts, lead_as, word_then, end_as, seen_as, is_as, like_as, pieces_as, choose_as, heard_as, also_as, AllFit, items_pieces, many_as, lone_as}
 use Rattle.ddl_laws.specs.Respelling.{IsWritable}
 
 -- ---- a part whose value decides what stands behind it
@@ -93,18 +93,13 @@ thenby_as {A} {p = p} {f = f} a b opens m e closed closes = record {
 
 -- ---- memberships
 
-pub truth_bare : (b : Bool) → is_bare_word (truth_word b) ≡ true
-unfolding is_bare_word
-truth_bare true = refl
-truth_bare false = refl
-
-pub truth_means : (b : Bool) (u : Unit {0}) (t : Lexeme) → t.kind ≡ Word → t.word ≡ truth_word b → told (truth_first (t ∷ [])) ≡ Ok b
-unfolding truth_first is_word is_keyword_of
-truth_means true u t k w = rw (k, w) refl
-truth_means false u t k w = rw (k, w) refl
+pub truth_says : (b : Bool) (u : Unit {0}) → Says (λ t. told (truth_first (t ∷ []))) (truth_word b) b
+unfolding is_bare_word truth_first is_word is_keyword_of
+truth_says true u = (refl, λ t k w. rw (k, w) refl)
+truth_says false u = (refl, λ t k w. rw (k, w) refl)
 
 abbrev pub truth_as : Written truth
-truth_as = word_said space (λ b. Unit {0}) (λ b. Unit {0}) (λ b u. truth_word b) (λ b u. truth_bare b) truth_means (λ t b e. tt)
+truth_as = word_said space (λ b. Unit {0}) (λ b. Unit {0}) (λ b u. truth_word b) truth_says (λ t b e. tt)
 
 abbrev pub Anyhow : {A : Type 0} → A → Type 0
 Anyhow v = Unit {0}
@@ -192,8 +187,8 @@ told_is (Some u) v e = let same : u ≡ v = cc in ap Some same
 
 unfoldable pub wanted_as : Written wanted
 wanted_as =
-    word_said space (λ w. (o : Option Right) × (wanting o ≡ w)) AreSome (λ w fit. opening_word fit.0) (λ w fit. opening_bare fit.0)
-    (λ w fit t k word. ap told (wanted_says fit.0 t k word ∙ ap Some fit.1)) (λ t w e. wanted_some (t ∷ []) w (told_is (wanted_first (t ∷ [])) w e))
+    word_said space (λ w. (o : Option Right) × (wanting o ≡ w)) AreSome (λ w fit. opening_word fit.0)
+    (λ w fit. (opening_bare fit.0, λ t k word. ap told (wanted_says fit.0 t k word ∙ ap Some fit.1))) (λ t w e. wanted_some (t ∷ []) w (told_is (wanted_first (t ∷ [])) w e))
 
 pub right_says : (x : Right) (t : Lexeme) → t.kind ≡ Word → t.word ≡ written_word x → right_first (t ∷ []) ≡ Some x
 unfolding right_first is_word is_keyword_of
@@ -204,7 +199,7 @@ pub right_means : (s : Rights) (x : Right) → goes_with s x ≡ true → (t : L
 right_means s x goes t k w = ap (λ o. told (joining s o)) (right_says x t k w) ∙ ap (λ (b : Bool). told (cond b (Some x) None)) goes
 
 unfoldable pub more_as : (s : Rights) → Written (comma ▸ right_behind s)
-more_as s = lead_as comma_as (word_said none (λ x. goes_with s x ≡ true) Anyhow (λ x goes. written_word x) (λ x goes. opening_bare (Some x)) (right_means s) (λ t x e. tt)) refl
+more_as s = lead_as comma_as (word_said none (λ x. goes_with s x ≡ true) Anyhow (λ x goes. written_word x) (λ x goes. (opening_bare (Some x), right_means s x goes)) (λ t x e. tt)) refl
 
 pub still_some : (r : Rights) (xs : List Right) → has_rights r ≡ true → has_rights (all_of r xs) ≡ true
 still_some r [] e = e
@@ -222,15 +217,10 @@ kind_written Sequences = codes "SEQUENCE"
 kind_written Schemas = codes "SCHEMA"
 kind_written Types = codes "TYPE"
 
-pub kind_bare : (k : Kind) → is_bare_word (kind_written k) ≡ true
-unfolding is_bare_word
-kind_bare Tables = refl
-kind_bare x = refl
-
-pub kind_means : (w : Wanted) (k : Kind) → kind_has w k ≡ true → (t : Lexeme) → t.kind ≡ Word → t.word ≡ kind_written k → told (having w (kind_first (t ∷ []))) ≡ Ok k
-unfolding kind_first is_word is_keyword_of
-kind_means w Tables has t k word = rw (k, word, has) refl
-kind_means w x has t k word = rw (k, word, has) refl
+pub kind_says : (w : Wanted) (k : Kind) → kind_has w k ≡ true → Says (λ t. told (having w (kind_first (t ∷ [])))) (kind_written k) k
+unfolding is_bare_word kind_first is_word is_keyword_of
+kind_says w Tables has = (refl, λ t k word. rw (k, word, has) refl)
+kind_says w x has = (refl, λ t k word. rw (k, word, has) refl)
 
 pub kind_is : (w : Wanted) (o : Option Kind) (k : Kind) → having w o ≡ Some k → kind_has w k ≡ true
 kind_is w None k e = absurd cc
@@ -241,7 +231,7 @@ kind_is w (Some j) k e = by (kind_has w j) refl e
     by false is f = absurd cc
 
 unfoldable pub kind_with_as : (w : Wanted) → Written (kind_with w)
-kind_with_as w = word_said space (λ k. kind_has w k ≡ true) (λ k. kind_has w k ≡ true) (λ k has. kind_written k) (λ k has. kind_bare k) (kind_means w) (λ t k e. kind_is w (kind_first (t ∷ [])) k (told_is (having w (kind_first (t ∷ []))) k e))
+kind_with_as w = word_said space (λ k. kind_has w k ≡ true) (λ k. kind_has w k ≡ true) (λ k has. kind_written k) (kind_says w) (λ t k e. kind_is w (kind_first (t ∷ [])) k (told_is (having w (kind_first (t ∷ []))) k e))
 
 unfoldable pub object_as : (k : Kind) → Written (object k)
 object_as Tables = seen_as on.Table (path_as space)
@@ -301,16 +291,12 @@ rights_is (These r) x h = h
 
 -- ---- grantees
 
-pub public_bare : is_bare_word (codes "PUBLIC") ≡ true
-unfolding is_bare_word
-public_bare = refl
-
 abbrev pub name_ok : List ℕ → Result (List ℕ) Bool
 name_ok n = Ok n
 
-pub public_means : (n : List ℕ) → n ≡ codes "public" → (t : Lexeme) → t.kind ≡ Word → t.word ≡ codes "PUBLIC" → name_value t ≡ Ok n
-unfolding name_value name_in name_of is_utf8 chars encode
-public_means n is t k w = rw (k, w) (ap name_ok (sym is))
+pub public_says : (n : List ℕ) → n ≡ codes "public" → Says name_value (codes "PUBLIC") n
+unfolding is_bare_word name_value name_in name_of is_utf8 chars encode
+public_says n is = (refl, λ t k w. rw (k, w) (ap name_ok (sym is)))
 
 pub grantee_is : (n : List ℕ) → IsName n → IsGrantee (grantee_of n)
 unfolding grantee_of
@@ -322,7 +308,7 @@ grantee_is n is = by (same_text n (codes "public")) refl
 
 -- a role by its name, and all roles by a word
 abbrev pub either_name : Written name
-either_name = also_as (name_as space) (word_said space (λ n. n ≡ codes "public") IsName (λ n is. codes "PUBLIC") (λ n is. public_bare) public_means value_name)
+either_name = also_as (name_as space) (word_said space (λ n. n ≡ codes "public") IsName (λ n is. codes "PUBLIC") public_says value_name)
 
 unfoldable pub grantee_fit : (who : Grantee) → IsGrantee who → (n : List ℕ) × either_name.Fit n × (grantee_of n ≡ who)
 unfolding grantee_of
@@ -460,7 +446,7 @@ first_made t x e = by (name_value t) refl e
 unfoldable pub first_as : Written first
 first_as =
     also_as (name_said space (λ x. IsName x.0 × (role_wanted x.0 ≡ x.1)) IsFirst (λ x. x.0) (λ x fit. fit.0) role_means first_made)
-    (word_said space (λ x. (o : Option Right) × ((opening_name o, Some (wanting o)) ≡ x)) IsFirst (λ x fit. opening_word fit.0) (λ x fit. opening_bare fit.0) opening_means first_made)
+    (word_said space (λ x. (o : Option Right) × ((opening_name o, Some (wanting o)) ≡ x)) IsFirst (λ x fit. opening_word fit.0) (λ x fit. (opening_bare fit.0, opening_means x fit)) first_made)
 
 pub behind_decided : (n : List ℕ) (o : Option Wanted) → decides Safe End first_as (behind_as n o) ≡ true
 unfolding behind_as first_as rights_and_object_as to_as
