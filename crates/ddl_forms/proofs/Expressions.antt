@@ -1,9 +1,8 @@
 -- The text of an expression, or of a default, is written with the tokens that it has.
-use Rattle.std.proofs.Common.{◌≡◌, ℕ, Bool, true, false, List, [], ◌∷◌, None, refl}
-use Rattle.sql_lex.specs.declared.token.TokenKind.TheVariants.{Sign, MetaLine}
+use Rattle.std.proofs.Common.{ℕ, Bool, true, false, List, [], ◌∷◌, refl}
 use Rattle.ddl_parts.specs.declared.runs.Bracket.{Bracket}
 use Rattle.ddl_parts.specs.declared.runs.Spot.{Spot}
-use Rattle.ddl_parts.specs.Lexemes.{Lexeme, is_sign, is_word}
+use Rattle.ddl_parts.specs.Lexemes.{is_sign, is_word}
 use Rattle.ddl_parts.specs.Expressions.{nested, nest_step, nest_done, ends_run, step_by, expression, default_text}
 use Rattle.ddl_forms.proofs.Tokens.{Gap, space}
 use Rattle.ddl_forms.proofs.RunTexts.{IsPlainMachine, GoesByWords, plain_by}

@@ -2,7 +2,6 @@
 -- a text as a type can be written.
 use Rattle.std.proofs.Common.{◌≡◌, ℕ, Bool, true, false, cond, List, [], ◌∷◌, ◌++◌, append-nil, Option, Some, None, Result, Ok, Err, is_ok, refl, sym, ap, subst, ◌∙◌, option_and_then}
 use Rattle.sql_lex.specs.declared.token.TokenKind.{TokenKind}
-use Rattle.sql_lex.specs.declared.token.TokenKind.TheVariants.{Sign, MetaLine}
 use Rattle.sql_lex.specs.Meaning.{name_of, is_keyword_of}
 use Rattle.copy_text.specs.Texts.{IsName}
 use Rattle.cat_model.specs.declared.object.QName.{QName}

@@ -1,10 +1,10 @@
 -- Owners, checks and changes of domains and sequences, settings and calls, views, indexes, COPY and ALTER TABLE: each part
 -- of their grammar with the text that it is written in.
-use Rattle.std.proofs.Common.{◌≡◌, ℕ, Bool, false, List, [], ◌∷◌, ◌++◌, append_assoc, append-nil, None, refl, ap, ◌∙◌, ◌⊎◌, inl, inr, codes, true, cond, sym, subst, Result, Ok, Err}
+use Rattle.std.proofs.Common.{◌≡◌, ℕ, Bool, false, List, [], ◌∷◌, ◌++◌, append_assoc, append-nil, refl, ap, ◌∙◌, ◌⊎◌, inl, inr, codes, true, cond, sym, subst, Result, Ok, Err}
 use Rattle.std.specs.List.{flat_map, AllByRecursion}
 use Rattle.std.specs.Str.{is_utf8, chars}
 use Rattle.std.proofs.Math.Utf8.{encode}
-use Rattle.sql_lex.specs.declared.token.TokenKind.TheVariants.{Sign, MetaLine, Word}
+use Rattle.sql_lex.specs.declared.token.TokenKind.TheVariants.{Word}
 use Rattle.sql_lex.specs.Meaning.{is_keyword_of, name_of}
 use Rattle.sql_lex.specs.Written.{written_name}
 use Rattle.copy_text.specs.Texts.{IsName}
