@@ -1,0 +1,5 @@
+pub mod Held
+pub mod Holders
+pub mod Stmts
+pub mod Seen
+pub mod Examples
