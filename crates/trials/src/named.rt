@@ -1,6 +1,7 @@
 //! Cases of what a catalogue stands for by names.
 use crate::base::Base;
 use crate::comparing::formed;
+use crate::running::Shown;
 use crate::written::put_written;
 use cat_model::{Key, Value};
 use cat_names::DataSet;
@@ -43,6 +44,28 @@ pub(crate) fn put_entries(
     Ok(())
 }
 
+/// Appends the texts of the keys, in the order of their bytes.
+pub(crate) fn put_keys(
+    alloc: Global,
+    named: &NamedMap,
+    out: &mut Vec<u8>,
+) -> Result<(), AllocError> {
+    let mut texts = Vec::new(alloc);
+    for (key, _) in named.iter() {
+        let mut text = Vec::new(alloc);
+        put_key(alloc, key, &mut text)?;
+        texts.push(text)?;
+    }
+    texts.sort()?;
+    for (i, text) in texts.iter().enumerate() {
+        if i > 0 {
+            out.extend_from_slice(b", ")?;
+        }
+        out.extend_from_slice(text)?;
+    }
+    Ok(())
+}
+
 fn put_checked(
     alloc: Global,
     cat: &WellFormed,
@@ -51,7 +74,7 @@ fn put_checked(
 ) -> Result<(), CheckValuesError> {
     check_values(alloc, cat.rows(), rows)?;
     let named = catalogue_map(alloc, cat.rows(), rows)?;
-    put_written(alloc, &named, cat.rows(), out)?;
+    put_written(alloc, &named, cat.rows(), Shown::Values, out)?;
     Ok(())
 }
 

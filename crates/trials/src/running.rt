@@ -17,13 +17,12 @@ use eng_steps::ApplyError;
 use refusals::write_cause;
 use std::alloc::{AllocError, Global};
 use table_rows::{CheckValuesError, check_values};
-use text_cases::put_key;
 use well_formed::WellFormed;
 
 /// What a case of a script shows.
 #[derive(Clone, Copy, Debug, PartialEq, Eq)]
 pub(crate) enum Shown {
-    /// What each statement answers, and the keys that are there then.
+    /// What each statement answers, and the keys that are there then, once all was written to a folder and read again.
     Keys,
     /// The keys with their values that are there then, once all was written to a folder and read again.
     Values,
@@ -138,24 +137,6 @@ fn put_outcomes(
     Ok(())
 }
 
-// The texts of the keys, in the order of their bytes.
-fn put_keys(alloc: Global, engine: &Engine, out: &mut Vec<u8>) -> Result<(), AllocError> {
-    let mut texts = Vec::new(alloc);
-    for (key, _) in engine.named().iter() {
-        let mut text = Vec::new(alloc);
-        put_key(alloc, key, &mut text)?;
-        texts.push(text)?;
-    }
-    texts.sort()?;
-    for (i, text) in texts.iter().enumerate() {
-        if i > 0 {
-            out.extend_from_slice(b", ")?;
-        }
-        out.extend_from_slice(text)?;
-    }
-    Ok(())
-}
-
 fn put_run(
     alloc: Global,
     engine: &mut Engine,
@@ -166,14 +147,11 @@ fn put_run(
 ) -> Result<(), AllocError> {
     let mut outcomes = Vec::new(alloc);
     put_outcomes(alloc, engine, statements, &mut outcomes)?;
-    match shown {
-        Shown::Keys => {
-            out.extend_from_slice(&outcomes)?;
-            out.extend_from_slice(b"; keys: ")?;
-            put_keys(alloc, engine, out)
-        }
-        Shown::Values => put_written(alloc, engine.named(), opening, out),
+    if shown == Shown::Keys {
+        out.extend_from_slice(&outcomes)?;
+        out.extend_from_slice(b"; keys: ")?;
     }
+    put_written(alloc, engine.named(), opening, shown, out)
 }
 
 fn with_engine(
