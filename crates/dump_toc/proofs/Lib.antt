@@ -1,0 +1,4 @@
+mod Numbered
+mod Placed
+mod Remarks
+mod Standing

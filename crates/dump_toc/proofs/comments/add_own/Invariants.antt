@@ -1,0 +1,7 @@
+-- The comments so far stand behind what was there.
+use Rattle.std.proofs.Common.{◌≡◌, ◌++◌, map, filter_map, take}
+use Rattle.dump_toc.specs.Comments.{own_remark, remark_draft}
+use Rattle.dump_toc.proofs.comments.add_own.Given as goal
+
+abbrev pub invariant-loop-row : goal.invariant-loop-row
+invariant-loop-row l = l.drafts.items ≡ l.fn.drafts.items ++ map (remark_draft l.rows l.object l.place) (filter_map (own_remark l.rows l.object) (map (λ r. r.now) (take l.row-index l.found)))

@@ -1,0 +1,9 @@
+pub mod Owners
+pub mod Tags
+pub mod Drafts
+pub mod Comments
+pub mod Rights
+pub mod Numbers
+pub mod Session
+pub mod Toc
+pub mod Gives
