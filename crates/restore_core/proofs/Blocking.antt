@@ -8,7 +8,8 @@ use Rattle.restore_plan.specs.declared.status.EntryStatus.{EntryStatus}
 use Rattle.restore_plan.specs.declared.status.EntryStatus.TheVariants.{Done, Refused, Skipped}
 use Rattle.restore_plan.specs.declared.status.Note.{Note}
 use Rattle.restore_plan.specs.Entries.{is_among}
-use Rattle.restore_plan.specs.Order.{Planned, before}
+use Rattle.restore_plan.specs.declared.planned.Planned.{Planned}
+use Rattle.restore_plan.specs.Order.{before}
 use Rattle.restore_plan.specs.Serial as serial
 use Rattle.restore_plan.specs.Serial.{blocks, is_blocked, first_blocked}
 use Rattle.cat_model.specs.Marks.{conflict}

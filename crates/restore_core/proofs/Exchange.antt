@@ -10,8 +10,8 @@ use Rattle.cat_model.specs.Trees.{Change, Tree, seen, outcome, next}
 use Rattle.restore_plan.specs.declared.status.EntryStatus.{EntryStatus}
 use Rattle.restore_plan.specs.declared.status.EntryStatus.TheVariants.{Done, Refused, Skipped}
 use Rattle.restore_plan.specs.declared.status.Note.{Note}
-use Rattle.restore_plan.specs.Entries.{Step}
-use Rattle.restore_plan.specs.Order.{Planned}
+use Rattle.restore_plan.specs.declared.step.Step.{Step}
+use Rattle.restore_plan.specs.declared.planned.Planned.{Planned}
 use Rattle.restore_plan.specs.Places.{Given, Stays, AllStay, InPlace, InPlaces}
 use Rattle.restore_plan.specs.Serial.{Under_way, started, noted, ending, one_more, until_refusal, after_steps}
 use Rattle.restore_core.specs.declared.phase.Phase.{Phase}

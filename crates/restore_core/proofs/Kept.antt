@@ -9,8 +9,9 @@ use Rattle.cat_model.specs.Values.{Bytes, Named}
 use Rattle.restore_plan.specs.declared.status.EntryStatus.{EntryStatus}
 use Rattle.restore_plan.specs.declared.status.EntryStatus.TheVariants.{Done, Refused, Skipped}
 use Rattle.restore_plan.specs.declared.status.Note.{Note}
-use Rattle.restore_plan.specs.Order.{Planned, before, clash}
-use Rattle.restore_plan.specs.Entries.{Step as Statement}
+use Rattle.restore_plan.specs.declared.planned.Planned.{Planned}
+use Rattle.restore_plan.specs.Order.{before, clash}
+use Rattle.restore_plan.specs.declared.step.Step.{Step as Statement}
 use Rattle.cat_model.specs.declared.cause.Cause.{Cause}
 use Rattle.restore_plan.specs.Places.{Given, InPlace, InPlaces}
 use Rattle.restore_plan.specs.Serial.{Under_way, first_blocked, after_steps, started}

@@ -5,7 +5,8 @@ use Rattle.std.specs.Prelude.{◌⊎◌}
 use Rattle.std.specs.List.{list_any, list_all, slice_get}
 use Rattle.restore_plan.specs.declared.status.Note.{Note}
 use Rattle.restore_plan.specs.Entries.{is_among}
-use Rattle.restore_plan.specs.Order.{Planned, before, clash}
+use Rattle.restore_plan.specs.declared.planned.Planned.{Planned}
+use Rattle.restore_plan.specs.Order.{before, clash}
 use Rattle.restore_core.specs.declared.phase.Phase.{Phase}
 use Rattle.restore_core.specs.Phases.{is_waiting, is_running, has_ended}
 use Rattle.restore_core.specs.Machine.{Going, all_before_ended, locks_are_free, changed_at}

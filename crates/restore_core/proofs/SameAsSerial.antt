@@ -8,8 +8,8 @@ use Rattle.cat_model.specs.Values.{Bytes, Named}
 use Rattle.restore_plan.specs.declared.status.EntryStatus.{EntryStatus}
 use Rattle.restore_plan.specs.declared.status.EntryStatus.TheVariants.{Done, Refused, Skipped}
 use Rattle.restore_plan.specs.declared.status.Note.{Note}
-use Rattle.restore_plan.specs.Entries.{Step as Statement}
-use Rattle.restore_plan.specs.Order.{Planned}
+use Rattle.restore_plan.specs.declared.step.Step.{Step as Statement}
+use Rattle.restore_plan.specs.declared.planned.Planned.{Planned}
 use Rattle.restore_plan.specs.Serial.{Under_way, started, until_refusal, after_steps, first_blocked, status_of, left_by, Left, Restored, entry_left, with_entry, serial_behind}
 use Rattle.restore_plan.specs.Serial as serial
 use Rattle.restore_core.specs.declared.phase.Phase.{Phase}

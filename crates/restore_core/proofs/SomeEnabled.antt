@@ -2,7 +2,8 @@
 -- waits may begin or be skipped, since all entries before it have ended.
 use Rattle.std.proofs.Common.{◌≡◌, ℕ, zero, suc, Bool, true, false, not, ◌&&◌, ◌||◌, ◌==◌, List, [], ◌∷◌, take, Option, Some, None, is_none, refl, ap, sym, subst, ◌∙◌}
 use Rattle.std.specs.List.{list_any, list_all, slice_get}
-use Rattle.restore_plan.specs.Order.{Planned, before, clash}
+use Rattle.restore_plan.specs.declared.planned.Planned.{Planned}
+use Rattle.restore_plan.specs.Order.{before, clash}
 use Rattle.restore_core.specs.declared.event.Event.{Event}
 use Rattle.restore_core.specs.declared.event.Event.TheVariants.{Start, Skip, Step}
 use Rattle.restore_core.specs.declared.phase.Phase.{Phase}

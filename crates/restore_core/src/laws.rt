@@ -3,8 +3,9 @@ ghost use Rattle.std.specs.Prelude.{◌≡◌, ℕ, ◌<◌, Bool, true, false, 
 ghost use Rattle.std.specs.List.{slice_get};
 ghost use Rattle.cat_model.specs.Values.{Bytes, Named};
 ghost use Rattle.cat_model.specs.Marks.{conflict};
-ghost use Rattle.restore_plan.specs.Entries.{Entry};
-ghost use Rattle.restore_plan.specs.Order.{Planned, plan, clash};
+ghost use Rattle.restore_plan.specs.declared.entry.Entry.{Entry};
+ghost use Rattle.restore_plan.specs.declared.planned.Planned.{Planned};
+ghost use Rattle.restore_plan.specs.Order.{plan, clash};
 ghost use Rattle.restore_plan.specs.Serial.{serial};
 ghost use Rattle.restore_core.specs.InOrder.{in_list_order, AsRecorded};
 ghost use Rattle.restore_core.specs.Machine.{Going, State, first, enabled, IsLegal, after, all_ended, result_of};

@@ -18,8 +18,8 @@ use Rattle.cat_model.specs.Trees.{Change, Tree, refuse, sets, look, scan, Seen, 
 use Rattle.restore_plan.specs.declared.status.EntryStatus.{EntryStatus}
 use Rattle.restore_plan.specs.declared.status.EntryStatus.TheVariants.{Done, Refused, Skipped}
 use Rattle.restore_plan.specs.declared.status.Note.{Note}
-use Rattle.restore_plan.specs.Entries.{Step}
-use Rattle.restore_plan.specs.Order.{Planned}
+use Rattle.restore_plan.specs.declared.step.Step.{Step}
+use Rattle.restore_plan.specs.declared.planned.Planned.{Planned}
 use Rattle.restore_plan.specs.Serial.{Under_way, started, noted, ending, one_more, until_refusal, after_steps, Ended, first_blocked, status_of, entry_left, serial_behind}
 
 abbrev pub Items : Type 0

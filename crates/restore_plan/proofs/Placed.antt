@@ -18,7 +18,8 @@ use Rattle.cat_model.specs.Trees.{same_path, seen}
 use Rattle.cat_model.specs.Marks.{Among, IsWithin}
 use Rattle.cat_model.specs.Effects.{effect}
 use Rattle.cat_model.specs.Footprints.{is_given, parent_reads, reads_of, writes_of, footprint_of}
-use Rattle.restore_plan.specs.Entries.{Step, Entry}
+use Rattle.restore_plan.specs.declared.step.Step.{Step}
+use Rattle.restore_plan.specs.declared.entry.Entry.{Entry}
 use Rattle.restore_plan.specs.Order.{foreign_keys_of, foreign_keys_in, footprint_of_steps, planned, plan_behind}
 use Rattle.restore_plan.specs.Places.{Given, Stays, AllStay, InPlace, InPlaces}
 use Rattle.restore_plan.proofs.Booleans.{or_by_first, or_by_second}

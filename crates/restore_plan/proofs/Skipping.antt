@@ -9,8 +9,10 @@ use Rattle.cat_model.specs.declared.object.QName.{QName}
 use Rattle.cat_model.specs.Values.{Bytes, Named}
 use Rattle.restore_plan.specs.declared.status.EntryStatus.{EntryStatus}
 use Rattle.restore_plan.specs.declared.status.EntryStatus.TheVariants.{Done, Refused, Skipped}
-use Rattle.restore_plan.specs.Entries.{Entry, is_among, waits_for, deps}
-use Rattle.restore_plan.specs.Order.{Planned, foreign_keys_in, planned, plan_behind}
+use Rattle.restore_plan.specs.declared.entry.Entry.{Entry}
+use Rattle.restore_plan.specs.Entries.{is_among, waits_for, deps}
+use Rattle.restore_plan.specs.declared.planned.Planned.{Planned}
+use Rattle.restore_plan.specs.Order.{foreign_keys_in, planned, plan_behind}
 use Rattle.restore_plan.specs.Serial.{Under_way, started, after_steps, blocks, is_blocked, first_blocked, status_of, Left, entry_left, serial_behind}
 use Rattle.restore_plan.specs.Serial as serial
 use Rattle.restore_plan.specs.Chains.{is_skipped, Outcomes, outcomes, IsOne, Leads, to_refused, further, are_distinct, ids_of}

@@ -3,8 +3,9 @@ use Rattle.std.specs.Prelude.{◌≡◌, ℕ, Bool, true, false, ◌&&◌, ◌�
 use Rattle.cat_model.specs.declared.cause.Cause.{Cause}
 use Rattle.restore_plan.specs.declared.status.EntryStatus.{EntryStatus}
 use Rattle.restore_plan.specs.declared.status.EntryStatus.TheVariants.{Done, Refused, Skipped}
-use Rattle.restore_plan.specs.Entries.{Entry, is_among}
-use Rattle.restore_plan.specs.Order.{Planned}
+use Rattle.restore_plan.specs.declared.entry.Entry.{Entry}
+use Rattle.restore_plan.specs.Entries.{is_among}
+use Rattle.restore_plan.specs.declared.planned.Planned.{Planned}
 
 abbrev pub is_skipped : EntryStatus → Bool
 is_skipped (Skipped by) = true

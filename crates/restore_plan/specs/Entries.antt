@@ -1,24 +1,11 @@
--- An entry of an archive as a restore sees it, and what an entry depends on: its listed dependencies that stand
+-- What an entry of an archive depends on in a list: its listed dependencies that stand
 -- earlier in the list, where an entry of the section post-data waits for a table's rows in the table's place.
-use Rattle.std.specs.Prelude.{ℕ, ◌==◌, Bool, true, false, ◌&&◌, List, [], ◌∷◌, ◌++◌, map, Option, Some, None, if◌then◌else◌}
+use Rattle.std.specs.Prelude.{ℕ, ◌==◌, Bool, true, false, ◌&&◌, List, [], ◌∷◌, map, if◌then◌else◌}
 use Rattle.std.specs.List.{list_any, filter}
-use Rattle.cat_model.specs.declared.stmt.Stmt.{Stmt}
 use Rattle.restore_plan.specs.declared.kind.Kind.{Kind}
 use Rattle.restore_plan.specs.declared.kind.Kind.TheVariants as kind
-
--- a statement of an entry, and whether it is the entry's owner statement
-pub record Step : Type 0 where
-  pub statement : Stmt
-  pub is_owner : Bool
-
--- An entry: its dump id, whether its section is post-data, its kind, the dump ids that it lists as its dependencies,
--- and its statements in order.
-pub record Entry : Type 0 where
-  pub id : ℕ
-  pub post_data : Bool
-  pub kind : Kind
-  pub listed : List ℕ
-  pub steps : List Step
+use Rattle.restore_plan.specs.declared.step.Step.{Step}
+use Rattle.restore_plan.specs.declared.entry.Entry.{Entry}
 
 -- entries lock TABLE and TABLE DATA
 abbrev pub is_locked : Kind → Bool

@@ -11,7 +11,8 @@ use Rattle.cat_model.specs.declared.value.Value.TheVariants as value
 use Rattle.cat_model.specs.Values.{Bytes, Named}
 use Rattle.restore_plan.specs.declared.kind.Kind.{Kind}
 use Rattle.restore_plan.specs.declared.kind.Kind.TheVariants as kind
-use Rattle.restore_plan.specs.Entries.{Step, Entry}
+use Rattle.restore_plan.specs.declared.step.Step.{Step}
+use Rattle.restore_plan.specs.declared.entry.Entry.{Entry}
 
 -- an opening with the schema public and nothing else
 abbrev pub with_public : Named

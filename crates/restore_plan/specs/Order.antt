@@ -1,6 +1,6 @@
 -- What has to end before an entry may start: earlier entries that it depends on or whose footprint conflicts with
 -- its own. An entry's footprint is the union of those of its statements.
-use Rattle.std.specs.Prelude.{ℕ, Bool, ◌||◌, List, [], ◌∷◌, ◌++◌, Option, Some, None}
+use Rattle.std.specs.Prelude.{Bool, ◌||◌, List, [], ◌∷◌, ◌++◌, Option, Some, None}
 use Rattle.std.specs.List.{list_any, flat_map, filter_map}
 use Rattle.std.specs.FinMap.{entries}
 use Rattle.cat_model.specs.declared.object.QName.{QName}
@@ -11,11 +11,13 @@ use Rattle.cat_model.specs.declared.stmt.Stmt.{Stmt}
 use Rattle.cat_model.specs.declared.stmt.Stmt.TheVariants as stmt
 use Rattle.cat_model.specs.declared.value.Value.TheVariants as value
 use Rattle.cat_model.specs.declared.value.Value.{Value}
-use Rattle.cat_model.specs.declared.value.Constraint.{Constraint}
 use Rattle.cat_model.specs.Values.{Bytes, Named}
 use Rattle.cat_model.specs.Footprints.{reads_of, writes_of}
 use Rattle.cat_model.specs.Marks.{conflict}
-use Rattle.restore_plan.specs.Entries.{Step, Entry, deps, locks, is_among}
+use Rattle.restore_plan.specs.declared.step.Step.{Step}
+use Rattle.restore_plan.specs.declared.entry.Entry.{Entry}
+use Rattle.restore_plan.specs.Entries.{deps, locks, is_among}
+use Rattle.restore_plan.specs.declared.planned.Planned.{Planned}
 
 -- ---- foreign keys, as pairs of a table and its parent
 
@@ -48,14 +50,7 @@ footprint_of_steps parents steps =
 
 -- ---- the plan
 
--- An entry in its place in a list: what it depends on, what it locks, what it reads and writes, and its statements.
-pub record Planned : Type 0 where
-  pub id : ℕ
-  pub deps : List ℕ
-  pub locks : List ℕ
-  pub footprint : Footprint
-  pub steps : List Step
-
+-- an entry in its place in a list: what it depends on, what it locks, what it reads and writes, and its statements
 abbrev pub planned : List (QName × QName) → List Entry → Entry → Planned
 planned parents earlier e =
     record { id = e.id; deps = deps earlier e; locks = locks earlier e; footprint = footprint_of_steps parents e.steps; steps = e.steps }

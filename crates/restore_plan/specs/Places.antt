@@ -13,8 +13,8 @@ use Rattle.cat_model.specs.Effects.{effect}
 use Rattle.cat_model.specs.Footprints.{is_given}
 use Rattle.cat_model.specs.Marks.{IsWithin}
 use Rattle.cat_model.specs.Trees.{seen, next}
-use Rattle.restore_plan.specs.Entries.{Step}
-use Rattle.restore_plan.specs.Order.{Planned}
+use Rattle.restore_plan.specs.declared.step.Step.{Step}
+use Rattle.restore_plan.specs.declared.planned.Planned.{Planned}
 
 -- each foreign key of the catalogue is among the pairs of a table and its parent
 abbrev pub Given : List (QName × QName) → Named → Type 0

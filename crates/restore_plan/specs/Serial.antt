@@ -9,8 +9,8 @@ use Rattle.cat_model.specs.Trees.{Change, seen, outcome, next, run}
 use Rattle.restore_plan.specs.declared.status.EntryStatus.{EntryStatus}
 use Rattle.restore_plan.specs.declared.status.EntryStatus.TheVariants.{Done, Refused, Skipped}
 use Rattle.restore_plan.specs.declared.status.Note.{Note}
-use Rattle.restore_plan.specs.Entries.{Step}
-use Rattle.restore_plan.specs.Order.{Planned}
+use Rattle.restore_plan.specs.declared.step.Step.{Step}
+use Rattle.restore_plan.specs.declared.planned.Planned.{Planned}
 
 -- ---- the statements of one entry
 

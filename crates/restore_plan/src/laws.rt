@@ -2,8 +2,9 @@
 ghost use Rattle.std.specs.Prelude.{◌≡◌, true, List, [], ◌∷◌, map};
 ghost use Rattle.cat_model.specs.Values.{Bytes, Named};
 ghost use Rattle.restore_plan.specs.Chains.{are_distinct, ids_of, is_skipped, outcomes, IsOne, Leads};
-ghost use Rattle.restore_plan.specs.Entries.{Entry};
-ghost use Rattle.restore_plan.specs.Order.{Planned, foreign_keys, plan};
+ghost use Rattle.restore_plan.specs.declared.entry.Entry.{Entry};
+ghost use Rattle.restore_plan.specs.declared.planned.Planned.{Planned};
+ghost use Rattle.restore_plan.specs.Order.{foreign_keys, plan};
 ghost use Rattle.restore_plan.specs.Places.{Given, InPlaces};
 ghost use Rattle.restore_plan.specs.Serial.{serial};
 ghost use Rattle.restore_plan.specs.declared.status.EntryStatus.{EntryStatus};

@@ -1,7 +1,7 @@
 -- Any schedule gives the serial result, and that is computed.
 use Rattle.std.proofs.Common.{◌≡◌, true, List, ap, ◌∙◌}
 use Rattle.restore_plan.specs.declared.status.EntryStatus.{EntryStatus}
-use Rattle.restore_plan.specs.Entries.{Entry}
+use Rattle.restore_plan.specs.declared.entry.Entry.{Entry}
 use Rattle.restore_plan.specs.Examples.{with_public, postgres, two_schemas, parents_first, children_first, equal_parents}
 use Rattle.restore_plan.specs.Order.{plan}
 use Rattle.restore_plan.specs.Serial.{Restored, serial}

@@ -3,8 +3,9 @@
 use Rattle.std.proofs.Common.{◌≡◌, true, List, [], map, ap, ◌∙◌}
 use Rattle.std.specs.List.{filter_map, flat_map}
 use Rattle.cat_model.specs.Values.{Bytes, Named}
-use Rattle.restore_plan.specs.Entries.{Entry}
-use Rattle.restore_plan.specs.Order.{Planned, foreign_keys, plan}
+use Rattle.restore_plan.specs.declared.entry.Entry.{Entry}
+use Rattle.restore_plan.specs.declared.planned.Planned.{Planned}
+use Rattle.restore_plan.specs.Order.{foreign_keys, plan}
 use Rattle.restore_plan.specs.Places.{Given, InPlaces}
 use Rattle.restore_plan.specs.Serial.{Restored, serial, serial_behind}
 use Rattle.restore_core.specs.declared.event.Event.{Event}

@@ -1,7 +1,7 @@
 -- By the events one after another: each keeps that the catalogue is what the entries have run in the order of the list.
 use Rattle.std.proofs.Common.{◌≡◌, List}
 use Rattle.cat_model.specs.Values.{Bytes, Named}
-use Rattle.restore_plan.specs.Entries.{Entry}
+use Rattle.restore_plan.specs.declared.entry.Entry.{Entry}
 use Rattle.restore_plan.specs.Order.{foreign_keys, plan}
 use Rattle.restore_plan.specs.Places.{Given, InPlaces}
 use Rattle.restore_core.specs.declared.event.Event.{Event}

@@ -4,7 +4,8 @@ use Rattle.std.specs.List.{slice_get}
 use Rattle.cat_model.specs.Marks.{conflict}
 use Rattle.cat_model.specs.Values.{Bytes, Named}
 use Rattle.restore_plan.specs.Entries.{is_among}
-use Rattle.restore_plan.specs.Order.{Planned, before, clash}
+use Rattle.restore_plan.specs.declared.planned.Planned.{Planned}
+use Rattle.restore_plan.specs.Order.{before, clash}
 use Rattle.restore_core.specs.declared.event.Event.{Event}
 use Rattle.restore_core.specs.declared.phase.Phase.{Phase}
 use Rattle.restore_core.specs.declared.phase.Phase.TheVariants.{Waiting, Running, Ended}

@@ -13,7 +13,7 @@ use Rattle.cat_model.specs.Keys.{key_cmp}
 use Rattle.cat_model.specs.declared.value.Value.TheVariants as value
 use Rattle.restore_plan.specs.declared.status.EntryStatus.TheVariants.{Done, Refused, Skipped}
 use Rattle.cat_model.specs.declared.cause.Cause.TheVariants as cause
-use Rattle.restore_plan.specs.Entries.{Entry}
+use Rattle.restore_plan.specs.declared.entry.Entry.{Entry}
 use Rattle.restore_plan.specs.Examples.{with_public, postgres, parents_first, children_first, equal_parents}
 use Rattle.restore_plan.specs.Order.{plan}
 use Rattle.restore_plan.specs.Serial.{serial}
