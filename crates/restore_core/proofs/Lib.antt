@@ -7,3 +7,5 @@ pub mod SameAsSerial
 pub mod SomeEnabled
 pub mod Symmetric
 pub mod Booleans
+pub mod ListMachine
+pub mod Computed

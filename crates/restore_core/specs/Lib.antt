@@ -1,3 +1,4 @@
+pub mod Examples
 pub mod InOrder
 pub mod Machine
 pub mod Phases

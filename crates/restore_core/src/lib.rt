@@ -7,7 +7,7 @@ mod laws;
 mod phase;
 
 pub use event::Event;
-pub use examples::same_in_every_schedule;
+pub use examples::{same_in_every_schedule, the_second_waits, two_workers_overlap};
 pub use laws::{
     any_schedule_is_serial, history_is_in_list_order, running_entries_are_apart,
     some_event_is_enabled,

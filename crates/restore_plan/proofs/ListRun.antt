@@ -115,7 +115,7 @@ way_parts a b r s w id is_owner e g =
     let made : Items → Result (List Change) Cause → Way = λ x y. record { items = x; run = w.run + 1; notes = w.notes ++ noted id is_owner y; refused = ending is_owner y } in
     ap (λ (x : Items). made x r) e ∙ ap (made b) g
 
-until-in : (boot : Bytes) (id : ℕ) (w : Under_way) (r : Option Cause) (s : Step) → of_way (until_refusal boot id w r s) ≡ until_in boot id (of_way w) r s
+pub until-in : (boot : Bytes) (id : ℕ) (w : Under_way) (r : Option Cause) (s : Step) → of_way (until_refusal boot id w r s) ≡ until_in boot id (of_way w) r s
 until-in boot id w None s =
     let t = effect boot s.statement in
     way_parts (entries (next t w.catalogue)) (after_in (outcome t (seen_in (entries w.catalogue))) (entries w.catalogue)) (outcome t (seen w.catalogue)) (outcome t (seen_in (entries w.catalogue))) w id s.is_owner (next-in t w.catalogue) (outcome-in t w.catalogue)
@@ -160,3 +160,27 @@ statuses-in boot (p ∷ ps) ended n =
     let e = entry_left boot p n by in
     ap (λ (ss : List EntryStatus). e.status ∷ ss) (statuses-in boot ps (ended ++ (p.id, e.status) ∷ []) e.catalogue)
     ∙ ap (λ (l : Items × EntryStatus). l.1 ∷ statuses_in boot (ended ++ (p.id, l.1) ∷ []) l.0 ps) (left-in boot p n by)
+
+-- the notes that an entry leaves
+abbrev pub notes_left_in : Bytes → Planned → Items → Option ℕ → List Note
+notes_left_in boot p es (Some by) = []
+notes_left_in boot p es None = (steps_in boot p.id p.steps (record { items = es; run = 0; notes = []; refused = None })).notes
+
+abbrev pub notes_in : Bytes → Ended → Items → List Planned → List Note
+notes_in boot ended es [] = []
+notes_in boot ended es (p ∷ ps) =
+    let l = left_in boot p es (first_blocked ended p.deps) in
+    notes_left_in boot p es (first_blocked ended p.deps) ++ notes_in boot (ended ++ (p.id, l.1) ∷ []) l.0 ps
+
+notes_left-in : (boot : Bytes) (p : Planned) (n : Named) (by : Option ℕ) → (entry_left boot p n by).notes ≡ notes_left_in boot p (entries n) by
+notes_left-in boot p n (Some by) = refl
+notes_left-in boot p n None = ap (λ (v : Way). v.notes) (steps-in boot p.id p.steps (started n))
+
+pub notes-in : (boot : Bytes) (ps : List Planned) (ended : Ended) (n : Named) → (serial_behind boot ended n ps).notes ≡ notes_in boot ended (entries n) ps
+notes-in boot [] ended n = refl
+notes-in boot (p ∷ ps) ended n =
+    let by = first_blocked ended p.deps in
+    let e = entry_left boot p n by in
+    ap (λ (ns : List Note). e.notes ++ ns) (notes-in boot ps (ended ++ (p.id, e.status) ∷ []) e.catalogue)
+    ∙ ap (λ (l : Items × EntryStatus). e.notes ++ notes_in boot (ended ++ (p.id, l.1) ∷ []) l.0 ps) (left-in boot p n by)
+    ∙ ap (λ (ns : List Note). ns ++ notes_in boot (ended ++ (p.id, (left_in boot p (entries n) by).1) ∷ []) (left_in boot p (entries n) by).0 ps) (notes_left-in boot p n by)

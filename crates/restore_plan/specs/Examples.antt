@@ -2,6 +2,7 @@
 use Rattle.std.specs.Prelude.{ℕ, Bool, true, false, List, [], ◌∷◌, Option, Some, None, codes}
 use Rattle.std.specs.FinMap.{from_sorted}
 use Rattle.cat_model.specs.declared.object.QName.{QName}
+use Rattle.cat_model.specs.declared.grant.Owned.TheVariants as owned
 use Rattle.cat_model.specs.declared.key.Key.TheVariants as key
 use Rattle.cat_model.specs.declared.stmt.Stmt.{Stmt}
 use Rattle.cat_model.specs.declared.stmt.Stmt.TheVariants as stmt
@@ -70,3 +71,43 @@ children_first = table_c ∷ table_p ∷ primary_key ∷ foreign_key ∷ rows_of
 -- two rows of p have one key, and the rows come before the keys
 abbrev pub equal_parents : List Entry
 equal_parents = table_c ∷ table_p ∷ rows_of_c ∷ rows_of_p (codes "1\n1\n") ∷ primary_key ∷ foreign_key ∷ []
+
+-- the rows of p come before an entry that locks p, which itself isn't in the list
+abbrev pub table_left_out : List Entry
+table_left_out = rows_of_p (codes "1\n") ∷ primary_key ∷ []
+
+-- ---- what depends on p behind the rows of p: a view, which is no post-data, an index, and two checks
+
+abbrev pub view : Entry
+view = pre_data 12 kind.Other (7 ∷ []) (stmt.CreateView (path (codes "v")) (codes "SELECT p.id FROM public.p"))
+
+abbrev pub index : Entry
+index = post_data 13 kind.Index (7 ∷ []) (stmt.CreateIndex (path (codes "p")) (codes "p_i") (codes "btree") (codes "(id)"))
+
+abbrev pub check : ℕ → Bytes → Entry
+check id name = post_data id kind.Other (7 ∷ 20 ∷ []) (stmt.AddCheck (path (codes "p")) name (codes "(id > 0)"))
+
+abbrev pub behind_rows : List Entry
+behind_rows = table_p ∷ rows_of_p (codes "1\n") ∷ view ∷ index ∷ check 14 (codes "p_a") ∷ check 15 (codes "p_b") ∷ []
+
+-- ---- an owner that isn't there: two schemas in one entry, with the owner statement of the first between them, and an
+-- entry that depends on it and makes the second schema again
+
+abbrev pub two_made : Entry
+two_made = record {
+  id = 5;
+  post_data = false;
+  kind = kind.Other;
+  listed = [];
+  steps =
+      record { statement = stmt.CreateSchema (codes "a"); is_owner = false }
+      ∷ record { statement = stmt.OwnerTo (owned.Schema (codes "a")) (codes "alice"); is_owner = true }
+      ∷ record { statement = stmt.CreateSchema (codes "b"); is_owner = false } ∷ [];
+}
+
+abbrev pub owner_missing : List Entry
+owner_missing = two_made ∷ pre_data 6 kind.Other (5 ∷ []) (stmt.CreateSchema (codes "b")) ∷ []
+
+-- the same statement where it isn't the entry's owner statement
+abbrev pub no_owner_statement : List Entry
+no_owner_statement = pre_data 5 kind.Other [] (stmt.OwnerTo (owned.Schema (codes "public")) (codes "alice")) ∷ pre_data 6 kind.Other (5 ∷ []) (stmt.CreateSchema (codes "b")) ∷ []

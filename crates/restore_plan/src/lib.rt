@@ -10,7 +10,10 @@ mod status;
 mod step;
 
 pub use entry::Entry;
-pub use examples::{one_schema_twice, parents_and_children};
+pub use examples::{
+    constraints_lock_tables, one_schema_twice, owners_are_notes, parents_and_children,
+    rows_stand_for_tables,
+};
 pub use kind::Kind;
 pub use laws::{chains_skip, plans_stay_in_places};
 pub use planned::Planned;
