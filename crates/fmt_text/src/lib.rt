@@ -10,4 +10,5 @@ mod script;
 
 pub use laws::worked_examples;
 pub use options::Options;
+pub use owner::{owned_object, owner_of};
 pub use script::script_text;

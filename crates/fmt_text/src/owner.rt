@@ -64,6 +64,13 @@ fn name_of(alloc: Global, text: Option<&Text>) -> Result<Option<Name>, AllocErro
     }
 }
 
+/// The role that an entry tells as its owner, where that is a name.
+pub fn owner_of(alloc: Global, entry: &Entry) -> Result<Option<Name>, AllocError>
+    ensures { IfOk result (λ role. role ≡ option_and_then name_in entry.now.owner) }
+{
+    name_of(alloc, entry.owner.as_ref())
+}
+
 /// The path of an object in a schema, if its names are names.
 #[tactic(auto, unfolding(crate::specs::Owners::path_of))]
 fn path_of(alloc: Global, entry: &Entry) -> Result<Option<QName>, AllocError>
@@ -92,9 +99,9 @@ fn object_of(alloc: Global, entry: &Entry, kind: OwnedKind) -> Result<Option<Own
     }
 }
 
-/// The object that an entry gives an owner.
+/// The object that an entry gives an owner: that of an entry of six kinds, whose names are names.
 #[tactic(auto, unfolding(crate::specs::Owners::owned_object))]
-fn owned_object(alloc: Global, entry: &Entry) -> Result<Option<Owned>, AllocError>
+pub fn owned_object(alloc: Global, entry: &Entry) -> Result<Option<Owned>, AllocError>
     ensures { IfOk result (λ object. object ≡ owned_object entry.now) }
 {
     match OwnedKind::of(entry.desc.as_bytes()) {
@@ -135,7 +142,7 @@ pub fn put_owner(
     let Some(object) = owned_object(alloc, entry)? else {
         return Ok(());
     };
-    let Some(role) = name_of(alloc, entry.owner.as_ref())? else {
+    let Some(role) = owner_of(alloc, entry)? else {
         return Ok(());
     };
     put_owner_to(object, role, out)?;
