@@ -8,4 +8,4 @@ mod Rights
 mod Sequences
 mod Whole
 pub mod ReadingLaws
-mod Respelled
+pub mod Respelled

@@ -445,6 +445,10 @@ all_writable text _ _ le (one_read at s start end more is others) =
 all_writable text _ _ le (line_read at s start end more is others) =
     one_more start end more s (line_done text at start end s le is) (all_writable text end more (line_past text at start end le is.next).1 others)
 
+-- what was read of a text can be written
+pub read_writable : (text : List ℕ) (found : List Located) → statements_of text ≡ Ok found → AllWritable (said found)
+read_writable text statements e = all_writable text 0 statements (omega arith) (found text statements e)
+
 all_spelled : (statements : List Stmt) → AllWritable statements → (text : List ℕ) × (spellings statements ≡ Some text)
 all_spelled [] all = ([], refl)
 all_spelled (s ∷ more) all =
@@ -455,6 +459,6 @@ all_spelled (s ∷ more) all =
 pub read_again : (text : List ℕ) (statements : List Located) → statements_of text ≡ Ok statements
     → (again : List ℕ) × (spellings (said statements) ≡ Some again) × ((same : List Located) × (statements_of again ≡ Ok same) × (said same ≡ said statements))
 read_again text statements e =
-    let all = all_writable text 0 statements (omega arith) (found text statements e) in
+    let all = read_writable text statements e in
     let s = all_spelled (said statements) all in
     (s.0, s.1, joined_read (said statements) s.0 all s.1)

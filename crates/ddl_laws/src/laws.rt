@@ -85,3 +85,8 @@ pub fn statements_that_were_read_are_read_again()
         → (again : List ℕ) × (spellings (said statements) ≡ Some again)
         × ((same : List Located) × (statements_of again ≡ Ok same) × (said same ≡ said statements)) }
 {}
+
+/// And each of them is made of what it should be: names are names, and its texts are what the grammar writes.
+pub fn statements_that_were_read_can_be_written()
+    ensures { (text : List ℕ) (statements : List Located) → statements_of text ≡ Ok statements → AllWritable (said statements) }
+{}

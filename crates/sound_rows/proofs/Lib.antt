@@ -1,0 +1,4 @@
+pub mod Among
+pub mod Roles
+pub mod Paths
+pub mod Grants
