@@ -1,0 +1,12 @@
+pub mod Ties
+pub mod Rows
+pub mod Entries
+pub mod RightLists
+pub mod Acls
+pub mod Owned
+pub mod Roles
+pub mod Members
+pub mod Databases
+pub mod Schemas
+pub mod Cluster
+pub mod Small
