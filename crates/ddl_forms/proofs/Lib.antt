@@ -2,6 +2,7 @@ pub mod Closing
 pub mod Standing
 pub mod Behind
 pub mod Kept
+pub mod Passed
 pub mod Tokens
 pub mod RunTexts
 pub mod Putting

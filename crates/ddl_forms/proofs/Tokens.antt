@@ -1,5 +1,5 @@
 -- The tokens of which written statements are made, and that each stands wherever it is put.
-use Rattle.std.proofs.Common.{◌≡◌, ◌≢◌, ℕ, ◌+◌, ◌<◌, Bool, true, false, not, cond, ◌&&◌, List, [], ◌∷◌, ◌++◌, length, Option, Some, None, Result, Ok, Err, ◌||◌, ◌⊎◌, refl, sym, ap, subst, ◌∙◌, arith, inl, inr}
+use Rattle.std.proofs.Common.{◌≡◌, ◌≢◌, ℕ, ◌+◌, Bool, true, false, not, cond, ◌&&◌, List, [], ◌∷◌, ◌++◌, length, Option, Some, None, Result, Ok, Err, ◌||◌, ◌⊎◌, refl, sym, ap, subst, ◌∙◌, arith, inl, inr}
 use Rattle.std.specs.Prelude.{◌==◌, nat_lt, All}
 use Rattle.std.specs.List.{list_all, list_any, AllByRecursion as ByRecursion}
 use Rattle.std.specs.Str.{is_utf8, IsUtf8, chars, str_to_ascii_lowercase, str_eq_ignore_ascii_case}
@@ -12,20 +12,20 @@ use Rattle.std.proofs.lemmas.Str.{is_utf8-from_IsUtf8, IsUtf8-from_is_utf8}
 use Rattle.sql_lex.specs.declared.token.TokenKind.{TokenKind}
 use Rattle.sql_lex.specs.declared.token.TokenKind.TheVariants.{Word, QuotedName, Literal, Sign}
 use Rattle.sql_lex.specs.Bytes.{is_blank, is_digit, begins_word, in_word, is_sign, next_is}
-use Rattle.sql_lex.specs.Next.{next_token_of}
 use Rattle.sql_lex.specs.Spelling.{IsWord, goes_on}
 use Rattle.sql_lex.specs.Meaning.{name_of, literal_of, is_keyword_of}
 use Rattle.sql_lex.specs.Reserved.{is_reserved}
 use Rattle.sql_lex.specs.Written.{begins_bare, in_bare, is_bare, quoted, written_name, written_literal}
 use Rattle.sql_lex.specs.ReadBack.{IsTokenAt, written_kind}
 use Rattle.sql_lex.proofs.PieceLaws.{word_free}
-use Rattle.sql_lex.proofs.WriteLaws.{spelling_is_read, gap_is_passed, name_is_read, literal_is_read}
+use Rattle.sql_lex.proofs.WriteLaws.{spelling_is_read, name_is_read, literal_is_read}
 use Rattle.copy_text.specs.Texts.{IsName}
 use Rattle.ddl_parts.specs.Lexemes.{Lexeme, is_word, is_sign_kind}
 use Rattle.ddl_parts.specs.Leaves.{name_in, name_value, text_in, literal_value}
 use Rattle.ddl_forms.proofs.Standing.{is_safe, GapStands, Stands}
 use Rattle.ddl_forms.proofs.Behind.{Words, parts_words, admits}
 use Rattle.ddl_forms.proofs.Kept.{Begun, begun_some, safe_ends}
+use Rattle.ddl_forms.proofs.Passed.{Passed, nothing_passed, blanks_passed}
 use Rattle.ddl_parts.proofs.Telling.{and_false}
 
 -- ---- the tokens
@@ -95,23 +95,17 @@ pub data Gap : List ℕ → Type 0 where
   spaced : Gap (10 ∷ 32 ∷ [])
   indented : Gap indent
   tabbed : Gap (10 ∷ 9 ∷ [])
+  passed : (g : List ℕ) → Passed g → Gap g
 
--- it is empty or white space
-pub white : (g : List ℕ) → Gap g → ([] ≡ g) ⊎ ((0 < length g) × (list_all is_blank g ≡ true) × (is_utf8 g ≡ true))
-unfolding is_blank is_utf8 chars encode
-white _ none = inl refl
-white _ x = inr (omega arith, refl, refl)
+-- it is passed over
+pub passes : (g : List ℕ) → Gap g → Passed g
+unfolding is_blank
+passes _ none = nothing_passed
+passes _ (passed g is) = is
+passes g other = blanks_passed g (omega arith) refl
 
 pub gap_stands : (g word rest : List ℕ) → Gap g → Begun word → GapStands g (word ++ rest)
-unfolding next_is
-gap_stands g [] rest gap h front after safe = absurd h
-gap_stands g (b ∷ word) rest gap h front after safe =
-    let text = b ∷ ((word ++ rest) ++ after) in
-    let here : next_token_of (front ++ text) (length front) ≡ next_token_of (front ++ text) (length front + 0) = ap (next_token_of (front ++ text)) (omega arith) in
-    elim (white g gap) [
-      | inl e ↦ subst (λ (x : List ℕ). next_token_of (front ++ (x ++ text)) (length front) ≡ next_token_of (front ++ (x ++ text)) (length front + length x)) e here
-      | inr w ↦ gap_is_passed front g text (inl ((w.0, w.1), h)) w.2
-    ]
+gap_stands g word rest gap begun front after safe = passes g gap front ((word ++ rest) ++ after)
 
 pub word_begun : (w : List ℕ) → IsWord w → Begun w
 word_begun [] h = absurd h

@@ -16,7 +16,7 @@ use Rattle.sql_lex.specs.Spelling.{IsMetaLine, goes_on}
 use Rattle.sql_lex.specs.Reserved.{is_reserved}
 use Rattle.sql_lex.specs.ReadBack.{token_at, written_kind}
 use Rattle.sql_lex.proofs.Passing.{next_at_end}
-use Rattle.sql_lex.proofs.WriteLaws.{spelling_is_read, gap_is_passed}
+use Rattle.sql_lex.proofs.WriteLaws.{spelling_is_read}
 use Rattle.ddl_parts.specs.declared.pieces.Piece.{Piece}
 use Rattle.ddl_parts.specs.Lexemes.{is_sign_kind, Lexeme, spelled, is_sign, start_of}
 use Rattle.ddl_parts.specs.Leaves.{name_value}
@@ -25,7 +25,8 @@ use Rattle.ddl_parts.specs.Collecting.{Collected, collected, collected_within, c
 use Rattle.ddl_laws.specs.Readings.{IsLine, IsStatement, Reads, all_read, one_read, line_read, line_token}
 use Rattle.ddl_laws.proofs.ReadingLaws.{collected_first, statement_closes, only, found, ends_past, line_past}
 use Rattle.ddl_laws.proofs.Paths.{name_utf8}
-use Rattle.ddl_forms.proofs.Tokens.{a_name, Gap, white, space, gap_stands, name_no_sign, name_means, none, newline}
+use Rattle.ddl_forms.proofs.Passed.{both_passed, feed_passed, comment_passed}
+use Rattle.ddl_forms.proofs.Tokens.{a_name, Gap, passed, passes, space, gap_stands, name_no_sign, name_means, none, newline}
 use Rattle.copy_text.specs.Texts.{IsName}
 use Rattle.sql_lex.specs.Bytes.{is_blank, in_line, next_is}
 use Rattle.sql_lex.specs.Pieces.{begins_line}
@@ -46,6 +47,7 @@ use Rattle.cat_model.specs.declared.object.QName.{QName}
 use Rattle.ddl_forms.proofs.Putting.{nothing_follows, joined-append}
 use Rattle.ddl_laws.proofs.Whole.{command_as, statement_as, IsSpelled, given, spelled_so, copy_head, copy_is, copy_spelled, both_behind}
 use Rattle.ddl_laws.specs.Respelling.{IsWritable, AllWritable, joined, spellings, said, IsPath}
+use Rattle.ddl_laws.specs.Laying.{Lays, no_more, empty_line, comment_line, statement_text, comment}
 use Rattle.ddl_forms.proofs.Closing.{ends_with, only_last}
 use Rattle.ddl_forms.proofs.Standing.{Stood, placed, collects}
 use Rattle.ddl_read.specs.Columns.{columns}
@@ -232,12 +234,10 @@ none_collected text at e =
     (ap (λ (c : Collected). first_start c.pieces) is, ap (λ (c : Collected). c.fault) is)
 
 no_token : (front g : List ℕ) → Gap g → next_token_of (front ++ g) (length front) ≡ Ok None
-unfolding next_is
-no_token front g gap = elim (white g gap) [
-  | inl e ↦ subst (λ (x : List ℕ). next_token_of (front ++ x) (length front) ≡ Ok None) e (next_at_end (front ++ []) (length front) (ap length (sym (append-nil front))))
-  | inr w ↦ subst (λ (x : List ℕ). next_token_of (front ++ x) (length front) ≡ Ok None) (append-nil g)
-      (gap_is_passed front g [] (inl ((w.0, w.1), refl)) w.2 ∙ next_at_end (front ++ (g ++ [])) (length front + length g) (sym (ap (λ (x : List ℕ). length (front ++ x)) (append-nil g) ∙ length-append front g)))
-]
+no_token front g gap =
+    let over : next_token_of (front ++ g) (length front) ≡ next_token_of (front ++ g) (length front + length g) =
+    subst (λ (x : List ℕ). next_token_of (front ++ x) (length front) ≡ next_token_of (front ++ x) (length front + length g)) (append-nil g) (passes g gap front []) in
+    over ∙ next_at_end (front ++ g) (length front + length g) (sym (length-append front g))
 
 -- ---- one after another
 
@@ -377,11 +377,35 @@ reads_as text front g (s ∷ more) whole gap fresh all e is =
     one_statement text front g s c.text more h.0 gap fresh c.lies text_is
     (λ front' g' gap' fresh' there. reads_as text front' g' more h.0 gap' fresh' all.1 h.1 there)
 
+-- statements with empty lines and comments between them
+pub laid_read : (text front g rest : List ℕ) (statements : List Stmt) → Gap g → IsFresh (front ++ g) → Lays rest statements → text ≡ front ++ (g ++ rest) → ReadsAs text (length front) statements
+laid_read text front g _ _ gap fresh no_more is =
+    let text_is : text ≡ front ++ g = is ∙ ap (λ (x : List ℕ). front ++ x) (append-nil g) in
+    none_left text (length front) (ap (λ (x : List ℕ). next_token_of x (length front)) text_is ∙ no_token front g gap)
+laid_read text front g _ _ gap fresh (empty_line rest statements lays) is =
+    laid_read text front (g ++ 10 ∷ []) rest statements (passed (g ++ 10 ∷ []) (both_passed g (10 ∷ []) (passes g gap) feed_passed)) (inr (front ++ g, sym (append_assoc front g (10 ∷ [])))) lays
+    (is ∙ ap (λ (x : List ℕ). front ++ x) (sym (append_assoc g (10 ∷ []) rest)))
+laid_read text front g _ _ gap fresh (comment_line line rest statements shown lays) is =
+    let over = comment_passed line shown.0 shown.1 in
+    laid_read text front (g ++ comment line) rest statements (passed (g ++ comment line) (both_passed g (comment line) (passes g gap) over))
+    (inr (front ++ (g ++ (45 ∷ 45 ∷ line)), ap (λ (x : List ℕ). front ++ x) (sym (append_assoc g (45 ∷ 45 ∷ line) (10 ∷ []))) ∙ sym (append_assoc front (g ++ (45 ∷ 45 ∷ line)) (10 ∷ [])))) lays
+    (is ∙ ap (λ (x : List ℕ). front ++ x) (sym (append_assoc g (comment line) rest)))
+laid_read text front g _ _ gap fresh (statement_text s words rest statements can spells lays) is =
+    let c = can_be_written gap s can in
+    let same : words ≡ c.text = cc (spells, c.spells) in
+    one_statement text front g s c.text statements rest gap fresh c.lies (is ∙ ap (λ (x : List ℕ). front ++ (g ++ (x ++ rest))) same)
+    (λ front' g' gap' fresh' there. laid_read text front' g' rest statements gap' fresh' lays there)
+
 -- ---- whole texts
 
 pub joined_read : (statements : List Stmt) (text : List ℕ) → AllWritable statements → spellings statements ≡ Some text → (found : List Located) × (statements_of text ≡ Ok found) × (said found ≡ statements)
 joined_read statements text all e =
     let r = reads_as text [] [] statements text none (inl refl) all e refl in
+    (r.found, only text r.found r.reads, r.same)
+
+pub laid_out_read : (text : List ℕ) (statements : List Stmt) → Lays text statements → (found : List Located) × (statements_of text ≡ Ok found) × (said found ≡ statements)
+laid_out_read text statements lays =
+    let r = laid_read text [] [] text statements none (inl refl) lays refl in
     (r.found, only text r.found r.reads, r.same)
 
 -- ---- statements
@@ -435,7 +459,7 @@ line_done : (text : List ℕ) (at start end : ℕ) (s : Option Stmt) → at ≤ 
 line_done text at start end s le is = by (said_is_a_name (token_text text (line_token start end)) s (line_spelled text at start end le is.next) is.says)
   where
     by : IsSaid s → IsDone s
-    by (inl passed) = subst IsDone (sym passed) tt
+    by (inl nothing) = subst IsDone (sym nothing) tt
     by (inr h) = subst IsDone (sym h.1) (h.2, h.3)
 
 all_writable : (text : List ℕ) (at : ℕ) (found : List Located) → at ≤ length text → Reads text at found → AllWritable (said found)
@@ -446,19 +470,22 @@ all_writable text _ _ le (line_read at s start end more is others) =
     one_more start end more s (line_done text at start end s le is) (all_writable text end more (line_past text at start end le is.next).1 others)
 
 -- what was read of a text can be written
-pub read_writable : (text : List ℕ) (found : List Located) → statements_of text ≡ Ok found → AllWritable (said found)
-read_writable text statements e = all_writable text 0 statements (omega arith) (found text statements e)
+pub read_is_writable : (text : List ℕ) (statements : List Located) → statements_of text ≡ Ok statements → AllWritable (said statements)
+read_is_writable text statements e = all_writable text 0 statements (omega arith) (found text statements e)
+
+pub writable_is_spelled : (s : Stmt) → IsWritable s → (text : List ℕ) × (spelling s ≡ Some text)
+writable_is_spelled s is = let c = can_be_written none s is in (c.text, c.spells)
 
 all_spelled : (statements : List Stmt) → AllWritable statements → (text : List ℕ) × (spellings statements ≡ Some text)
 all_spelled [] all = ([], refl)
 all_spelled (s ∷ more) all =
-    let c = can_be_written none s all.0 in
+    let c = writable_is_spelled s all.0 in
     let h = all_spelled more all.1 in
-    (c.text ++ h.0, ap (λ (o : Option (List ℕ)). joined o (spellings more)) c.spells ∙ ap (joined (Some c.text)) h.1)
+    (c.0 ++ h.0, ap (λ (o : Option (List ℕ)). joined o (spellings more)) c.1 ∙ ap (joined (Some c.0)) h.1)
 
 pub read_again : (text : List ℕ) (statements : List Located) → statements_of text ≡ Ok statements
     → (again : List ℕ) × (spellings (said statements) ≡ Some again) × ((same : List Located) × (statements_of again ≡ Ok same) × (said same ≡ said statements))
 read_again text statements e =
-    let all = read_writable text statements e in
+    let all = read_is_writable text statements e in
     let s = all_spelled (said statements) all in
     (s.0, s.1, joined_read (said statements) s.0 all s.1)

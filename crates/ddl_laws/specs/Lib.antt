@@ -5,3 +5,4 @@ pub mod SequenceExamples
 pub mod CopyExamples
 pub mod RightsExamples
 pub mod Respelling
+pub mod Laying

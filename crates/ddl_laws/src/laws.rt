@@ -13,7 +13,9 @@ ghost use Rattle.ddl_read.specs.Faults.{fault_place};
 ghost use Rattle.ddl_read.specs.Reading.{statements_of};
 ghost use Rattle.ddl_laws.specs.Readings.{Reads, FailsAt};
 ghost use Rattle.cat_model.specs.declared.stmt.Stmt.{Stmt};
-ghost use Rattle.ddl_laws.specs.Respelling.{AllWritable, spellings, said};
+ghost use Rattle.ddl_write.specs.Spelling.{spelling};
+ghost use Rattle.ddl_laws.specs.Respelling.{IsWritable, AllWritable, spellings, said};
+ghost use Rattle.ddl_laws.specs.Laying.{Lays};
 ghost use Rattle.ddl_laws.specs.Examples.{WorkedExamples};
 ghost use Rattle.ddl_laws.specs.AlterExamples.{AlterExamples};
 ghost use Rattle.ddl_laws.specs.SequenceExamples.{SequenceExamples};
@@ -79,14 +81,26 @@ pub fn written_statements_are_read_back()
         → (found : List Located) × (statements_of text ≡ Ok found) × (said found ≡ statements) }
 {}
 
+/// Statements that lie in a text as they are written, with empty lines and lines of comments between them, are what the text
+/// reads as.
+pub fn laid_out_statements_are_read()
+    ensures { (text : List ℕ) (statements : List Stmt) → Lays text statements
+        → (found : List Located) × (statements_of text ≡ Ok found) × (said found ≡ statements) }
+{}
+
+/// What a text reads as can be written.
+pub fn what_was_read_can_be_written()
+    ensures { (text : List ℕ) (statements : List Located) → statements_of text ≡ Ok statements → AllWritable (said statements) }
+{}
+
+/// A statement that can be written has a spelling.
+pub fn what_can_be_written_is_spelled()
+    ensures { (statement : Stmt) → IsWritable statement → (text : List ℕ) × (spelling statement ≡ Some text) }
+{}
+
 /// Where a text reads as statements, their spellings, joined, are a text that reads as the same statements.
 pub fn statements_that_were_read_are_read_again()
     ensures { (text : List ℕ) (statements : List Located) → statements_of text ≡ Ok statements
         → (again : List ℕ) × (spellings (said statements) ≡ Some again)
         × ((same : List Located) × (statements_of again ≡ Ok same) × (said same ≡ said statements)) }
-{}
-
-/// And each of them is made of what it should be: names are names, and its texts are what the grammar writes.
-pub fn statements_that_were_read_can_be_written()
-    ensures { (text : List ℕ) (statements : List Located) → statements_of text ≡ Ok statements → AllWritable (said statements) }
 {}
