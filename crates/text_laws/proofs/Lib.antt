@@ -1,0 +1,2 @@
+mod Bracketed
+mod Texts
