@@ -1,0 +1,4 @@
+mod Shown
+mod Lines
+mod Session
+mod Entries

@@ -1,0 +1,4 @@
+//! Laws of scripts: what the script of entries reads as.
+#![tactic(auto)]
+
+pub mod laws;
