@@ -1,7 +1,7 @@
 -- What has to end before an entry may start: earlier entries that it depends on or whose footprint conflicts with
 -- its own. An entry's footprint is the union of those of its statements.
-use Rattle.std.specs.Prelude.{Bool, ◌||◌, List, [], ◌∷◌, ◌++◌, Option, Some, None}
-use Rattle.std.specs.List.{list_any, flat_map, filter_map}
+use Rattle.std.specs.Prelude.{ℕ, nat_lt, Bool, false, ◌&&◌, ◌||◌, List, [], ◌∷◌, ◌++◌, Option, Some, None}
+use Rattle.std.specs.List.{list_any, flat_map, filter_map, slice_get}
 use Rattle.std.specs.FinMap.{entries}
 use Rattle.cat_model.specs.declared.object.QName.{QName}
 use Rattle.cat_model.specs.declared.key.Key.{Key}
@@ -71,3 +71,17 @@ before i j = is_among i.id j.deps || conflict i.footprint j.footprint
 -- two entries lock one same entry
 abbrev pub clash : Planned → Planned → Bool
 clash i j = list_any (λ id. is_among id j.locks) i.locks
+
+-- ---- by places
+
+abbrev pub both : (Planned → Planned → Bool) → Option Planned → Option Planned → Bool
+both test (Some i) (Some j) = test i j
+both test i j = false
+
+-- the i-th entry stands earlier than the j-th, and has to end before that one starts
+abbrev pub before_at : List Planned → ℕ → ℕ → Bool
+before_at ps i j = nat_lt i j && both before (slice_get ps i) (slice_get ps j)
+
+-- the two lock one same entry
+abbrev pub clash_at : List Planned → ℕ → ℕ → Bool
+clash_at ps i j = both clash (slice_get ps i) (slice_get ps j)
