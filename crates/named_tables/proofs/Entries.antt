@@ -36,12 +36,12 @@ in_either x (y ∷ xs) ys (inr later) = by (in_either x xs ys later)
     by (inl one) = inl (inr one)
     by (inr other) = inr other
 
-in_flat : {R E : Type 0} (gives : R → List E) (rows : List R) (row : R) (e : E) → IsIn row rows → IsIn e (gives row) → IsIn e (flat_map gives rows)
+pub in_flat : {R E : Type 0} (gives : R → List E) (rows : List R) (row : R) (e : E) → IsIn row rows → IsIn e (gives row) → IsIn e (flat_map gives rows)
 in_flat gives [] row e among given = elim among [ ]
 in_flat {R = R} gives (r ∷ rows) row e (inl same) given = in_left e (gives r) (flat_map gives rows) (subst (λ (x : R). IsIn e (gives x)) (sym same) given)
 in_flat gives (r ∷ rows) row e (inr later) given = in_right e (gives r) (flat_map gives rows) (in_flat gives rows row e later given)
 
-from_flat : {R E : Type 0} (gives : R → List E) (rows : List R) (e : E) → IsIn e (flat_map gives rows) → (row : R) × IsIn row rows × IsIn e (gives row)
+pub from_flat : {R E : Type 0} (gives : R → List E) (rows : List R) (e : E) → IsIn e (flat_map gives rows) → (row : R) × IsIn row rows × IsIn e (gives row)
 from_flat gives [] e among = elim among [ ]
 from_flat {R = R} gives (r ∷ rows) e among = by (from_flat gives rows e) (in_either e (gives r) (flat_map gives rows) among)
   where
@@ -60,7 +60,7 @@ pub record AreEntries (named : Named) (of : Key → Bool) (es : List Entry) : Ty
 abbrev pub IsHeld : Named → (Key → Bool) → Entry → Type 0
 IsHeld named of e = (get named e.0 ≡ Some e.1) × (of e.0 ≡ true)
 
-no_entry : {K X : Type 0} {R : K → K → Ordering} → IsTotalOrder R → (es : List (K × X)) (q : K) (v : X) → IsIn (q, v) es → find R q es ≡ None → ⊥
+pub no_entry : {K X : Type 0} {R : K → K → Ordering} → IsTotalOrder R → (es : List (K × X)) (q : K) (v : X) → IsIn (q, v) es → find R q es ≡ None → ⊥
 no_entry total [] q v among none = elim among [ ]
 no_entry {K = K} {X = X} {R = R} total (e ∷ es) q v (inl same) none =
     let here : eq_by_cmp R q e.0 ≡ true = ap (λ (x : K × X). eq_by_cmp R q x.0) same ∙ ap is_eq (tied_itself total q) in

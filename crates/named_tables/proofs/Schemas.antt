@@ -37,7 +37,7 @@ use Rattle.named_tables.proofs.Roles.{AreRoles, named_there, is_role_met, is_nam
 use Rattle.named_tables.proofs.Owned.{owner_at, owner_of, grants_at, grants_there, owner_met, object_met, takes_them, holder_met, grants_good, met_by}
 
 module _ (texts : Texts) (named : Named) (sound : IsSound texts named) (oids : Oids) (own : AreOids named oids) (cat : Catalogue) (roles : AreRoles named oids cat.pg_authid) (are : AreRowsOf (IsSchema named) (IsSchemaRow oids) cat.pg_namespace) where
-  same_schema : (t s : NamedSchema) → IsSchema named t → IsSchema named s → t.name ≡ s.name → t ≡ s
+  pub same_schema : (t s : NamedSchema) → IsSchema named t → IsSchema named s → t.name ≡ s.name → t ≡ s
   same_schema t s is_t is_s names =
       let values : Some (value.Owner t.owner) ≡ Some (value.Owner s.owner) = sym is_t.owner ∙ ap (λ (n : Bytes). get named (key.Owner (object.Schema n))) names ∙ is_s.owner in
       let owners : t.owner ≡ s.owner = cc in
@@ -46,17 +46,17 @@ module _ (texts : Texts) (named : Named) (sound : IsSound texts named) (oids : O
       λ i. record { name = names i; owner = owners i; grants = grants i }
 
   -- what stands at the key of a schema is one
-  schema_at : (name : Bytes) (v : Value) → get named (key.Schema name) ≡ Some v → v ≡ value.Schema
+  pub schema_at : (name : Bytes) (v : Value) → get named (key.Schema name) ≡ Some v → v ≡ value.Schema
   schema_at name value.Schema is = refl
   schema_at name v is = elim (sound.each (key.Schema name) v is).own [ ]
 
   -- a schema that is there has an owner and grants
-  record Whole (name : Bytes) : Type 0 where
-    owner : Bytes
-    grants : Grants
-    is : IsSchema named (record { name = name; owner = owner; grants = grants })
+  pub record Whole (name : Bytes) : Type 0 where
+    pub owner : Bytes
+    pub grants : Grants
+    pub is : IsSchema named (record { name = name; owner = owner; grants = grants })
 
-  whole_schema : (name : Bytes) → get named (key.Schema name) ≡ Some value.Schema → Whole name
+  pub whole_schema : (name : Bytes) → get named (key.Schema name) ≡ Some value.Schema → Whole name
   whole_schema name is =
       let others = (sound.each (key.Schema name) value.Schema is).others in
       let owner = owner_of texts named sound (object.Schema name) others.0 in

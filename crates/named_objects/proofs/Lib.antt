@@ -1,0 +1,11 @@
+pub mod Found
+pub mod Lookups
+pub mod Led
+pub mod Columns
+pub mod Bodies
+pub mod Defaults
+pub mod Indexes
+pub mod Constraints
+pub mod Comments
+pub mod Held
+pub mod Sequences

@@ -1,0 +1,6 @@
+pub mod Oids
+pub mod Types
+pub mod Relations
+pub mod Constraints
+pub mod Standing
+pub mod Kinds
