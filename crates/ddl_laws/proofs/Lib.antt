@@ -1,6 +1,6 @@
 pub mod Computing
 pub mod GrammarLaws
-mod Paths
+pub mod Paths
 mod Relations
 mod Tables
 mod Admin

@@ -1,3 +1,3 @@
-mod Lists
-mod Rows
-mod Objects
+pub mod Lists
+pub mod Rows
+pub mod Objects
