@@ -1,0 +1,10 @@
+use Rattle.std.proofs.Common.{◌≡◌, length, reverse}
+use Rattle.std.specs.Option.{option_or}
+use Rattle.entry_choices.specs.Choices.{section_among}
+use Rattle.entry_choices.proofs.single.section_among.Given as goal
+
+abbrev pub invariant-loop-entry : goal.invariant-loop-entry
+invariant-loop-entry l = section_among (reverse l.entries) l.id ≡ option_or (section_among (reverse l.rest) l.sought) l.otherwise
+
+abbrev pub decreases-loop-entry : goal.decreases-loop-entry
+decreases-loop-entry l = length l.rest
