@@ -30,7 +30,7 @@ fn is_one_of(words: &[&[u8]], text: &[u8]) -> bool
 }
 
 /// Whether an entry of this kind has no part of its own.
-fn is_of_session(desc: &[u8]) -> bool
+pub fn is_of_session(desc: &[u8]) -> bool
     ensures { result ≡ is_of_session desc.now }
 {
     is_one_of(&SESSION_KINDS, desc)
@@ -139,7 +139,7 @@ fn put_comment(entry: &Entry, owners: bool, out: &mut Vec<u8>) -> Result<(), All
     out.extend_from_slice(b"\n--\n\n")
 }
 
-/// Appends the part of an entry and its rows.
+/// Appends the part of an entry and its rows. What was there before stays in any case.
 #[tactic(auto, unfolding(crate::specs::Parts::part))]
 pub fn put_part(
     alloc: Global,

@@ -67,9 +67,9 @@ fn put_script(
     put_end(out)
 }
 
-/// Appends the head: the versions, and the statements that prepare the session.
+/// Appends a script's head: the versions, and the statements that prepare the session.
 #[tactic(auto, unfolding(crate::specs::Script::script_head))]
-fn put_head(head: &Head, out: &mut Vec<u8>) -> Result<(), AllocError>
+pub fn put_head(head: &Head, out: &mut Vec<u8>) -> Result<(), AllocError>
     ensures ok { OnOk result (out.new.items ≡ out.old.items ++ script_head head.now) }
     ensures kept { Extends out.old.items out.new.items }
 {
@@ -137,9 +137,9 @@ fn put_parts(
     Ok(())
 }
 
-/// Appends the end.
+/// Appends a script's end.
 #[tactic(auto, unfolding(crate::specs::Script::script_end))]
-fn put_end(out: &mut Vec<u8>) -> Result<(), AllocError>
+pub fn put_end(out: &mut Vec<u8>) -> Result<(), AllocError>
     ensures ok { OnOk result (out.new.items ≡ out.old.items ++ script_end) }
     ensures kept { Extends out.old.items out.new.items }
 {
