@@ -8,7 +8,8 @@ use crate::fault::{CheckValuesError, ValuesFault};
 use crate::tables::{column_counts, table_oids};
 use cat_names::{DataSet, OidCounts};
 use cat_rows::Catalogue;
-use data_rows::{CheckRowsError, check_rows};
+use data_rows::CheckRowsError;
+use row_fields::check_rows;
 use std::alloc::Global;
 
 /// Goes on where the text of each table holds rows of the table: each a line in COPY text format, with as many fields
