@@ -1,0 +1,16 @@
+use Rattle.std.proofs.Common.{◌≡◌, Some}
+use Rattle.dump_ports.specs.Tree.{Tree}
+use Rattle.same_texts.specs.Alike.{IsData}
+use Rattle.same_texts.proofs.Steps.{Below}
+use Rattle.same_texts.proofs.comparing.are_data.Given as goal
+
+-- the first data files have their texts, and no call has failed
+abbrev pub invariant-loop-table : goal.invariant-loop-table
+invariant-loop-table g l =
+    let files = g.F.Files in
+    record {
+      kept : files.tree l.files ≡ files.tree l.fn.files;
+      read_count : files.read_faults l.files ≡ files.read_faults l.fn.files;
+      write_count : files.write_faults l.files ≡ files.write_faults l.fn.files;
+      so_far : (tree : Tree) → files.tree l.fn.files ≡ Some tree → Below (IsData l.folder tree l.rows) l.tables l.table-index;
+    }
