@@ -76,13 +76,7 @@ fn plain_len(rest: &[u8]) -> Option<usize>
     ensures { IfSome result (λ n. IsPlainFirst rest.now n) }
 {
     match memchr3(b'\t', b'\\', b'\r', rest) {
-        Some(at) => {
-            if rest[at] == b'\t' {
-                Some(at)
-            } else {
-                None
-            }
-        }
+        Some(at) => { if rest[at] == b'\t' { Some(at) } else { None } }
         None => Some(rest.len()),
     }
 }

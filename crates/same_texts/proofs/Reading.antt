@@ -89,10 +89,10 @@ module _ (first second : Bytes) (tree : Tree) where
   -- the text that is held for a table is the one that was read
   read_text : (oids : List ℕ) (rows : TextsByOid) (oid : ℕ) → get rows oid ≡ cond (has_oid oids oid) (Some (bytes_at tree (file_of first (Data oid)))) None → IsSome (text_at tree (file_of first (Data oid))) → IsData second tree rows oid → HasSame first second tree (Data oid)
   read_text oids rows oid found some data_file = record {
-      text = data_file.text;
-      one = whole (text_at tree (file_of first (Data oid))) some ∙ is (has_oid oids oid) (sym found ∙ data_file.held);
-      other = data_file.there;
-    }
+    text = data_file.text;
+    one = whole (text_at tree (file_of first (Data oid))) some ∙ is (has_oid oids oid) (sym found ∙ data_file.held);
+    other = data_file.there;
+  }
     where
       whole : (o : Option Bytes) → IsSome o → o ≡ Some (unwrap_or o [])
       whole None s = absurd (true≢false (sym s))
