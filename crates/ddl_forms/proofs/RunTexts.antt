@@ -113,6 +113,15 @@ pub kinds_placed : (at : ℕ) (ts : List Lexeme) → kinds (placed at ts) ≡ ki
 kinds_placed at [] = refl
 kinds_placed at (t ∷ ts) = ap (λ (ks : List TokenKind). t.kind ∷ ks) (kinds_placed (at + length t.gap + length t.word) ts)
 
+-- what tokens say, wherever they stand
+abbrev pub words : List Lexeme → List (TokenKind × List ℕ)
+words [] = []
+words (t ∷ ts) = (t.kind, t.word) ∷ words ts
+
+words_placed : (at : ℕ) (ts : List Lexeme) → words (placed at ts) ≡ words ts
+words_placed at [] = refl
+words_placed at (t ∷ ts) = ap (λ (ws : List (TokenKind × List ℕ)). (t.kind, t.word) ∷ ws) (words_placed (at + length t.gap + length t.word) ts)
+
 source_gapped : (g : List ℕ) (at : ℕ) (t : Lexeme) (ts : List Lexeme) → source (placed at (gapped g t ∷ ts)) ≡ t.word ++ spelled ts
 source_gapped g at t ts = ap (λ (x : List ℕ). t.word ++ x) (spelled_placed (at + length g + length t.word) ts)
 
@@ -192,6 +201,7 @@ pub record IsRunRead (m : Machine) (ts : List Lexeme) : Type 0 where
   pub text : IsRunText m (source ts)
   pub whole : source (lexemes (source ts) (collected (source ts) 0).pieces) ≡ source ts
   pub same : kinds (lexemes (source ts) (collected (source ts) 0).pieces) ≡ kinds ts
+  pub says : words (lexemes (source ts) (collected (source ts) 0).pieces) ≡ words ts
 
 pub run_read : (m : Machine) → IsPlainMachine m → (ts : List Lexeme) (r : List ℕ) → AllCame ts r → Runs m ts → IsRunRead m ts
 unfolding is_sign
@@ -213,4 +223,5 @@ run_read m h (t ∷ ts) r came runs =
       };
       whole = ap source c.tokens ∙ source_gapped [] 0 t ts;
       same = ap kinds c.tokens ∙ kinds_placed 0 us;
+      says = ap words c.tokens ∙ words_placed 0 us;
     }
