@@ -18,6 +18,7 @@ ghost use Rattle.cat_sound.specs.Asked.{Asked};
 ghost use Rattle.cat_sound.specs.Fit.{IsFit};
 ghost use Rattle.cat_sound.specs.Itself.{check_of};
 ghost use Rattle.cat_sound.specs.Sound.{IsMet, IsSound};
+ghost use Rattle.sound_texts.specs.Examples.{Types, Expressions, Constraints, Indexes};
 ghost use Rattle.sound_texts.specs.Grammar.{grammar};
 
 /// The tests say of each text what the grammar does: a type, a default and a view's body is good exactly where it can be
@@ -46,4 +47,12 @@ pub fn statements_that_are_read_are_fit()
 /// So what a script leaves of a catalogue in order is in order, where the boot role is there.
 pub fn scripts_keep()
     ensures { (boot : Bytes) (text : List ℕ) (found : List Located) (named : Named) → statements_of text ≡ Ok found → IsSound grammar named → IsMet named (key.Role boot, Asked.there) → IsSound grammar (catalogue_after boot (said found) named) }
+{}
+
+/// Worked examples: texts that are good, and texts that aren't.
+pub fn the_tests_meet_the_examples()
+    ensures types { Types }
+    ensures expressions { Expressions }
+    ensures constraints { Constraints }
+    ensures indexes { Indexes }
 {}
