@@ -3,6 +3,7 @@ use Rattle.std.proofs.Common.{◌≡◌, ℕ, Bool, true, ◌&&◌, List, [], �
 use Rattle.std.proofs.lemmas.Bool.Decides.{Decides-int_eq}
 use Rattle.std.specs.Ordering.{int_eq, eq_by_cmp}
 use Rattle.std.specs.Cmp.{nat_cmp_total, int_cmp_total, tied_itself, first_so, second_so}
+use Rattle.std.specs.Cmp.Lexicographic.{nat_list_cmp_total}
 use Rattle.std.specs.FinMap.{get, nat_cmp-IsAntisymmetric}
 use Rattle.std.specs.List.{find, filter, slice_get, list_all}
 use Rattle.cat_rows.specs.declared.catalogue.Catalogue.{Catalogue}
@@ -18,9 +19,11 @@ use Rattle.cat_model.specs.Values.{Bytes, Named}
 use Rattle.cat_model.proofs.MarkLaws.{same_text-equal}
 use Rattle.cat_names.specs.Kinds.{kind_of, is_table}
 use Rattle.cat_names.specs.Lookups.{same_oid}
-use Rattle.cat_book.specs.Leads.{has_number, numbered}
+use Rattle.cat_book.specs.Leads as leads
+use Rattle.cat_book.specs.Leads.{has_number, numbered, has_column, column_cmp}
 use Rattle.cat_book.specs.Rules.{Place, place_cmp}
 use Rattle.cat_lookups.specs.Found.{column_name}
+use Rattle.text_tables.specs.Indexes.{are_columns}
 use Rattle.cat_sound.specs.Asked.{Asked, Meets}
 use Rattle.cat_sound.specs.Texts.{Texts}
 use Rattle.cat_sound.specs.Sound.{IsMet, IsSound}
@@ -33,7 +36,7 @@ use Rattle.named_tables.proofs.Ties.{tie}
 use Rattle.named_tables.proofs.Rows.{in_place, among_in}
 use Rattle.named_objects.specs.Oids.{ObjectOids, AreNumbers}
 use Rattle.named_objects.specs.Relations.{NamedColumn, IsColumn, IsColumnRow}
-use Rattle.named_objects.proofs.Found.{found_in, has_mapped, any_place, in_filter, from_filter, one_row}
+use Rattle.named_objects.proofs.Found.{found_in, has_mapped, any_place, tested_weaker, in_filter, from_filter, one_row}
 use Rattle.named_objects.proofs.Lookups.{AreLedTo, has_tie, kind_found}
 
 -- a column of a table by its name
@@ -59,6 +62,16 @@ column_of named q name met =
     let at = any_place (λ (c : Column). same_text name c.name) table.0 one in
     record { columns = table.0; place = at.0; column = at.1; there = found.1 ∙ ap Some table.1; at = at.2; named_so = sym (same_text-equal name at.1.name at.3) }
 
+name_itself : (p : ℕ × Bytes) → eq_by_cmp column_cmp p p ≡ true
+name_itself p = rw (tied_itself nat_cmp_total p.0, tied_itself nat_list_cmp_total p.1) refl
+
+-- the columns that a table must have
+pub table_met : (named : Named) (q : QName) (names : List Bytes) → IsMet named (key.Rel q, Asked.has_columns names) → (columns : List Column) × (get named (key.Rel q) ≡ Some (value.Table columns))
+table_met named q names met =
+    let found = value_met named (key.Rel q, Asked.has_columns names) met in
+    let table = columns_only found.0 names (met_by named (key.Rel q, Asked.has_columns names) found.0 found.1 met) in
+    (table.0, found.1 ∙ ap Some table.1)
+
 abbrev pub is_of_table : Catalogue → AttributeRow → Bool
 is_of_table cat a = is_table (kind_of cat.pg_class a.attrelid)
 
@@ -73,7 +86,7 @@ module _ (texts : Texts) (named : Named) (sound : IsSound texts named) (oids : O
   is_thing q name c = record { there = c.there; at = c.at }
 
   -- columns of a table and of one number are one
-  one_column : (t s : NamedColumn) → IsColumn named t → IsColumn named s → t.table ≡ s.table → oids.number t.table t.column.name ≡ oids.number s.table s.column.name → t ≡ s
+  pub one_column : (t s : NamedColumn) → IsColumn named t → IsColumn named s → t.table ≡ s.table → oids.number t.table t.column.name ≡ oids.number s.table s.column.name → t ≡ s
   one_column t s is_t is_s tables same =
       let lists : Some (value.Table t.columns) ≡ Some (value.Table s.columns) = sym is_t.there ∙ ap (λ (q : QName). get named (key.Rel q)) tables ∙ is_s.there in
       let columns : t.columns ≡ s.columns = cc in
@@ -139,3 +152,21 @@ module _ (texts : Texts) (named : Named) (sound : IsSound texts named) (oids : O
   has_number_found q name c =
       let at = column_found q name c in
       (λ i. has_number cat (sym at.relation i) (sym at.number i)) ∙ has_mapped place_cmp numbered cat.pg_attribute at.row (place_itself (numbered at.row)) at.among
+
+  -- a column by its name, and names of columns
+  pub has_column_found : (q : QName) (name : Bytes) → ColumnOf named q name → has_column cat (oids.of (key.Rel q)) name ≡ true
+  has_column_found q name c =
+      let at = column_found q name c in
+      (λ i. has_column cat (sym at.relation i) (sym at.named_so i)) ∙ has_mapped column_cmp leads.named cat.pg_attribute at.row (name_itself (leads.named at.row)) at.among
+
+  pub are_columns_found : (q : QName) (names : List Bytes) → IsMet named (key.Rel q, Asked.has_columns names) → are_columns cat (oids.of (key.Rel q)) (Some names) ≡ true
+  are_columns_found q names met =
+      let found = value_met named (key.Rel q, Asked.has_columns names) met in
+      let table = columns_only found.0 names (met_by named (key.Rel q, Asked.has_columns names) found.0 found.1 met) in
+      let all : list_all (has_column cat (oids.of (key.Rel q))) names ≡ true = tested_weaker (column_there table.0) (has_column cat (oids.of (key.Rel q))) (λ name there. step table.0 (found.1 ∙ ap Some table.1) name there) names (first_so (list_all (column_there table.0) names) (distinct names) table.2) in
+      rw (all, second_so (list_all (column_there table.0) names) (distinct names) table.2) refl
+    where
+      step : (columns : List Column) → get named (key.Rel q) ≡ Some (value.Table columns) → (name : Bytes) → column_there columns name ≡ true → has_column cat (oids.of (key.Rel q)) name ≡ true
+      step columns is name there =
+          let at = any_place (λ (c : Column). same_text name c.name) columns there in
+          has_column_found q name (record { columns = columns; place = at.0; column = at.1; there = is; at = at.2; named_so = sym (same_text-equal name at.1.name at.3) })

@@ -91,7 +91,7 @@ module _ (texts : Texts) (named : Named) (sound : IsSound texts named) (oids : O
 
   -- ---- by oids
 
-  same_constraint : (t s : NamedConstraint) → IsConstraint named t → IsConstraint named s → key.Con t.table t.name ≡ key.Con s.table s.name → t ≡ s
+  pub same_constraint : (t s : NamedConstraint) → IsConstraint named t → IsConstraint named s → key.Con t.table t.name ≡ key.Con s.table s.name → t ≡ s
   same_constraint t s is_t is_s keys =
       let tables : t.table ≡ s.table = cc in
       let names : t.name ≡ s.name = cc in

@@ -2,7 +2,8 @@
 use Rattle.std.proofs.Common.{◌≡◌, ◌⊎◌, ℕ, zero, suc, ◌<◌, Bool, true, false, true≢false, cond, ◌||◌, List, [], ◌∷◌, map, Option, Some, None, refl, ap, sym, subst, ◌∙◌, inl, inr, arith}
 use Rattle.std.specs.declared.cmp.Ordering.{Ordering}
 use Rattle.std.specs.Ordering.{eq_by_cmp}
-use Rattle.std.specs.List.{slice_get, find, filter, filter_map, cons_option, list_any}
+use Rattle.std.specs.Cmp.{first_so, second_so}
+use Rattle.std.specs.List.{slice_get, find, filter, filter_map, cons_option, list_any, list_all}
 use Rattle.cat_names.specs.Lookups.{has_key}
 use Rattle.cat_sound.proofs.Lists.{IsIn}
 use Rattle.named_tables.specs.Standing.{IsAmong, AreRowsOf}
@@ -66,6 +67,25 @@ has_mapped cmp key [] row itself among = elim among [ ]
 has_mapped {R = R} cmp key (x ∷ rows) row itself (inl same) =
     ap (λ (y : R). eq_by_cmp cmp (key row) (key y) || has_key cmp (map key rows) (key row)) same ∙ ap (λ (b : Bool). b || has_key cmp (map key rows) (key row)) itself
 has_mapped {R = R} cmp key (x ∷ rows) row itself (inr later) = or_true (eq_by_cmp cmp (key row) (key x)) (has_key cmp (map key rows) (key row)) (has_mapped cmp key rows row itself later)
+
+-- what is made of rows passes where a row's does
+pub any_mapped : {R K : Type 0} (test : K → Bool) (key : R → K) (rows : List R) → list_any test (map key rows) ≡ true → (row : R) × IsIn row rows × (test (key row) ≡ true)
+any_mapped test key [] e = cc
+any_mapped {R = R} test key (x ∷ rows) e = by (any_mapped test key rows) (test (key x)) refl e
+  where
+    by : (list_any test (map key rows) ≡ true → (row : R) × IsIn row rows × (test (key row) ≡ true)) → (b : Bool) → test (key x) ≡ b → b || list_any test (map key rows) ≡ true → (row : R) × IsIn row (x ∷ rows) × (test (key row) ≡ true)
+    by more true passes h = (x, inl refl, passes)
+    by more false passes h = let found = more h in (found.0, inr found.1, found.2)
+
+pub mapped_any : {R K : Type 0} (test : K → Bool) (key : R → K) (rows : List R) (row : R) → IsIn row rows → test (key row) ≡ true → list_any test (map key rows) ≡ true
+mapped_any test key [] row among passes = elim among [ ]
+mapped_any {R = R} test key (x ∷ rows) row (inl same) passes = ap (λ (b : Bool). b || list_any test (map key rows)) (ap (λ (y : R). test (key y)) same ∙ passes)
+mapped_any test key (x ∷ rows) row (inr later) passes = or_true (test (key x)) (list_any test (map key rows)) (mapped_any test key rows row later passes)
+
+-- what passes one test passes a weaker one
+pub tested_weaker : {A : Type 0} (p q : A → Bool) → ((x : A) → p x ≡ true → q x ≡ true) → (xs : List A) → list_all p xs ≡ true → list_all q xs ≡ true
+tested_weaker p q step [] all = refl
+tested_weaker p q step (x ∷ xs) all = rw (step x (first_so (p x) (list_all p xs) all), tested_weaker p q step xs (second_so (p x) (list_all p xs) all)) refl
 
 -- one that passes stands somewhere
 pub any_place : {A : Type 0} (test : A → Bool) (xs : List A) → list_any test xs ≡ true → (i : ℕ) × (x : A) × (slice_get xs i ≡ Some x) × (test x ≡ true)

@@ -9,3 +9,8 @@ pub mod Constraints
 pub mod Comments
 pub mod Held
 pub mod Sequences
+pub mod KeyIndexes
+pub mod IndexRows
+pub mod Counting
+pub mod RelationRows
+pub mod ConstraintRows

@@ -1,5 +1,5 @@
 -- What the oids of schemas, types and relations lead to: the rows of these, and so their paths and kinds.
-use Rattle.std.proofs.Common.{◌≡◌, ℕ, true, List, Some, None, option_map, option_and_then, refl, ap, sym, ◌∙◌}
+use Rattle.std.proofs.Common.{◌≡◌, ℕ, true, List, Some, None, option_map, option_and_then, refl, ap, sym, subst, ◌∙◌}
 use Rattle.std.specs.Ordering.{nat_cmp, is_eq, eq_by_cmp}
 use Rattle.std.specs.Cmp.{nat_cmp_total, tied_itself}
 use Rattle.std.specs.Cmp.Lexicographic.{nat_list_cmp_total}
@@ -37,7 +37,7 @@ use Rattle.named_tables.proofs.Rows.{among_in}
 use Rattle.named_tables.proofs.Roles.{AreRoles}
 use Rattle.named_tables.proofs.Owned.{owner_of, grants_there}
 use Rattle.named_tables.proofs.Schemas as schemas
-use Rattle.named_objects.specs.Types.{NamedType, IsType, IsTypeRow}
+use Rattle.named_objects.specs.Types.{NamedType, IsType, IsRowOfType, IsTypeRow}
 use Rattle.named_objects.specs.Relations.{NamedRelation, IsRelation, IsRelationRow, IsRowOfKind}
 use Rattle.named_objects.proofs.Found.{find_row, has_given, has_mapped}
 
@@ -106,7 +106,7 @@ module _ (texts : Texts) (named : Named) (sound : IsSound texts named) (oids : O
 
   -- ---- relations
 
-  schema_of_relation : (q : QName) (v : Value) → get named (key.Rel q) ≡ Some v → IsMet named (key.Schema q.schema, Asked.there)
+  pub schema_of_relation : (q : QName) (v : Value) → get named (key.Rel q) ≡ Some v → IsMet named (key.Schema q.schema, Asked.there)
   schema_of_relation q v is = (sound.each (key.Rel q) v is).others.0
 
   pub record FoundClass (q : QName) (v : Value) : Type 0 where
@@ -143,7 +143,7 @@ module _ (texts : Texts) (named : Named) (sound : IsSound texts named) (oids : O
       let at = class_found q v is in
       ap (option_and_then (class_path cat.pg_namespace)) at.found ∙ row_path q v at.row is at.says
 
-  kind_so : (q : QName) (v : Value) (row : ClassRow) → IsRowOfKind named oids q v row → relation_kind row.relkind ≡ kind_at v
+  pub kind_so : (q : QName) (v : Value) (row : ClassRow) → IsRowOfKind named oids q v row → relation_kind row.relkind ≡ kind_at v
   kind_so q (value.Table columns) row at = ap relation_kind at.0
   kind_so q value.View row at = ap relation_kind at.0
   kind_so q (value.Sequence s) row at = ap relation_kind at.0
@@ -198,6 +198,7 @@ module _ (texts : Texts) (named : Named) (sound : IsSound texts named) (oids : O
     pub among : IsAmong cat.pg_type row
     pub found : type_of cat.pg_type (oids (key.UserType q)) ≡ Some row
     pub path : type_path cat.pg_namespace row ≡ Some q
+    pub kind : IsRowOfType oids v row
 
   pub type_found : (q : QName) (v : Value) → get named (key.UserType q) ≡ Some v → FoundType q v
   type_found q v is =
@@ -208,6 +209,7 @@ module _ (texts : Texts) (named : Named) (sound : IsSound texts named) (oids : O
         among = at.1;
         found = find_row (IsType named) (IsTypeRow oids) cat.pg_type are.types (λ t. same_oid (oids (key.UserType q)) t.oid) whole.thing at.0 at.1 at.2 (has_tie (oids (key.UserType q)) at.0.oid (ap (λ (p : QName). oids (key.UserType p)) (sym whole.path) ∙ sym at.2.oid)) (λ s r is_s says ties. only whole.thing whole.is whole.path s r is_s says ties);
         path = type_row_path whole.thing at.0 whole.is at.2 ∙ ap Some whole.path;
+        kind = subst (λ (x : Value). IsRowOfType oids x at.0) whole.type at.2.kind;
       }
     where
       only : (t : NamedType) → IsType named t → t.path ≡ q → (s : NamedType) (r : TypeRow) → IsType named s → IsTypeRow oids s r → same_oid (oids (key.UserType q)) r.oid ≡ true → s ≡ t

@@ -13,12 +13,15 @@ ghost use Rattle.cat_rows.specs.declared.catalogue.Catalogue.{Catalogue};
 ghost use Rattle.cat_rows.specs.declared.notes.DependRow.{DependRow};
 ghost use Rattle.cat_sound.specs.Sound.{IsSound};
 ghost use Rattle.cat_sound.specs.Texts.{Texts};
+ghost use Rattle.constraint_table.specs.Table.{constraint_rules};
 ghost use Rattle.named_objects.specs.Kinds.{of_bodies, of_comments, of_constraints, of_defaults, of_indexes, of_sequences, kept, named_as};
 ghost use Rattle.named_objects.specs.Oids.{ObjectOids, AreNumbers, AreCheckOids};
 ghost use Rattle.named_objects.specs.Standing.{AllStandFor};
 ghost use Rattle.named_tables.specs.Oids.{AreOids};
 ghost use Rattle.plain_tables.specs.Comments.{comment_rules};
+ghost use Rattle.plain_tables.specs.Relations.{relation_rules};
 ghost use Rattle.text_tables.specs.Columns.{default_rules};
+ghost use Rattle.text_tables.specs.Indexes.{index_rules};
 ghost use Rattle.text_tables.specs.Sequences.{sequence_rules};
 ghost use Rattle.text_tables.specs.Views.{view_rules};
 
@@ -47,7 +50,12 @@ pub fn constraints_are_named()
     ensures { (texts : Texts) (named : Named) (oids : ObjectOids) (current : Bytes) (depends : List DependRow) (cat : Catalogue) (rows : RowsByOid) → IsSound texts named → AreOids named oids.of → AllStandFor named oids current depends cat rows → from_entries (flat_map (constraint_entries cat) cat.pg_constraint) ≡ retain_keys named of_constraints }
 {}
 
-/// The rows of pg_index stand for the indexes that aren't a constraint's.
+/// The rows of pg_index meet the table's conditions.
+pub fn indexes_meet_their_table()
+    ensures { (texts : Texts) (named : Named) (oids : ObjectOids) (current : Bytes) (depends : List DependRow) (cat : Catalogue) (rows : RowsByOid) → IsSound texts named → AreOids named oids.of → AreNumbers named oids.number → AllStandFor named oids current depends cat rows → Meets index_rules cat cat.pg_index }
+{}
+
+/// They stand for the indexes that aren't a constraint's.
 pub fn indexes_are_named()
     ensures { (texts : Texts) (named : Named) (oids : ObjectOids) (current : Bytes) (depends : List DependRow) (cat : Catalogue) (rows : RowsByOid) → IsSound texts named → AreOids named oids.of → AllStandFor named oids current depends cat rows → from_entries (flat_map index_entries cat.pg_index) ≡ retain_keys named of_indexes }
 {}
@@ -70,4 +78,14 @@ pub fn sequences_meet_their_table()
 /// They stand for the sequences, their values, and the columns that own them.
 pub fn sequences_are_named()
     ensures { (texts : Texts) (named : Named) (oids : ObjectOids) (current : Bytes) (depends : List DependRow) (cat : Catalogue) (rows : RowsByOid) → IsSound texts named → AreOids named oids.of → AreNumbers named oids.number → AllStandFor named oids current depends cat rows → (k : Key) → get (named_as (flat_map (sequence_entries cat) cat.pg_sequence)) k ≡ kept of_sequences k (get named k) }
+{}
+
+/// The rows of pg_class meet the table's conditions.
+pub fn relations_meet_their_table()
+    ensures { (texts : Texts) (named : Named) (oids : ObjectOids) (current : Bytes) (depends : List DependRow) (cat : Catalogue) (rows : RowsByOid) → IsSound texts named → AreOids named oids.of → AreNumbers named oids.number → AllStandFor named oids current depends cat rows → Meets relation_rules cat cat.pg_class }
+{}
+
+/// The rows of pg_constraint meet the table's conditions.
+pub fn constraints_meet_their_table()
+    ensures { (texts : Texts) (named : Named) (oids : ObjectOids) (current : Bytes) (depends : List DependRow) (cat : Catalogue) (rows : RowsByOid) → IsSound texts named → AreOids named oids.of → AreNumbers named oids.number → AreCheckOids named oids → AllStandFor named oids current depends cat rows → Meets constraint_rules cat cat.pg_constraint }
 {}
