@@ -1,0 +1,6 @@
+pub mod Books
+pub mod Splits
+pub mod Numbers
+pub mod Saying
+pub mod Standing
+pub mod Dates

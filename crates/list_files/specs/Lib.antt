@@ -1,0 +1,5 @@
+pub mod Lines
+pub mod Edits
+pub mod Books
+pub mod Lists
+pub mod Examples
