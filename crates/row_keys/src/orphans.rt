@@ -41,7 +41,7 @@ fn parent_keys<'r>(
 ) -> Result<HashSet<RowKey<'r>>, AllocError>
     ensures { IfOk result (AreAmong (map (key_at columns.now places.now) rows.now)) }
 {
-    let mut parents = HashSet::new(alloc);
+    let mut parents = HashSet::with_capacity(alloc, rows.len() as usize)?;
     for i in 0..rows.len() {
         let key = row_key(alloc, columns, places, rows.row(i))?;
         add_parent(&mut parents, key)?;

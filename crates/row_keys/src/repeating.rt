@@ -33,7 +33,7 @@ fn first_repeated(
 ) -> Result<Option<(u64, u64)>, AllocError>
     ensures { IfOk result (λ pair. pair ≡ repeated_after [] (map (key_at columns.now places.now) rows.now)) }
 {
-    let mut known = HashMap::new(alloc);
+    let mut known = HashMap::with_capacity(alloc, rows.len() as usize)?;
     for i in 0..rows.len() {
         let key = row_key(alloc, columns, places, rows.row(i))?;
         if let Some(first) = add(&mut known, i + 1, key)? {

@@ -16,11 +16,7 @@ fn add_key<'a>(
     ensures first { IfOk result (λ first. (before : List (Option (List (List ℕ)))) → IsKnown before known.old → first ≡ place_of 1 (Some key.entry) before) }
     ensures known { IfOk result (λ first. (before : List (Option (List (List ℕ)))) → IsKnown before known.old → number ≡ length before + 1 → IfNone first (IsKnown (before ++ Some key.entry ∷ []) known.new)) }
 {
-    if let Some(first) = known.get(&key) {
-        return Ok(Some(*first));
-    }
-    known.insert(key, number)?;
-    Ok(None)
+    Ok(known.insert(key, number)?)
 }
 
 /// Adds the key of the row with this number behind those before it; a key that has a null in it is `None`. The answer
