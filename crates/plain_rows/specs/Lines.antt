@@ -1,0 +1,58 @@
+-- Lines of a text as rows of a table, and their keys in one column.
+use Rattle.std.specs.Prelude.{◌≡◌, ℕ, Bool, true, false, not, ◌&&◌, List, [], ◌∷◌, length, map, Option, Some, None, Result, Ok, Err}
+use Rattle.std.specs.List.{list_any}
+use Rattle.std.specs.Borrow.{Bor}
+use Rattle.std.specs.HashSet.{HashSet, contains_by}
+use Rattle.copy_text.specs.declared.fault.CopyFault.{CopyFault}
+use Rattle.copy_text.specs.Lines.{data_lines}
+use Rattle.copy_text.specs.Reading.{row_of}
+use Rattle.cat_model.specs.declared.value.Column.{Column}
+use Rattle.cat_model.specs.Values.{Bytes, Row}
+use Rattle.cat_model.specs.Lexemes.{same_text}
+use Rattle.cat_model.specs.FieldTypes.{takes}
+use Rattle.cat_model.specs.CopiedRows.{fields_cause}
+use Rattle.row_keys.specs.ByPlaces.{field_at}
+
+-- a column takes a field: a value of its type, or null where that isn't refused
+abbrev pub FieldFits : Bool → Column → Option Bytes → Type 0
+FieldFits required column (Some text) = takes column.resolved text ≡ true
+FieldFits required column None = required ≡ false
+
+-- the line is a row with a field for each column, which takes it
+pub record LineFits (columns : List Column) (primary : List Bytes) (line : Bytes) : Type 0 where
+  pub row : Row
+  pub reads : row_of line ≡ Ok row
+  pub many : length row ≡ length columns
+  pub taken : (number : ℕ) → fields_cause primary number 1 columns row ≡ None
+
+-- the key of a line that reads so, in the column at a place
+abbrev pub key_read : List Column → ℕ → Result Row CopyFault → Option Bytes
+key_read columns place (Ok row) = field_at columns (Some place) row
+key_read columns place (Err fault) = None
+
+abbrev pub line_key : List Column → ℕ → Bytes → Option Bytes
+line_key columns place line = key_read columns place (row_of line)
+
+-- the keys of a text's lines
+abbrev pub line_keys : List Column → ℕ → Bytes → List (Option Bytes)
+line_keys columns place text = map (line_key columns place) (data_lines text)
+
+-- none of these keys stands among those before it, or the ones that were known; null stands for none
+abbrev pub none_again : List Bytes → List (Option Bytes) → Bool
+none_again known [] = true
+none_again known (None ∷ more) = none_again known more
+none_again known (Some key ∷ more) = not (list_any (same_text key) known) && none_again (key ∷ known) more
+
+abbrev pub same_some : Bytes → Option Bytes → Bool
+same_some key None = false
+same_some key (Some other) = same_text key other
+
+-- the set has only keys that are among these
+abbrev pub AreAmong : {S : Type 0} → List (Option Bytes) → HashSet (Bor (List ℕ)) S → Type 0
+AreAmong keys set = (key : List ℕ) → contains_by (λ other. same_text key other.now) set ≡ true → list_any (same_some key) keys ≡ true
+
+-- each of these keys that isn't null is one of the parents
+abbrev pub all_among : List (Option Bytes) → List (Option Bytes) → Bool
+all_among parents [] = true
+all_among parents (None ∷ more) = all_among parents more
+all_among parents (Some key ∷ more) = list_any (same_some key) parents && all_among parents more

@@ -1,0 +1,157 @@
+//! The keys of the lines of a text in one column.
+ghost use Rattle.std.specs.Prelude.{◌≡◌, ◌∷◌, ℕ, List, Option, Some, true, [], IfOk, IfSome, IsTrue, OnOk, false};
+ghost use Rattle.std.specs.List.{list_any, slice_get};
+ghost use Rattle.std.specs.Option.{option_map, option_copied};
+ghost use Rattle.copy_text.specs.Reading.{row_of};
+ghost use Rattle.cat_model.specs.Lexemes.{same_text};
+ghost use Rattle.field_values.specs.Labels.{AreLabels};
+ghost use Rattle.row_keys.specs.ByPlaces.{field_at};
+ghost use Rattle.plain_rows.specs.Lines.{line_key, line_keys, none_again, same_some, AreAmong, all_among};
+
+use data_rows::split_line;
+use field_values::{ColumnValues, TableColumns};
+use row_fields::PlainRow;
+use std::alloc::{AllocError, Global};
+use std::collections::HashSet;
+
+fn column_at<'c, 'a>(columns: &'c [ColumnValues<'a>], place: usize) -> Option<&'c ColumnValues<'a>>
+    ensures { option_copied result ≡ slice_get columns.now place }
+{
+    columns.get(place)
+}
+
+// The field of a row at a place, as the column there compares it; `None` where it is null.
+fn key_of<'t>(columns: &TableColumns, place: usize, row: &PlainRow<'t>) -> Option<&'t [u8]>
+    ensures { option_map (λ t. t.now) result ≡ field_at columns.now (Some place) row.now }
+{
+    let column = column_at(columns.as_slice(), place)?;
+    let text = row.field(place)??;
+    Some(column.compared(text))
+}
+
+// The key of a line, which may be null; the outer `None` where the line's fields don't stand in it as they are.
+fn key_in<'t>(
+    columns: &TableColumns,
+    place: usize,
+    plain: &mut PlainRow<'t>,
+    line: &'t [u8],
+) -> Result<Option<Option<&'t [u8]>>, AllocError>
+    ensures { IfOk result (λ found. IfSome found (λ key. option_map (λ t. t.now) key ≡ line_key columns.now place line.now)) }
+{
+    if plain.read(line)? {
+        Ok(Some(key_of(columns, place, plain)))
+    } else {
+        Ok(None)
+    }
+}
+
+// Adds a key that isn't null; whether it is new, so that what is so of the keys behind it is so of it and them.
+fn add_new<'t>(seen: &mut HashSet<&'t [u8]>, key: Option<&'t [u8]>) -> Result<bool, AllocError>
+    ensures { IfOk result (λ new. IsTrue new → (known : List (List ℕ)) (more : List (Option (List ℕ))) → AreLabels known seen.old
+        → (after : List (List ℕ)) × AreLabels after seen.new × (none_again after more ≡ true → none_again known (option_map (λ t. t.now) key.entry ∷ more) ≡ true)) }
+{
+    match key {
+        Some(key) => Ok(add_new_key(seen, key)?),
+        None => Ok(true),
+    }
+}
+
+fn add_new_key<'t>(seen: &mut HashSet<&'t [u8]>, key: &'t [u8]) -> Result<bool, AllocError>
+    ensures new { IfOk result (λ new. IsTrue new → (known : List (List ℕ)) → AreLabels known seen.old → list_any (same_text key.now) known ≡ false) }
+    ensures added { OnOk result ((known : List (List ℕ)) → AreLabels known seen.old → AreLabels (key.now ∷ known) seen.new) }
+{
+    Ok(seen.insert(key)?)
+}
+
+/// Whether no two lines of a text, up to its end mark, have one key in the column at this place; a null is no key. It says no
+/// of a text that has a line whose fields don't stand in it as they are. The error is that memory ran out.
+pub fn keys_differ(
+    alloc: Global,
+    columns: &TableColumns,
+    place: usize,
+    text: &[u8],
+) -> Result<bool, AllocError>
+    ensures { IfOk result (λ differ. IsTrue differ → none_again [] (line_keys columns.now place text.now) ≡ true) }
+{
+    let mut plain = PlainRow::new(alloc);
+    let mut seen = HashSet::new(alloc);
+    let mut rest = text;
+    'lines: while let Some((line, behind)) = split_line(rest) {
+        let Some(key) = key_in(columns, place, &mut plain, line)? else {
+            return Ok(false);
+        };
+        if !add_new(&mut seen, key)? {
+            return Ok(false);
+        }
+        rest = behind;
+    }
+    Ok(true)
+}
+
+// Adds a key that isn't null.
+fn add_key<'t>(keys: &mut HashSet<&'t [u8]>, key: Option<&'t [u8]>) -> Result<(), AllocError>
+    ensures { OnOk result ((all : List (Option (List ℕ))) → AreAmong all keys.old → ((q : List ℕ) → same_some q (option_map (λ t. t.now) key.entry) ≡ true → list_any (same_some q) all ≡ true) → AreAmong all keys.new) }
+{
+    if let Some(key) = key {
+        keys.insert(key)?;
+    }
+    Ok(())
+}
+
+/// The keys of the lines of a text, up to its end mark, in the column at this place; `None` for a text that has a line whose
+/// fields don't stand in it as they are. The error is that memory ran out.
+pub fn key_set<'t>(
+    alloc: Global,
+    columns: &TableColumns,
+    place: usize,
+    text: &'t [u8],
+) -> Result<Option<HashSet<&'t [u8]>>, AllocError>
+    ensures { IfOk result (λ found. IfSome found (λ set. AreAmong (line_keys columns.now place text.now) set)) }
+{
+    let mut plain = PlainRow::new(alloc);
+    let mut keys = HashSet::new(alloc);
+    let mut rest = text;
+    'lines: while let Some((line, behind)) = split_line(rest) {
+        let Some(key) = key_in(columns, place, &mut plain, line)? else {
+            return Ok(None);
+        };
+        add_key(&mut keys, key)?;
+        rest = behind;
+    }
+    Ok(Some(keys))
+}
+
+// Whether a key is one of the parents', or null.
+fn is_among(parents: &HashSet<&[u8]>, key: Option<&[u8]>) -> bool
+    ensures { IsTrue result → (all more : List (Option (List ℕ))) → AreAmong all parents.now → all_among all more ≡ true → all_among all (option_map (λ t. t.now) key.entry ∷ more) ≡ true }
+{
+    match key {
+        Some(key) => parents.contains(key),
+        None => true,
+    }
+}
+
+/// Whether the key of each line of a text, up to its end mark, in the column at this place is one of these, or null. It says
+/// no of a text that has a line whose fields don't stand in it as they are. The error is that memory ran out.
+pub fn keys_are_among(
+    alloc: Global,
+    columns: &TableColumns,
+    place: usize,
+    text: &[u8],
+    parents: &HashSet<&[u8]>,
+) -> Result<bool, AllocError>
+    ensures { IfOk result (λ among. IsTrue among → (all : List (Option (List ℕ))) → AreAmong all parents.now → all_among all (line_keys columns.now place text.now) ≡ true) }
+{
+    let mut plain = PlainRow::new(alloc);
+    let mut rest = text;
+    'lines: while let Some((line, behind)) = split_line(rest) {
+        let Some(key) = key_in(columns, place, &mut plain, line)? else {
+            return Ok(false);
+        };
+        if !is_among(parents, key) {
+            return Ok(false);
+        }
+        rest = behind;
+    }
+    Ok(true)
+}
