@@ -1,5 +1,5 @@
 //! Lists of values, for options that add up.
-ghost use Rattle.std.specs.Prelude.{◌≡◌, [], ◌∷◌, ◌++◌, OnOk, OnErr};
+ghost use Rattle.std.specs.Prelude.{◌≡◌, [], ◌∷◌, ◌++◌, map, IfOk, OnOk, OnErr};
 ghost use Rattle.command_line.specs.Sections.{is_same, is_among, is_chosen};
 
 use crate::values::Section;
@@ -56,6 +56,18 @@ impl Patterns {
         ensures { result.now ≡ self.now }
     {
         &self.patterns
+    }
+
+    /// What the patterns hit, without their words.
+    pub fn into_patterns(self, alloc: Global) -> Result<Vec<Pattern>, AllocError>
+        ensures { IfOk result (λ patterns. patterns.items ≡ map (λ word. word.pattern) self) }
+    {
+        let mut patterns = Vec::new(alloc);
+        let mut left = self.patterns.into_iter();
+        'words: while let Some(word) = left.next() {
+            patterns.push(word.pattern)?;
+        }
+        Ok(patterns)
     }
 }
 

@@ -5,7 +5,7 @@ use Rattle.cat_model.specs.Values.{Bytes, Named}
 use Rattle.exports.specs.Exports.{Exported}
 use Rattle.openings.specs.Openings.{opened_folder, export_named}
 use Rattle.tool_words.specs.declared.outcome.Outcome.{Outcome}
-use Rattle.tool_words.specs.declared.outcome.Outcome.TheVariants.{Done, Usage, ReadFault, WriteFault, Missing, BadExport, BadScript, OutOfProfile, TooLarge, Differs, Memory}
+use Rattle.tool_words.specs.declared.outcome.Outcome.TheVariants.{Done, Usage, ReadFault, WriteFault, Missing, BadExport, BadScript, OutOfProfile, TooLarge, Differs, ScriptStopped, Loop, NoMatch, Memory}
 use Rattle.tool_words.specs.Answers.{◌>>=◌}
 use Rattle.dump_tools.specs.Due.{Plan, Compares, second_due, compare_due, IsCarriedOut, WasDue, IsUnequal, IsAnswerDue}
 
@@ -20,10 +20,11 @@ unfolding compare_due
 first_read first second tree one e = ap (λ (r : Result Exported Outcome). r >>= λ one. second_due one second tree) e
 
 -- the plan that was due of the second folder was carried out
-pub first_done : (first second : Bytes) (tree : Tree) (one : Exported) (start between after : Option Tree) (printed told : Option Bytes) → opened_folder first tree ≡ Ok one → between ≡ start → WasDue (second_due one second tree) between after printed printed told told → WasDue (compare_due first second tree) start after printed printed told told
-first_done first second tree one start between after printed told e k w = record {
+pub first_done : (first second : Bytes) (tree : Tree) (one : Exported) (answer : Outcome) (start between after : Option Tree) (printed told : Option Bytes) → opened_folder first tree ≡ Ok one → between ≡ start → WasDue (second_due one second tree) answer between after printed printed told told → WasDue (compare_due first second tree) answer start after printed printed told told
+first_done first second tree one answer start between after printed told e k w = record {
   plan = w.plan;
   is_due = first_read first second tree one e ∙ w.is_due;
+  answers = w.answers;
   carried = subst (λ (s : Option Tree). IsCarriedOut w.plan s after printed printed told told) k w.carried;
 }
 
@@ -39,4 +40,7 @@ unequal_due (BadScript fault) a b due e u = elim u [ ]
 unequal_due (OutOfProfile what) a b due e u = elim u [ ]
 unequal_due (TooLarge what most) a b due e u = elim u [ ]
 unequal_due (Differs key) a b due e u = inr (inl (record { a = a; b = b; is_due = e; least = u }))
+unequal_due (ScriptStopped stop) a b due e u = elim u [ ]
+unequal_due (Loop path) a b due e u = elim u [ ]
+unequal_due (NoMatch pattern) a b due e u = elim u [ ]
 unequal_due Memory a b due e u = inl tt

@@ -2,7 +2,7 @@
 use Rattle.std.proofs.Common.{◌≡◌, ℕ, ◌≤◌, Result, Ok, Err, IfErr, refl, subst, ◌⊎◌, inl, inr, arith}
 use Rattle.dump_ports.specs.Faults.{HasRisen, HasNotRisen}
 use Rattle.tool_words.specs.declared.outcome.Outcome.{Outcome}
-use Rattle.tool_words.specs.declared.outcome.Outcome.TheVariants.{Done, Usage, ReadFault, WriteFault, Missing, BadExport, BadScript, OutOfProfile, TooLarge, Differs, Memory}
+use Rattle.tool_words.specs.declared.outcome.Outcome.TheVariants.{Done, Usage, ReadFault, WriteFault, Missing, BadExport, BadScript, OutOfProfile, TooLarge, Differs, ScriptStopped, Loop, NoMatch, Memory}
 use Rattle.tool_words.specs.Answers.{CountsRead}
 use Rattle.dump_tools.specs.Due.{Counts, counts, NoneRose, NoneFell, Counted, CountsStep, CountsWrites, IsUnread}
 
@@ -21,6 +21,9 @@ counted_reading X (BadScript fault) r r' i i' w w' p p' l l' c e a d b = alike r
 counted_reading X (OutOfProfile what) r r' i i' w w' p p' l l' c e a d b = alike r r' i i' w w' p p' l l' c e a d b
 counted_reading X (TooLarge what most) r r' i i' w w' p p' l l' c e a d b = alike r r' i i' w w' p p' l l' c e a d b
 counted_reading X (Differs key) r r' i i' w w' p p' l l' c e a d b = alike r r' i i' w w' p p' l l' c e a d b
+counted_reading X (ScriptStopped stop) r r' i i' w w' p p' l l' c e a d b = alike r r' i i' w w' p p' l l' c e a d b
+counted_reading X (Loop path) r r' i i' w w' p p' l l' c e a d b = alike r r' i i' w w' p p' l l' c e a d b
+counted_reading X (NoMatch pattern) r r' i i' w w' p p' l l' c e a d b = alike r r' i i' w w' p p' l l' c e a d b
 counted_reading X Memory r r' i i' w w' p p' l l' c e a d b = alike r r' i i' w w' p p' l l' c e a d b
 
 -- a step that only reads standard input
@@ -35,6 +38,9 @@ counted_input X (BadScript fault) r r' i i' w w' p p' l l' e c a d b = alike r r
 counted_input X (OutOfProfile what) r r' i i' w w' p p' l l' e c a d b = alike r r' i i' w w' p p' l l' e c a d b
 counted_input X (TooLarge what most) r r' i i' w w' p p' l l' e c a d b = alike r r' i i' w w' p p' l l' e c a d b
 counted_input X (Differs key) r r' i i' w w' p p' l l' e c a d b = alike r r' i i' w w' p p' l l' e c a d b
+counted_input X (ScriptStopped stop) r r' i i' w w' p p' l l' e c a d b = alike r r' i i' w w' p p' l l' e c a d b
+counted_input X (Loop path) r r' i i' w w' p p' l l' e c a d b = alike r r' i i' w w' p p' l l' e c a d b
+counted_input X (NoMatch pattern) r r' i i' w w' p p' l l' e c a d b = alike r r' i i' w w' p p' l l' e c a d b
 counted_input X Memory r r' i i' w w' p p' l l' e c a d b = alike r r' i i' w w' p p' l l' e c a d b
 
 -- a step that writes files and to standard error
@@ -53,6 +59,9 @@ counted_writing X (BadScript fault) r r' i w w' p l l' late e c = alike r r' i i
 counted_writing X (OutOfProfile what) r r' i w w' p l l' late e c = alike r r' i i w w' p p l l' e refl c.0 refl c.1
 counted_writing X (TooLarge what most) r r' i w w' p l l' late e c = alike r r' i i w w' p p l l' e refl c.0 refl c.1
 counted_writing X (Differs key) r r' i w w' p l l' late e c = alike r r' i i w w' p p l l' e refl c.0 refl c.1
+counted_writing X (ScriptStopped stop) r r' i w w' p l l' late e c = alike r r' i i w w' p p l l' e refl c.0 refl c.1
+counted_writing X (Loop path) r r' i w w' p l l' late e c = alike r r' i i w w' p p l l' e refl c.0 refl c.1
+counted_writing X (NoMatch pattern) r r' i w w' p l l' late e c = alike r r' i i w w' p p l l' e refl c.0 refl c.1
 counted_writing X Memory r r' i w w' p l l' late e c = alike r r' i i w w' p p l l' e refl c.0 refl c.1
 
 -- the same of the step itself
@@ -80,6 +89,9 @@ fell (BadScript fault) a b c = rw c (record { reads = omega arith; inputs = omeg
 fell (OutOfProfile what) a b c = rw c (record { reads = omega arith; inputs = omega arith; writes = omega arith; prints = omega arith; lines = omega arith })
 fell (TooLarge what most) a b c = rw c (record { reads = omega arith; inputs = omega arith; writes = omega arith; prints = omega arith; lines = omega arith })
 fell (Differs key) a b c = rw c (record { reads = omega arith; inputs = omega arith; writes = omega arith; prints = omega arith; lines = omega arith })
+fell (ScriptStopped stop) a b c = rw c (record { reads = omega arith; inputs = omega arith; writes = omega arith; prints = omega arith; lines = omega arith })
+fell (Loop path) a b c = rw c (record { reads = omega arith; inputs = omega arith; writes = omega arith; prints = omega arith; lines = omega arith })
+fell (NoMatch pattern) a b c = rw c (record { reads = omega arith; inputs = omega arith; writes = omega arith; prints = omega arith; lines = omega arith })
 fell Memory a b c = rw c (record { reads = omega arith; inputs = omega arith; writes = omega arith; prints = omega arith; lines = omega arith })
 
 -- its line was told, and no count rose by that

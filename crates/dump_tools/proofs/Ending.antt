@@ -1,5 +1,5 @@
 -- What stands once a plan is carried out.
-use Rattle.std.proofs.Common.{◌≡◌, List, [], map, Option, option_map, Ok, refl, sym, subst, ◌∙◌, inl, inr}
+use Rattle.std.proofs.Common.{◌≡◌, List, [], map, Option, option_map, Result, Ok, Err, IfOk, refl, sym, subst, ◌∙◌, inl, inr}
 use Rattle.std.specs.List.Sorted.{IsPermutation}
 use Rattle.dump_ports.specs.Tree.{Tree}
 use Rattle.cat_rows.specs.declared.table.SysTable.TheVariants.{PgNamespace}
@@ -11,9 +11,10 @@ use Rattle.schema_folders.specs.Run.{catalogue_after, Grown}
 use Rattle.schema_folders.specs.Folder.{cells_of_row, folder_saved, schemas_alone, Holds, IsNamespaces}
 use Rattle.openings.specs.Openings.{export_named}
 use Rattle.saved_folders.specs.Exports.{WithTexts}
+use Rattle.script_runs.specs.Stopping.{ending}
 use Rattle.script_runs.specs.Writing.{IsUnwritten, StandFor}
 use Rattle.tool_words.specs.declared.outcome.Outcome.{Outcome}
-use Rattle.tool_words.specs.declared.outcome.Outcome.TheVariants.{Done, Usage, ReadFault, WriteFault, Missing, BadExport, BadScript, OutOfProfile, TooLarge, Differs, Memory}
+use Rattle.tool_words.specs.declared.outcome.Outcome.TheVariants.{Done, Usage, ReadFault, WriteFault, Missing, BadExport, BadScript, OutOfProfile, TooLarge, Differs, ScriptStopped, Loop, NoMatch, Memory}
 use Rattle.dump_tools.specs.Due.{Application, Comes, Applied, Running, Runs, Leaves, IsAnswerDue}
 use Rattle.schema_folders.proofs.Named.{named-IsPermutation}
 use Rattle.schema_folders.proofs.Standing.{folder_holds}
@@ -58,8 +59,17 @@ unmade_due (BadScript fault) plan h = elim h [ ]
 unmade_due (OutOfProfile what) plan h = inr (inr (h, (plan, refl)))
 unmade_due (TooLarge what most) plan h = inr (inr (plan, refl))
 unmade_due (Differs key) plan h = elim h [ ]
+unmade_due (ScriptStopped stop) plan h = elim h [ ]
+unmade_due (Loop path) plan h = elim h [ ]
+unmade_due (NoMatch pattern) plan h = elim h [ ]
 unmade_due Memory plan h = inl tt
 
 -- texts of a folder that stands for what the statements make
-pub leaves : (plan : Running) (made : WithTexts) → StandFor (catalogue_after plan.boot plan.statements (export_named plan.opening)) made → Leaves plan made.texts
+pub leaves : (plan : Running) (made : WithTexts) → StandFor (ending plan.stop plan.boot plan.statements (export_named plan.opening)).left made → Leaves plan made.texts
 leaves plan made stands = record { export = made.export; same = stands.same; reads = stands.reads }
+
+-- ---- an answer of which two things are known
+
+pub both_ok : {X Y : Type 0} (r : Result X Y) (P Q : X → Type 0) → IfOk r P → IfOk r Q → IfOk r (λ x. P x × Q x)
+both_ok (Ok x) P Q p q = (p, q)
+both_ok (Err y) P Q p q = tt

@@ -19,7 +19,7 @@ use Rattle.tool_words.specs.declared.words.Asked.{Asked}
 use Rattle.tool_words.specs.Answers.{◌>>=◌}
 use Rattle.tool_words.specs.Words.{words_asked}
 use Rattle.saved_folders.specs.Folders.{Texts, files_of}
-use Rattle.dump_tools.specs.Due.{asked_due, due, Plan, Applies, Running, Runs, Leaves, report_of_run, Prints, Compares, Application, Applied, IsCarriedOut, WasDue, report_of}
+use Rattle.dump_tools.specs.Due.{asked_due, due, Plan, Applies, Running, Runs, Leaves, report_of_run, answer_of, answer_of_run, Prints, Compares, Application, Applied, IsCarriedOut, WasDue, report_of}
 use Rattle.dump_tools.specs.Outputs.{World, world, Output, Writes, Tells, all_performed, IsPart, IsCut, CutShort, stores}
 use Rattle.dump_tools.specs.Runs.{Run, run_of, IsApplied, MayCome, HasCut}
 use Rattle.dump_tools.proofs.Ending.{made_of, holds}
@@ -109,22 +109,22 @@ due_asked words moment tree input asked e = ap (λ (r : Result Asked Outcome). r
 
 -- ---- a run that stores files and tells a report
 
-abbrev pub stored_run : List File → Bytes → Run
-stored_run files told = run_of (map stores files ++ Tells told ∷ []) Done
+abbrev pub stored_run : List File → Bytes → Outcome → Run
+stored_run files told answer = run_of (map stores files ++ Tells told ∷ []) answer
 
 -- the storing of the files ended on its way
-pub cut_in_files : (teller : Teller) (due : Result Plan Outcome) (files : List File) (report : Bytes) → MayCome teller due (stored_run files report) → (before after : Option Tree) (left printed told : Option Bytes) → PartSaved files before after → HasCut None teller due (world before left printed told) (world after left printed told)
-cut_in_files teller due files report may before after left printed told s = record {
+pub cut_in_files : (teller : Teller) (due : Result Plan Outcome) (files : List File) (report : Bytes) (answer : Outcome) → MayCome teller due (stored_run files report answer) → (before after : Option Tree) (left printed told : Option Bytes) → PartSaved files before after → HasCut None teller due (world before left printed told) (world after left printed told)
+cut_in_files teller due files report answer may before after left printed told s = record {
   outputs = map stores files ++ Tells report ∷ [];
-  of_run = inr (stored_run files report, alone teller due (stored_run files report) may, refl);
+  of_run = inr (stored_run files report answer, alone teller due (stored_run files report answer) may, refl);
   cut = folder_cut files (Tells report ∷ []) before after left printed told s;
 }
 
 -- the telling of the report did
-pub cut_in_told : (teller : Teller) (due : Result Plan Outcome) (files : List File) (report : Bytes) → MayCome teller due (stored_run files report) → (before after : Option Tree) (left printed told told_after : Option Bytes) → after ≡ option_map (saved files) before → AppendsPart report told told_after → HasCut None teller due (world before left printed told) (world after left printed told_after)
-cut_in_told teller due files report may before after left printed told told_after whole p = record {
+pub cut_in_told : (teller : Teller) (due : Result Plan Outcome) (files : List File) (report : Bytes) (answer : Outcome) → MayCome teller due (stored_run files report answer) → (before after : Option Tree) (left printed told told_after : Option Bytes) → after ≡ option_map (saved files) before → AppendsPart report told told_after → HasCut None teller due (world before left printed told) (world after left printed told_after)
+cut_in_told teller due files report answer may before after left printed told told_after whole p = record {
   outputs = map stores files ++ Tells report ∷ [];
-  of_run = inr (stored_run files report, alone teller due (stored_run files report) may, refl);
+  of_run = inr (stored_run files report answer, alone teller due (stored_run files report answer) may, refl);
   cut = record {
     whole = map stores files;
     later = Tells report ∷ [];
@@ -136,10 +136,10 @@ cut_in_told teller due files report may before after left printed told told_afte
 }
 
 -- all of them were stored, and the report told
-pub came_stored : (teller : Teller) (due : Result Plan Outcome) (files : List File) (report : Bytes) → MayCome teller due (stored_run files report) → (before after : Option Tree) (left out_before out_after told_before told_after : Option Bytes)
-    → after ≡ option_map (saved files) before → out_after ≡ out_before → Appends report told_before told_after → Came teller due Done (world before left out_before told_before) (world after left out_after told_after)
-came_stored teller due files report may before after left out_before out_after told_before told_after whole kept told = record {
-  run = stored_run files report;
+pub came_stored : (teller : Teller) (due : Result Plan Outcome) (files : List File) (report : Bytes) (answer : Outcome) → MayCome teller due (stored_run files report answer) → (before after : Option Tree) (left out_before out_after told_before told_after : Option Bytes)
+    → after ≡ option_map (saved files) before → out_after ≡ out_before → Appends report told_before told_after → Came teller due answer (world before left out_before told_before) (world after left out_after told_after)
+came_stored teller due files report answer may before after left out_before out_after told_before told_after whole kept told = record {
+  run = stored_run files report answer;
   may = may;
   answers = refl;
   put = same_world after (option_map (saved files) before) left out_after out_before told_after (option_map (λ told. told ++ report) told_before) whole kept told
@@ -147,11 +147,11 @@ came_stored teller due files report may before after left out_before out_after t
 }
 
 -- the run in which a script is applied
-pub may_apply : (plan : Application) (schemas : List SchemaRow) (text : Bytes) → Grown plan.rows schemas → named schemas ≡ catalogue_after boot plan.statements (named plan.rows) → IsNamespaces schemas text → IsApplied plan (stored_run (files_written plan.folder text) (report_of plan))
+pub may_apply : (plan : Application) (schemas : List SchemaRow) (text : Bytes) → Grown plan.rows schemas → named schemas ≡ catalogue_after boot plan.statements (named plan.rows) → IsNamespaces schemas text → IsApplied plan (stored_run (files_written plan.folder text) (report_of plan) Done)
 may_apply plan schemas text g same n = record { text = text; comes = made_of plan schemas text g same n; holds = holds plan schemas text n; is = refl }
 
 -- the run of a script on an opening
-pub may_run : (teller : Teller) (plan : Running) (texts : Texts) → Leaves plan texts → MayCome teller (Ok (Runs plan)) (stored_run (files_of plan.folder texts) (report_of_run plan))
+pub may_run : (teller : Teller) (plan : Running) (texts : Texts) → Leaves plan texts → MayCome teller (Ok (Runs plan)) (stored_run (files_of plan.folder texts) (report_of_run plan) (answer_of_run plan))
 may_run teller plan texts leaves = inl (record { texts = texts; leaves = leaves; is = refl })
 
 -- the printing of a text ended on its way
@@ -165,13 +165,15 @@ cut_in_text teller due text tree tree' left printed printed_after told d e p = r
 -- ---- a run that has ended
 
 -- a plan that was due was carried out
-pub ended : (teller : Teller) (due : Result Plan Outcome) (before after : Option Tree) (left out_before out_after told_before told_after : Option Bytes) → WasDue due before after out_before out_after told_before told_after → Came teller due Done (world before left out_before told_before) (world after left out_after told_after)
-ended teller due before after left out_before out_after told_before told_after w = subst (λ d. Came teller d Done (world before left out_before told_before) (world after left out_after told_after)) (sym w.is_due) (of w.plan w.carried)
+pub ended : (teller : Teller) (due : Result Plan Outcome) (answer : Outcome) (before after : Option Tree) (left out_before out_after told_before told_after : Option Bytes) → WasDue due answer before after out_before out_after told_before told_after → Came teller due answer (world before left out_before told_before) (world after left out_after told_after)
+ended teller due answer before after left out_before out_after told_before told_after w =
+    subst (λ d. Came teller d answer (world before left out_before told_before) (world after left out_after told_after)) (sym w.is_due)
+    (subst (λ a. Came teller (Ok w.plan) a (world before left out_before told_before) (world after left out_after told_after)) (sym w.answers) (of w.plan w.carried))
   where
-    of : (plan : Plan) → IsCarriedOut plan before after out_before out_after told_before told_after → Came teller (Ok plan) Done (world before left out_before told_before) (world after left out_after told_after)
-    of (Applies plan) carried = came_stored teller (Ok (Applies plan)) (files_written plan.folder carried.0.text) (report_of plan) (record { text = carried.0.text; comes = carried.0.result; holds = carried.0.holds; is = refl })
+    of : (plan : Plan) → IsCarriedOut plan before after out_before out_after told_before told_after → Came teller (Ok plan) (answer_of plan) (world before left out_before told_before) (world after left out_after told_after)
+    of (Applies plan) carried = came_stored teller (Ok (Applies plan)) (files_written plan.folder carried.0.text) (report_of plan) Done (record { text = carried.0.text; comes = carried.0.result; holds = carried.0.holds; is = refl })
         before after left out_before out_after told_before told_after carried.0.saved carried.1 carried.2
-    of (Runs plan) carried = came_stored teller (Ok (Runs plan)) (files_of plan.folder carried.0.texts) (report_of_run plan) (may_run teller plan carried.0.texts carried.0.leaves)
+    of (Runs plan) carried = came_stored teller (Ok (Runs plan)) (files_of plan.folder carried.0.texts) (report_of_run plan) (answer_of_run plan) (may_run teller plan carried.0.texts carried.0.leaves)
         before after left out_before out_after told_before told_after carried.0.saved carried.1 carried.2
     of (Prints text) carried = record {
       run = run_of (Writes text ∷ []) Done;

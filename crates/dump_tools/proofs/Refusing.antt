@@ -30,7 +30,8 @@ use Rattle.tool_words.specs.declared.words.Asked.{Asked}
 use Rattle.tool_words.specs.declared.words.Asked.TheVariants.{Psql, Dump, Compare}
 use Rattle.tool_words.specs.declared.words.ScriptSource.{ScriptSource}
 use Rattle.tool_words.specs.declared.words.ScriptSource.TheVariants.{File, Input}
-use Rattle.tool_words.specs.Words.{asked_of, built, asked_by, words_asked}
+use Rattle.tool_words.specs.declared.words.DumpAsked.{DumpAsked}
+use Rattle.tool_words.specs.Words.{is_whole_script, asked_of, built, asked_by, words_asked}
 use Rattle.schema_folders.specs.Naming.{boot}
 use Rattle.dump_ports.specs.declared.moment.Moment.{Moment}
 use Rattle.toc_entry.specs.declared.entry.Entry.{Entry}
@@ -46,7 +47,7 @@ use Rattle.schema_folders.specs.Folder.{is_bare, schemas_of, opening_in, opening
 use Rattle.tool_words.specs.Outcomes.{fault_outcome}
 use Rattle.exports.specs.Cells.{catalogue_with}
 use Rattle.exports.specs.Exports.{Exported, told, well_formed, have_rows, export_with, export_of}
-use Rattle.dump_tools.specs.Due.{script_limit, input_of, source_of, scripted, script_read, schemas_for, runs_as, plan_with, plan_for, text_due, psql_due, database, dump_row, counted, dump_due, second_due, compare_due, asked_due, due}
+use Rattle.dump_tools.specs.Due.{Plan, script_limit, input_of, source_of, scripted, script_read, schemas_for, runs_as, plan_with, plan_for, text_due, psql_due, database, dump_row, counted, whole_due, dump_due, second_due, compare_due, asked_due, due}
 
 same : (A B : Type 0) (o : Outcome) → ◌≡◌ {A = Result B Outcome} (Err o) (Err Done) → ◌≡◌ {A = Result A Outcome} (Err o) (Err Done)
 same A B o e = ap Err (inner B o e)
@@ -135,16 +136,16 @@ folder_never : (folder : Bytes) (tree : Tree) → opened_folder folder tree ≡ 
 unfolding opened_folder
 folder_never folder tree e = bind_never (export_of folder tree) opened (export_never folder tree) opened_never e
 
-runs_never : (folder : Bytes) (statements : List Located) (export : Exported) (boot : Option Bytes) → runs_as folder statements export boot ≡ Err Done → ⊥
-runs_never folder statements export None e = cc
-runs_never folder statements export (Some role) e = cc
+runs_never : (folder : Bytes) (stop : Bool) (statements : List Located) (export : Exported) (boot : Option Bytes) → runs_as folder stop statements export boot ≡ Err Done → ⊥
+runs_never folder stop statements export None e = cc
+runs_never folder stop statements export (Some role) e = cc
 
-plan_never : (folder : Bytes) (statements : List Located) (export : Exported) → plan_for folder statements export ≡ Err Done → ⊥
+plan_never : (folder : Bytes) (stop : Bool) (statements : List Located) (export : Exported) → plan_for folder stop statements export ≡ Err Done → ⊥
 unfolding plan_for
-plan_never folder statements export e = by (schemas_for statements export.cat) e
+plan_never folder stop statements export e = by (schemas_for stop statements export.cat) e
   where
-    by : (schemas : Option (List SchemaRow)) → plan_with folder statements export schemas ≡ Err Done → ⊥
-    by None h = bind_never (opened export) _ (opened_never export) (λ opening h. runs_never folder statements opening (boot_role opening.cat) h) h
+    by : (schemas : Option (List SchemaRow)) → plan_with folder stop statements export schemas ≡ Err Done → ⊥
+    by None h = bind_never (opened export) _ (opened_never export) (λ opening h. runs_never folder stop statements opening (boot_role opening.cat) h) h
     by (Some rows) h = cc
 
 input_never : (what : Limit) (limit : ℕ) (input : Bytes) → input_of what limit input ≡ Err Done → ⊥
@@ -159,26 +160,34 @@ source_never : (script : ScriptSource) (tree : Tree) (input : Bytes) → source_
 source_never (File name) tree input e = file_never Script script_limit name tree e
 source_never Input tree input e = input_never Script script_limit input e
 
-text_never : (folder text : Bytes) (tree : Tree) → text_due folder text tree ≡ Err Done → ⊥
+text_never : (folder : Bytes) (stop : Bool) (text : Bytes) (tree : Tree) → text_due folder stop text tree ≡ Err Done → ⊥
 unfolding text_due
-text_never folder text tree e =
+text_never folder stop text tree e =
     bind_never (script_read text) _ (script_never text)
     (λ statements. bind_never (export_of folder tree) _ (export_never folder tree)
-    (λ export h. plan_never folder statements export h)) e
+    (λ export h. plan_never folder stop statements export h)) e
 
-psql_never : (folder : Bytes) (script : ScriptSource) (tree : Tree) (input : Bytes) → psql_due folder script tree input ≡ Err Done → ⊥
+psql_never : (folder : Bytes) (script : ScriptSource) (stop : Bool) (tree : Tree) (input : Bytes) → psql_due folder script stop tree input ≡ Err Done → ⊥
 unfolding psql_due
-psql_never folder script tree input e = bind_never (source_of script tree input) (λ text. text_due folder text tree) (source_never script tree input) (λ text h. text_never folder text tree h) e
+psql_never folder script stop tree input e = bind_never (source_of script tree input) (λ text. text_due folder stop text tree) (source_never script tree input) (λ text h. text_never folder stop text tree h) e
 
 counted_never : (script : Bytes) (toc : Result (List Entry) ℕ) → counted script toc ≡ Err Done → ⊥
 counted_never script (Ok entries) e = cc
 counted_never script (Err n) e = cc
 
-dump_never : (folder : Bytes) (moment : Moment) (tree : Tree) → dump_due folder moment tree ≡ Err Done → ⊥
-unfolding dump_due
-dump_never folder moment tree e =
+whole_never : (folder : Bytes) (moment : Moment) (tree : Tree) → whole_due folder moment tree ≡ Err Done → ⊥
+unfolding whole_due
+whole_never folder moment tree e =
     bind_never (opening_of folder tree) _ (opening_never folder tree)
     (λ rows. counted_never (dumped_script database boot moment (map dump_row rows)) (toc_due database boot (map dump_row rows))) e
+
+dump_never : (asked : DumpAsked) (moment : Moment) (tree : Tree) → dump_due asked moment tree ≡ Err Done → ⊥
+unfolding dump_due
+dump_never asked moment tree e = by (is_whole_script asked) e
+  where
+    by : (b : Bool) → cond {A = Result Plan Outcome} b (whole_due asked.folder moment tree) (Err (OutOfProfile what.Unbuilt)) ≡ Err Done → ⊥
+    by true h = whole_never asked.folder moment tree h
+    by false h = cc
 
 second_never : (one : Exported) (second : Bytes) (tree : Tree) → second_due one second tree ≡ Err Done → ⊥
 unfolding second_due
@@ -190,8 +199,8 @@ compare_never first second tree e =
     bind_never (opened_folder first tree) (λ one. second_due one second tree) (folder_never first tree) (λ one h. second_never one second tree h) e
 
 asked_never : (asked : Asked) (moment : Moment) (tree : Tree) (input : Bytes) → asked_due asked moment tree input ≡ Err Done → ⊥
-asked_never (Psql folder script) moment tree input e = psql_never folder script tree input e
-asked_never (Dump folder) moment tree input e = dump_never folder moment tree e
+asked_never (Psql folder script stop) moment tree input e = psql_never folder script stop tree input e
+asked_never (Dump asked) moment tree input e = dump_never asked moment tree e
 asked_never (Compare first second) moment tree input e = compare_never first second tree e
 
 built_never : (asked : Option Asked) → built asked ≡ Err Done → ⊥

@@ -1,5 +1,5 @@
 -- The text of psql's script, wherever it is read, and what is due once it is.
-use Rattle.std.proofs.Common.{◌≡◌, ℕ, zero, suc, ◌+◌, ◌≤◌, List, [], ◌∷◌, length, take, drop, Option, Some, option_map, Result, Ok, Err, IfOk, cond, refl, sym, ap, subst, ◌∙◌}
+use Rattle.std.proofs.Common.{◌≡◌, Bool, ℕ, zero, suc, ◌+◌, ◌≤◌, List, [], ◌∷◌, length, take, drop, Option, Some, option_map, Result, Ok, Err, IfOk, cond, refl, sym, ap, subst, ◌∙◌}
 use Rattle.std.proofs.lemmas.List.{take-append-drop}
 use Rattle.std.proofs.lemmas.Bool.{le-leb}
 use Rattle.dump_ports.specs.Tree.{Tree}
@@ -7,7 +7,7 @@ use Rattle.cat_model.specs.Values.{Bytes}
 use Rattle.tool_words.specs.declared.outcome.Limit.{Limit}
 use Rattle.tool_words.specs.declared.outcome.Limit.TheVariants.{Script}
 use Rattle.tool_words.specs.declared.outcome.Outcome.{Outcome}
-use Rattle.tool_words.specs.declared.outcome.Outcome.TheVariants.{Done, Usage, ReadFault, WriteFault, Missing, BadExport, BadScript, OutOfProfile, TooLarge, Differs, Memory}
+use Rattle.tool_words.specs.declared.outcome.Outcome.TheVariants.{Done, Usage, ReadFault, WriteFault, Missing, BadExport, BadScript, OutOfProfile, TooLarge, Differs, ScriptStopped, Loop, NoMatch, Memory}
 use Rattle.tool_words.specs.declared.words.Asked.{Asked}
 use Rattle.tool_words.specs.declared.words.ScriptSource.{ScriptSource}
 use Rattle.tool_words.specs.declared.words.ScriptSource.TheVariants.{File, Input}
@@ -53,6 +53,9 @@ is_due (BadScript fault) due late d = d
 is_due (OutOfProfile what) due late d = d
 is_due (TooLarge what n) due late d = d
 is_due (Differs key) due late d = d
+is_due (ScriptStopped stop) due late d = d
+is_due (Loop path) due late d = d
+is_due (NoMatch pattern) due late d = d
 is_due Memory due late d = elim (late tt) [ ]
 
 within : (what : Limit) (limit : ℕ) (input : Bytes) → length input ≤ limit → input_of what limit input ≡ Ok input
@@ -118,18 +121,19 @@ step_input {X = X} (Err o) a i j w p l c = counted_input X o a a i j w w p p l l
 
 -- ---- what is due once the text is read
 
-pub psql_read : (folder : Bytes) (script : ScriptSource) (tree : Tree) (input text : Bytes) → source_of script tree input ≡ Ok text → psql_due folder script tree input ≡ text_due folder text tree
+pub psql_read : (folder : Bytes) (script : ScriptSource) (stop : Bool) (tree : Tree) (input text : Bytes) → source_of script tree input ≡ Ok text → psql_due folder script stop tree input ≡ text_due folder stop text tree
 unfolding psql_due
-psql_read folder script tree input text e = ap (λ (r : Result Bytes Outcome). r >>= λ text. text_due folder text tree) e
+psql_read folder script stop tree input text e = ap (λ (r : Result Bytes Outcome). r >>= λ text. text_due folder stop text tree) e
 
-pub psql_refused : (outcome : Outcome) (folder : Bytes) (script : ScriptSource) (tree : Tree) (input : Bytes) → IsDue outcome (source_of script tree input) → IsDue outcome (psql_due folder script tree input)
+pub psql_refused : (outcome : Outcome) (folder : Bytes) (script : ScriptSource) (stop : Bool) (tree : Tree) (input : Bytes) → IsDue outcome (source_of script tree input) → IsDue outcome (psql_due folder script stop tree input)
 unfolding psql_due
-psql_refused outcome folder script tree input d =
-    due_map outcome (source_of script tree input) (source_of script tree input >>= λ text. text_due folder text tree) (λ o e. ap (λ (r : Result Bytes Outcome). r >>= λ text. text_due folder text tree) e) d
+psql_refused outcome folder script stop tree input d =
+    due_map outcome (source_of script tree input) (source_of script tree input >>= λ text. text_due folder stop text tree) (λ o e. ap (λ (r : Result Bytes Outcome). r >>= λ text. text_due folder stop text tree) e) d
 
-pub psql_done : (folder : Bytes) (script : ScriptSource) (tree : Tree) (input text : Bytes) (start between after : Option Tree) (printed told told' : Option Bytes) → source_of script tree input ≡ Ok text → between ≡ start → WasDue (text_due folder text tree) between after printed printed told told' → WasDue (psql_due folder script tree input) start after printed printed told told'
-psql_done folder script tree input text start between after printed told told' e k w = record {
+pub psql_done : (folder : Bytes) (script : ScriptSource) (stop : Bool) (tree : Tree) (input text : Bytes) (answer : Outcome) (start between after : Option Tree) (printed told told' : Option Bytes) → source_of script tree input ≡ Ok text → between ≡ start → WasDue (text_due folder stop text tree) answer between after printed printed told told' → WasDue (psql_due folder script stop tree input) answer start after printed printed told told'
+psql_done folder script stop tree input text answer start between after printed told told' e k w = record {
   plan = w.plan;
-  is_due = psql_read folder script tree input text e ∙ w.is_due;
+  is_due = psql_read folder script stop tree input text e ∙ w.is_due;
+  answers = w.answers;
   carried = subst (λ (s : Option Tree). IsCarriedOut w.plan s after printed printed told told') k w.carried;
 }

@@ -5,13 +5,13 @@ use Rattle.dump_ports.specs.Faults.{HasRisen}
 use Rattle.dump_ports.specs.declared.moment.Moment.{Moment}
 use Rattle.cat_model.specs.Values.{Bytes}
 use Rattle.tool_words.specs.declared.outcome.Outcome.{Outcome}
-use Rattle.tool_words.specs.declared.outcome.Outcome.TheVariants.{Done, Usage, ReadFault, WriteFault, Missing, BadExport, BadScript, OutOfProfile, TooLarge, Differs, Memory}
+use Rattle.tool_words.specs.declared.outcome.Outcome.TheVariants.{Done, Usage, ReadFault, WriteFault, Missing, BadExport, BadScript, OutOfProfile, TooLarge, Differs, ScriptStopped, Loop, NoMatch, Memory}
 use Rattle.tool_words.specs.declared.words.Teller.{Teller}
 use Rattle.tool_words.specs.Words.{teller_of}
 use Rattle.tool_words.specs.Answers.{IsRefusal, IsTold}
 use Rattle.tool_words.specs.Lines.{Appends, AppendsPart}
 use Rattle.tool_words.specs.Messages.{outcome_line}
-use Rattle.dump_tools.specs.Due.{Plan, IsAnswerDue, IsDifference, IsToRun, IsUnmade, Counts, NoneRose, Counted, due}
+use Rattle.dump_tools.specs.Due.{Plan, IsFinal, IsAnswerDue, IsDifference, IsToRun, IsUnmade, Counts, NoneRose, Counted, due}
 use Rattle.dump_tools.specs.Outputs.{World, world, Tells}
 use Rattle.dump_tools.specs.Runs.{told_run, IsUnmadeAnswer, MayCome, HasCut, IsEarly, HasEndedEarly, read_by, Ended, Answered}
 use Rattle.dump_tools.proofs.Taking.{Begun, alone, behind_ended, behind_cut}
@@ -34,6 +34,9 @@ may_differ teller d (BadScript fault, h) = elim h [ ]
 may_differ teller d (OutOfProfile what, h) = elim h [ ]
 may_differ teller d (TooLarge what most, h) = elim h [ ]
 may_differ teller d (Differs key, h) = subst (λ r. MayCome teller r (told_run teller (Differs key))) (sym h.is_due) (inr (key, h.least, refl))
+may_differ teller d (ScriptStopped stop, h) = elim h [ ]
+may_differ teller d (Loop path, h) = elim h [ ]
+may_differ teller d (NoMatch pattern, h) = elim h [ ]
 may_differ teller d (Memory, h) = elim h [ ]
 
 -- the line of what a script leaves and isn't written
@@ -51,6 +54,9 @@ may_stop teller d (BadScript fault, h) = elim h [ ]
 may_stop teller d (OutOfProfile what, h) = may_be_unmade teller d (OutOfProfile what) h.0 h.1
 may_stop teller d (TooLarge what most, h) = may_be_unmade teller d (TooLarge what most) tt h
 may_stop teller d (Differs key, h) = elim h [ ]
+may_stop teller d (ScriptStopped stop, h) = elim h [ ]
+may_stop teller d (Loop path, h) = elim h [ ]
+may_stop teller d (NoMatch pattern, h) = elim h [ ]
 may_stop teller d (Memory, h) = elim h [ ]
 
 -- an answer that is due, by which the work didn't end on its way: its line may come
@@ -67,6 +73,9 @@ may_tell teller d (BadScript fault) n (inl e) = inr (may_refuse teller d (BadScr
 may_tell teller d (OutOfProfile what) n (inl e) = inr (may_refuse teller d (OutOfProfile what) e)
 may_tell teller d (TooLarge what most) n (inl e) = inr (may_refuse teller d (TooLarge what most) e)
 may_tell teller d (Differs key) n (inl e) = inr (may_refuse teller d (Differs key) e)
+may_tell teller d (ScriptStopped stop) n (inl e) = inr (may_refuse teller d (ScriptStopped stop) e)
+may_tell teller d (Loop path) n (inl e) = inr (may_refuse teller d (Loop path) e)
+may_tell teller d (NoMatch pattern) n (inl e) = inr (may_refuse teller d (NoMatch pattern) e)
 may_tell teller d Memory n (inl e) = inl tt
 
 -- such an answer is a refusal, before which nothing was put out
@@ -83,10 +92,13 @@ refuses d (BadScript fault) n h late = (tt, tt)
 refuses d (OutOfProfile what) n h late = (tt, tt)
 refuses d (TooLarge what most) n h late = (tt, tt)
 refuses d (Differs key) n h late = (tt, tt)
+refuses d (ScriptStopped stop) n h late = (tt, tt)
+refuses d (Loop path) n h late = (tt, tt)
+refuses d (NoMatch pattern) n h late = (tt, tt)
 refuses d Memory n h late = elim (late tt) [ ]
 
 -- by cases of the answer: what has ended, or was cut short, is what is answered
-as_answered : (answer : Outcome) (words : List Bytes) (moment : Moment) (tree : Tree) (input : Bytes) (before after : World) (lines lines_after : ℕ)
+pub as_answered : (answer : Outcome) (words : List Bytes) (moment : Moment) (tree : Tree) (input : Bytes) (before after : World) (lines lines_after : ℕ)
     → (IsEarly answer → HasEndedEarly (read_by words input) (teller_of words) (due words moment tree input) answer before after lines lines_after)
     → ((IsEarly answer → ⊥) → Ended words moment tree input answer before after)
     → Answered answer words moment tree input before after lines lines_after
@@ -100,6 +112,9 @@ as_answered (BadScript fault) words moment tree input before after lines lines_a
 as_answered (OutOfProfile what) words moment tree input before after lines lines_after e w = w (λ h. h)
 as_answered (TooLarge what most) words moment tree input before after lines lines_after e w = w (λ h. h)
 as_answered (Differs key) words moment tree input before after lines lines_after e w = w (λ h. h)
+as_answered (ScriptStopped stop) words moment tree input before after lines lines_after e w = w (λ h. h)
+as_answered (Loop path) words moment tree input before after lines lines_after e w = w (λ h. h)
+as_answered (NoMatch pattern) words moment tree input before after lines lines_after e w = w (λ h. h)
 as_answered Memory words moment tree input before after lines lines_after e w = e tt
 
 -- an answer whose line was told
@@ -177,7 +192,44 @@ untold_answer answer words moment tree input before files left printed told told
     is_early (OutOfProfile what) = inr (λ h. h)
     is_early (TooLarge what most) = inr (λ h. h)
     is_early (Differs key) = inr (λ h. h)
+    is_early (ScriptStopped stop) = inr (λ h. h)
+    is_early (Loop path) = inr (λ h. h)
+    is_early (NoMatch pattern) = inr (λ h. h)
     is_early Memory = inl tt
+
+-- an answer with which all was carried out isn't one by which the work ended on its way
+pub not_early : (answer : Outcome) → IsFinal answer → IsEarly answer → ⊥
+not_early Done f h = h
+not_early (Usage word kind) f h = h
+not_early ReadFault f h = f
+not_early WriteFault f h = f
+not_early (Missing name) f h = h
+not_early (BadExport file line kind) f h = h
+not_early (BadScript fault) f h = h
+not_early (OutOfProfile what) f h = h
+not_early (TooLarge what most) f h = h
+not_early (Differs key) f h = h
+not_early (ScriptStopped stop) f h = h
+not_early (Loop path) f h = h
+not_early (NoMatch pattern) f h = h
+not_early Memory f h = f
+
+-- no count rose by it
+pub counted_final : (answer : Outcome) (a b : Counts) → IsFinal answer → b ≡ a → Counted answer a b
+counted_final Done a b f e = e
+counted_final (Usage word kind) a b f e = e
+counted_final ReadFault a b f e = elim f [ ]
+counted_final WriteFault a b f e = elim f [ ]
+counted_final (Missing name) a b f e = e
+counted_final (BadExport file line kind) a b f e = e
+counted_final (BadScript fault) a b f e = e
+counted_final (OutOfProfile what) a b f e = e
+counted_final (TooLarge what most) a b f e = e
+counted_final (Differs key) a b f e = e
+counted_final (ScriptStopped stop) a b f e = e
+counted_final (Loop path) a b f e = e
+counted_final (NoMatch pattern) a b f e = e
+counted_final Memory a b f e = e
 
 -- where no count rose, what is answered has ended, or there was no memory
 pub completed : (answer : Outcome) (words : List Bytes) (moment : Moment) (tree : Tree) (input : Bytes) (before after : World) (lines lines_after : ℕ) (a b : Counts) → NoneRose a b → Counted answer a b → Answered answer words moment tree input before after lines lines_after → Ended words moment tree input answer before after ⊎ (answer ≡ Memory)
@@ -191,4 +243,7 @@ completed (BadScript fault) words moment tree input before after lines lines_aft
 completed (OutOfProfile what) words moment tree input before after lines lines_after a b none c h = inl h
 completed (TooLarge what most) words moment tree input before after lines lines_after a b none c h = inl h
 completed (Differs key) words moment tree input before after lines lines_after a b none c h = inl h
+completed (ScriptStopped stop) words moment tree input before after lines lines_after a b none c h = inl h
+completed (Loop path) words moment tree input before after lines lines_after a b none c h = inl h
+completed (NoMatch pattern) words moment tree input before after lines lines_after a b none c h = inl h
 completed Memory words moment tree input before after lines lines_after a b none c h = inr refl

@@ -1,6 +1,6 @@
 -- What is due for the words of a command line, the files and standard input: the first refusal of its steps in their
 -- order, or a plan that is carried out. And what the files hold once it is.
-use Rattle.std.specs.Prelude.{◌≡◌, true, ℕ, ◌+◌, ◌≤◌, List, [], ◌++◌, length, map, Option, Some, None, option_map, Result, Ok, Err, ◌⊎◌, codes, nat_le, if◌then◌else◌}
+use Rattle.std.specs.Prelude.{◌≡◌, Bool, true, ℕ, ◌+◌, ◌≤◌, List, [], ◌++◌, length, map, Option, Some, None, option_map, Result, Ok, Err, ◌⊎◌, codes, nat_le, not, ◌&&◌, if◌then◌else◌}
 use Rattle.std.specs.List.{All, IsDistinct}
 use Rattle.std.specs.List.Sorted.{IsPermutation}
 use Rattle.cat_rows.specs.declared.table.SysTable.TheVariants.{PgNamespace}
@@ -25,13 +25,15 @@ use Rattle.ddl_read.specs.declared.located.Located.{Located}
 use Rattle.tool_words.specs.declared.outcome.Limit.{Limit}
 use Rattle.tool_words.specs.declared.outcome.Limit.TheVariants.{Script, Entries}
 use Rattle.tool_words.specs.declared.outcome.Outcome.{Outcome}
-use Rattle.tool_words.specs.declared.outcome.Outcome.TheVariants.{ReadFault, WriteFault, BadScript, OutOfProfile, TooLarge, Differs, Memory}
+use Rattle.tool_words.specs.declared.outcome.Outcome.TheVariants.{Done, ReadFault, WriteFault, BadScript, OutOfProfile, TooLarge, Differs, ScriptStopped, Memory}
 use Rattle.tool_words.specs.Answers.{◌>>=◌, IsDue}
 use Rattle.tool_words.specs.declared.words.Asked.{Asked}
 use Rattle.tool_words.specs.declared.words.Asked.TheVariants.{Psql, Dump, Compare}
 use Rattle.tool_words.specs.declared.words.ScriptSource.{ScriptSource}
 use Rattle.tool_words.specs.declared.words.ScriptSource.TheVariants.{File, Input}
-use Rattle.tool_words.specs.Words.{words_asked}
+use Rattle.tool_words.specs.declared.words.DumpAsked.{DumpAsked}
+use Rattle.tool_words.specs.Words.{is_whole_script, words_asked}
+use Rattle.script_runs.specs.Stopping.{ending, told}
 use Rattle.dump_ports.specs.declared.moment.Moment.{Moment}
 use Rattle.toc_entry.specs.declared.entry.Entry.{Entry}
 use Rattle.dump_schemas.specs.declared.rows.SchemaRow.{SchemaRow as DumpRow}
@@ -48,7 +50,7 @@ use Rattle.dump_tools.specs.declared.psql.ScriptWork.{ScriptWork}
 use Rattle.schema_folders.specs.Folder.{opening_in, opening_of, cells_of_row, schemas_alone, Holds, folder_saved}
 use Rattle.tool_words.specs.Lines.{Appends}
 use Rattle.schema_folders.specs.Naming.{boot, named}
-use Rattle.tool_words.specs.Messages.{report}
+use Rattle.tool_words.specs.Messages.{Refusal, report}
 use Rattle.schema_folders.specs.Run.{catalogue_after, refusals, IsUsers}
 
 -- a script of schemas, to apply to a folder whose only objects they are
@@ -57,10 +59,12 @@ pub record Application : Type 0 where
   pub statements : List Located
   pub rows : List SchemaRow
 
--- any other script, to run on an opening; what it creates belongs to this role
+-- any other script, to run on an opening, to its end or to the first statement that is refused; what it creates belongs to
+-- this role
 pub record Running : Type 0 where
   pub folder : Bytes
   pub boot : Bytes
+  pub stop : Bool
   pub statements : List Located
   pub opening : Exported
 
@@ -96,38 +100,38 @@ scripted (Ok statements) = Ok statements
 unfoldable pub script_read : Bytes → Result (List Located) Outcome
 script_read text = scripted (statements_of text)
 
--- the schemas of a catalogue, where they are its only objects and the statements are all of schemas
-abbrev pub schemas_for : List Located → Catalogue → Option (List SchemaRow)
-schemas_for statements cat = if are_taken statements then result_ok (opening_in cat) else None
+-- the schemas of a catalogue, where they are its only objects, and the statements are all of schemas and run to their end
+abbrev pub schemas_for : Bool → List Located → Catalogue → Option (List SchemaRow)
+schemas_for stop statements cat = if not stop && are_taken statements then result_ok (opening_in cat) else None
 
-abbrev pub runs_as : Bytes → List Located → Exported → Option Bytes → Result Plan Outcome
-runs_as folder statements export None = Err (OutOfProfile Unbuilt)
-runs_as folder statements export (Some role) = Ok (Runs (record { folder = folder; boot = role; statements = statements; opening = export }))
+abbrev pub runs_as : Bytes → Bool → List Located → Exported → Option Bytes → Result Plan Outcome
+runs_as folder stop statements export None = Err (OutOfProfile Unbuilt)
+runs_as folder stop statements export (Some role) = Ok (Runs (record { folder = folder; boot = role; stop = stop; statements = statements; opening = export }))
 
 -- a script to run on an export: the rows of each table have to meet it
-abbrev pub running : Bytes → List Located → Exported → Result Plan Outcome
-running folder statements export = opened export >>= λ opening. runs_as folder statements opening (boot_role opening.cat)
+abbrev pub running : Bytes → Bool → List Located → Exported → Result Plan Outcome
+running folder stop statements export = opened export >>= λ opening. runs_as folder stop statements opening (boot_role opening.cat)
 
-abbrev pub plan_with : Bytes → List Located → Exported → Option (List SchemaRow) → Result Plan Outcome
-plan_with folder statements export None = running folder statements export
-plan_with folder statements export (Some rows) = Ok (Applies (record { folder = folder; statements = statements; rows = rows }))
+abbrev pub plan_with : Bytes → Bool → List Located → Exported → Option (List SchemaRow) → Result Plan Outcome
+plan_with folder stop statements export None = running folder stop statements export
+plan_with folder stop statements export (Some rows) = Ok (Applies (record { folder = folder; statements = statements; rows = rows }))
 
 -- what psql does with a script's statements and a folder's export
-unfoldable pub plan_for : Bytes → List Located → Exported → Result Plan Outcome
-plan_for folder statements export = plan_with folder statements export (schemas_for statements export.cat)
+unfoldable pub plan_for : Bytes → Bool → List Located → Exported → Result Plan Outcome
+plan_for folder stop statements export = plan_with folder stop statements export (schemas_for stop statements export.cat)
 
 -- once the text of the script is read: its statements, then the folder
-unfoldable pub text_due : Bytes → Bytes → Tree → Result Plan Outcome
-text_due folder text tree = do
+unfoldable pub text_due : Bytes → Bool → Bytes → Tree → Result Plan Outcome
+text_due folder stop text tree = do
   statements ← script_read text
   export ← export_of folder tree
-  plan_for folder statements export
+  plan_for folder stop statements export
 
 -- psql: the script is read, then the folder
-unfoldable pub psql_due : Bytes → ScriptSource → Tree → Bytes → Result Plan Outcome
-psql_due folder script tree input = do
+unfoldable pub psql_due : Bytes → ScriptSource → Bool → Tree → Bytes → Result Plan Outcome
+psql_due folder script stop tree input = do
   text ← source_of script tree input
-  text_due folder text tree
+  text_due folder stop text tree
 
 -- the one database of such a folder
 abbrev pub database : DatabaseRow
@@ -144,11 +148,15 @@ counted script (Err n) = Err (TooLarge Entries n)
 abbrev pub script_due : Moment → List SchemaRow → Result Plan Outcome
 script_due moment rows = counted (dumped_script database boot moment (map dump_row rows)) (toc_due database boot (map dump_row rows))
 
--- pg_dump: the folder is read
-unfoldable pub dump_due : Bytes → Moment → Tree → Result Plan Outcome
-dump_due folder moment tree = do
+-- the folder is read
+unfoldable pub whole_due : Bytes → Moment → Tree → Result Plan Outcome
+whole_due folder moment tree = do
   rows ← opening_of folder tree
   script_due moment rows
+
+-- pg_dump: the script of a whole folder is what is built of it
+unfoldable pub dump_due : DumpAsked → Moment → Tree → Result Plan Outcome
+dump_due asked moment tree = if is_whole_script asked then whole_due asked.folder moment tree else Err (OutOfProfile Unbuilt)
 
 -- once the first is read: the second folder
 unfoldable pub second_due : Exported → Bytes → Tree → Result Plan Outcome
@@ -163,8 +171,8 @@ compare_due first second tree = do
   second_due one second tree
 
 abbrev pub asked_due : Asked → Moment → Tree → Bytes → Result Plan Outcome
-asked_due (Psql folder script) moment tree input = psql_due folder script tree input
-asked_due (Dump folder) moment tree input = dump_due folder moment tree
+asked_due (Psql folder script stop) moment tree input = psql_due folder script stop tree input
+asked_due (Dump asked) moment tree input = dump_due asked moment tree
 asked_due (Compare first second) moment tree input = compare_due first second tree
 
 -- what is due for the words, the moment, the files and standard input
@@ -177,7 +185,7 @@ application_of folder work = record { folder = folder; statements = work.stateme
 
 -- and as one to run on an opening
 abbrev pub running_of : Bytes → ScriptWork → Running
-running_of folder work = record { folder = folder; boot = work.boot; statements = work.statements.items; opening = work.opening }
+running_of folder work = record { folder = folder; boot = work.boot; stop = work.stop; statements = work.statements.items; opening = work.opening }
 
 abbrev pub plan_of : Bytes → Work → Plan
 plan_of folder (work.Schemas schemas) = Applies (application_of folder schemas)
@@ -218,7 +226,7 @@ report_of plan = report (refusals boot plan.statements (named plan.rows))
 -- for it, whatever was there before.
 pub record Leaves (plan : Running) (texts : Texts) : Type 0 where
   pub export : Exported
-  pub same : export_named export ≡ catalogue_after plan.boot plan.statements (export_named plan.opening)
+  pub same : export_named export ≡ (ending plan.stop plan.boot plan.statements (export_named plan.opening)).left
   pub reads : ReadsAs texts export
 
 -- The folder was written: each of its files holds its whole text.
@@ -227,9 +235,30 @@ pub record Ran (plan : Running) (before after : Option Tree) : Type 0 where
   pub leaves : Leaves plan texts
   pub saved : after ≡ option_map (folder_stored plan.folder texts) before
 
--- the report of a script that ran
+-- what is told of a script that ran: each statement that was refused, or the one at which it stopped
 abbrev pub report_of_run : Running → List ℕ
-report_of_run plan = report (refusals plan.boot plan.statements (export_named plan.opening))
+report_of_run plan = told plan.stop plan.boot plan.statements (export_named plan.opening)
+
+abbrev pub stop_answer : Option Refusal → Outcome
+stop_answer None = Done
+stop_answer (Some refusal) = ScriptStopped refusal
+
+-- the answer once it ran
+abbrev pub answer_of_run : Running → Outcome
+answer_of_run plan = stop_answer (ending plan.stop plan.boot plan.statements (export_named plan.opening)).stopped
+
+-- an answer with which all was carried out
+abbrev pub IsFinal : Outcome → Type 0
+IsFinal Done = Unit {0}
+IsFinal (ScriptStopped stop) = Unit {0}
+IsFinal answer = ⊥
+
+-- the answer once a plan is carried out
+abbrev pub answer_of : Plan → Outcome
+answer_of (Applies plan) = Done
+answer_of (Runs plan) = answer_of_run plan
+answer_of (Prints text) = Done
+answer_of (Compares a b) = Done
 
 -- What stands of the files, of standard output and of standard error once a plan is carried out: a script was applied and
 -- its report was written to standard error, or a text was written to standard output, or two catalogues were the same,
@@ -244,10 +273,11 @@ IsCarriedOut (Prints text) before after out_before out_after told_before told_af
 IsCarriedOut (Compares a b) before after out_before out_after told_before told_after =
     (a ≡ b) × (after ≡ before) × (out_after ≡ out_before) × (told_after ≡ told_before)
 
--- the plan that was due was carried out
-pub record WasDue (due : Result Plan Outcome) (before after : Option Tree) (out_before out_after told_before told_after : Option (List ℕ)) : Type 0 where
+-- the plan that was due was carried out, with its answer
+pub record WasDue (due : Result Plan Outcome) (answer : Outcome) (before after : Option Tree) (out_before out_after told_before told_after : Option (List ℕ)) : Type 0 where
   pub plan : Plan
   pub is_due : due ≡ Ok plan
+  pub answers : answer ≡ answer_of plan
   pub carried : IsCarriedOut plan before after out_before out_after told_before told_after
 
 -- the catalogues that are to be compared differ, and first at this key

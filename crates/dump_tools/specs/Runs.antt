@@ -15,7 +15,7 @@ use Rattle.tool_words.specs.Words.{teller_of, reads_input}
 use Rattle.tool_words.specs.Messages.{outcome_line}
 use Rattle.cat_model.specs.declared.words.What.TheVariants.{Unbuilt}
 use Rattle.saved_folders.specs.Folders.{Texts, files_of}
-use Rattle.dump_tools.specs.Due.{Application, Running, Plan, Applies, Runs, Prints, Compares, Comes, Leaves, report_of, report_of_run, due}
+use Rattle.dump_tools.specs.Due.{Application, Running, Plan, Applies, Runs, Prints, Compares, Comes, Leaves, report_of, report_of_run, answer_of_run, due}
 use Rattle.dump_tools.specs.Inputs.{where_read, IsTaken, HasTaken}
 use Rattle.dump_tools.specs.Outputs.{World, Output, Writes, Tells, Takes, all_performed, IsPart, CutShort, stores}
 
@@ -40,11 +40,11 @@ pub record IsApplied (plan : Application) (run : Run) : Type 0 where
   pub is : run ≡ run_of (map stores (files_written plan.folder text) ++ Tells (report_of plan) ∷ []) Done
 
 -- A script is run: the files of the folder that stands for what it leaves are stored one after another, the marker last,
--- and then the report is told.
+-- and then the statements that were refused are told, or the one at which it stopped.
 pub record IsRan (plan : Running) (run : Run) : Type 0 where
   pub texts : Texts
   pub leaves : Leaves plan texts
-  pub is : run ≡ run_of (map stores (files_of plan.folder texts) ++ Tells (report_of_run plan) ∷ []) Done
+  pub is : run ≡ run_of (map stores (files_of plan.folder texts) ++ Tells (report_of_run plan) ∷ []) (answer_of_run plan)
 
 -- what a script leaves isn't written
 abbrev pub IsUnmadeAnswer : Outcome → Type 0

@@ -9,7 +9,9 @@ ghost use Rattle.tool_words.specs.Answers.{Gives, CountsRead, IsDue, IsLate, IsR
 ghost use Rattle.tool_words.specs.Words.{is_input};
 ghost use Rattle.schema_folders.specs.Statements.{are_taken};
 ghost use Rattle.openings.specs.Openings.{opened};
-ghost use Rattle.dump_tools.specs.Due.{Applies, Runs, application_of, running_of, plan_of, IsTaken, schemas_for, script_read, running, runs_as, plan_with, plan_for, text_due, psql_due, IsAnswerDue, IsUnread, IsCarriedOut, WasDue, counts, CountsStep, CountsWrites};
+ghost use Rattle.dump_tools.specs.Due.{Applies, Runs, application_of, running_of, plan_of, IsTaken, schemas_for, IsFinal, answer_of, answer_of_run, stop_answer, script_read, running, runs_as, plan_with, plan_for, text_due, psql_due, IsAnswerDue, IsUnread, IsCarriedOut, WasDue, counts, CountsStep, CountsWrites};
+ghost use Rattle.tool_words.specs.Lines.{Appends, AppendsPart};
+ghost use Rattle.dump_ports.specs.Faults.{CountsFault};
 ghost use Rattle.dump_tools.specs.Inputs.{where_read, TellsLeft};
 ghost use Rattle.dump_tools.specs.Outputs.{world};
 ghost use Rattle.dump_tools.specs.Runs.{StepTakes, HasCut};
@@ -25,9 +27,9 @@ use exports::{Export, read_export};
 use openings::{Opening, open_export};
 use saved_folders::write_texts;
 use schema_folders::{Schemas, are_taken, bare_schemas, namespaces_text, run_script, write_folder};
-use script_runs::{boot_role, run_opening};
+use script_runs::{ScriptRun, boot_role, run_opening};
 use std::alloc::{AllocError, Global};
-use tool_words::{Outcome, ScriptSource};
+use tool_words::{Outcome, ScriptSource, Stop};
 
 /// A script of schemas alone, and the schemas of a folder whose only objects they are.
 #[derive(Drop)]
@@ -36,12 +38,14 @@ struct SchemaWork {
     schemas: Schemas,
 }
 
-/// Any other script, the opening on which it is run, and the role that owns what it creates.
+/// Any other script, the opening on which it is run, the role that owns what it creates, and whether it ends at the first
+/// statement that is refused.
 #[derive(Drop)]
 struct ScriptWork {
     statements: Vec<Located>,
     opening: Opening,
     boot: Name,
+    stop: bool,
 }
 
 /// What psql carries out.
@@ -61,16 +65,17 @@ fn read_statements(alloc: Global, text: &[u8]) -> Result<Vec<Located>, Outcome>
     Ok(read_stmts(alloc, text)?)
 }
 
-/// The schemas of a catalogue, where they are its only objects and the statements are all of schemas.
+/// The schemas of a catalogue, where they are its only objects, and the statements are all of schemas and run to their end.
 fn schemas_for(
     alloc: Global,
     statements: &[Located],
+    stop: bool,
     cat: &Catalogue,
 ) -> Result<Option<Schemas>, AllocError>
-    ensures schemas { IfOk result (λ found. found ≡ schemas_for statements.now cat.now) }
+    ensures schemas { IfOk result (λ found. found ≡ schemas_for stop statements.now cat.now) }
     ensures taken { IfOk result (λ found. IfSome found (λ _. are_taken statements.now ≡ true)) }
 {
-    if are_taken(statements) {
+    if !stop && are_taken(statements) {
         bare_schemas(alloc, cat)
     } else {
         Ok(None)
@@ -87,10 +92,11 @@ fn boot_of(opening: &Opening) -> Result<Option<Name>, AllocError>
 /// The work of a script on an opening, where the role is there.
 fn work_with(
     statements: Vec<Located>,
+    stop: bool,
     opening: Opening,
     boot: Option<Name>,
 ) -> Result<Work, Outcome>
-    ensures due { (folder : Bytes) → Gives (plan_of folder) result (runs_as folder statements.items opening boot) }
+    ensures due { (folder : Bytes) → Gives (plan_of folder) result (runs_as folder stop statements.items opening boot) }
     ensures taken { IfOk result IsTaken }
     ensures count { (n : ℕ) → CountsRead result n n }
 {
@@ -99,40 +105,47 @@ fn work_with(
             statements,
             opening,
             boot,
+            stop,
         })),
         None => Err(Outcome::OutOfProfile(What::Unbuilt)),
     }
 }
 
 /// The work of a script on an opening.
-fn opening_work(statements: Vec<Located>, opening: Opening) -> Result<Work, Outcome>
-    ensures due { (folder : Bytes) → Gives (plan_of folder) result (runs_as folder statements.items opening (boot_role opening.cat)) }
+fn opening_work(statements: Vec<Located>, stop: bool, opening: Opening) -> Result<Work, Outcome>
+    ensures due { (folder : Bytes) → Gives (plan_of folder) result (runs_as folder stop statements.items opening (boot_role opening.cat)) }
     ensures taken { IfOk result IsTaken }
     ensures count { (n : ℕ) → CountsRead result n n }
 {
     let boot = boot_of(&opening)?;
-    work_with(statements, opening, boot)
+    work_with(statements, stop, opening, boot)
 }
 
 /// The work of a script on an export, whose rows have to meet their tables.
-fn export_work(alloc: Global, statements: Vec<Located>, export: Export) -> Result<Work, Outcome>
-    ensures due { (folder : Bytes) → Gives (plan_of folder) result (running folder statements.items export) }
+fn export_work(
+    alloc: Global,
+    statements: Vec<Located>,
+    stop: bool,
+    export: Export,
+) -> Result<Work, Outcome>
+    ensures due { (folder : Bytes) → Gives (plan_of folder) result (running folder stop statements.items export) }
     ensures taken { IfOk result IsTaken }
     ensures count { (n : ℕ) → CountsRead result n n }
 {
     let opening = open_export(alloc, export)?;
-    opening_work(statements, opening)
+    opening_work(statements, stop, opening)
 }
 
 /// The work of a script on an export, where its schemas are known to be all that counts, or not.
 fn work_of(
     alloc: Global,
     statements: Vec<Located>,
+    stop: bool,
     export: Export,
     schemas: Option<Schemas>,
 ) -> Result<Work, Outcome>
     requires { IfSome schemas (λ _. are_taken statements.items ≡ true) }
-    ensures due { (folder : Bytes) → Gives (plan_of folder) result (plan_with folder statements.items export schemas) }
+    ensures due { (folder : Bytes) → Gives (plan_of folder) result (plan_with folder stop statements.items export schemas) }
     ensures taken { IfOk result IsTaken }
     ensures count { (n : ℕ) → CountsRead result n n }
 {
@@ -141,19 +154,24 @@ fn work_of(
             statements,
             schemas,
         })),
-        None => export_work(alloc, statements, export),
+        None => export_work(alloc, statements, stop, export),
     }
 }
 
 /// What psql does with the statements of a script and the export of a folder.
 #[tactic(auto, unfolding(crate::specs::Due::plan_for))]
-fn plan_work(alloc: Global, statements: Vec<Located>, export: Export) -> Result<Work, Outcome>
-    ensures due { (folder : Bytes) → Gives (plan_of folder) result (plan_for folder statements.items export) }
+fn plan_work(
+    alloc: Global,
+    statements: Vec<Located>,
+    stop: bool,
+    export: Export,
+) -> Result<Work, Outcome>
+    ensures due { (folder : Bytes) → Gives (plan_of folder) result (plan_for folder stop statements.items export) }
     ensures taken { IfOk result IsTaken }
     ensures count { (n : ℕ) → CountsRead result n n }
 {
-    let schemas = schemas_for(alloc, &statements, export.catalogue().rows())?;
-    work_of(alloc, statements, export, schemas)
+    let schemas = schemas_for(alloc, &statements, stop, export.catalogue().rows())?;
+    work_of(alloc, statements, stop, export, schemas)
 }
 
 /// Reads the statements of a script, then the folder.
@@ -162,9 +180,10 @@ fn read_plan<F: Files>(
     alloc: Global,
     files: &mut F,
     folder: &Text,
+    stop: bool,
     text: &[u8],
 ) -> Result<Work, Outcome>
-    ensures due { (tree : Tree) → F.tree files.old ≡ Some tree → Gives (plan_of folder.now) result (text_due folder.now text.now tree) }
+    ensures due { (tree : Tree) → F.tree files.old ≡ Some tree → Gives (plan_of folder.now) result (text_due folder.now stop text.now tree) }
     ensures taken { IfOk result IsTaken }
     ensures kept { F.tree files.new ≡ F.tree files.old }
     ensures read_count { CountsRead result (F.read_faults files.old) (F.read_faults files.new) }
@@ -172,7 +191,7 @@ fn read_plan<F: Files>(
 {
     let statements = read_statements(alloc, text)?;
     let export = read_export(alloc, files, folder)?;
-    plan_work(alloc, statements, export)
+    plan_work(alloc, statements, stop, export)
 }
 
 /// Applies the statements to the schemas, writes the folder, then the report.
@@ -182,8 +201,10 @@ fn apply_schemas<F: Files, E: Sink>(
     err: &mut E,
     folder: &Text,
     work: SchemaWork,
-) -> Result<(), Outcome>
+) -> Result<Outcome, Outcome>
     requires { are_taken work.statements.items ≡ true }
+    ensures answers { IfOk result (λ answer. answer ≡ Outcome.Done) }
+    ensures ends { IfOk result IsFinal }
     ensures ok { OnOk result ((printed : Option (List ℕ)) → IsCarriedOut (Applies (application_of folder.now work)) (F.tree files.old) (F.tree files.new) printed printed (E.written err.old) (E.written err.new)) }
     ensures late { IfErr result IsLate }
     ensures unread { IfErr result IsUnread }
@@ -199,7 +220,37 @@ fn apply_schemas<F: Files, E: Sink>(
     let report = run_script(alloc, &mut schemas, &statements)?;
     let namespaces = namespaces_text(alloc, schemas)?;
     write_folder(alloc, files, folder, &namespaces)?;
-    write_report(err, &report)
+    write_report(err, &report, Outcome::Done)
+}
+
+/// The answer of a script that stopped, or didn't.
+fn stop_answer(stopped: Option<Stop>) -> Outcome
+    ensures answers { result ≡ stop_answer stopped }
+    ensures ends { IsFinal result }
+{
+    match stopped {
+        Some(stop) => Outcome::ScriptStopped(stop),
+        None => Outcome::Done,
+    }
+}
+
+/// Tells what is to be told of a script that ran, and gives its answer.
+fn tell_run<E: Sink>(err: &mut E, run: ScriptRun) -> Result<Outcome, Outcome>
+    ensures answers { IfOk result (λ answer. answer ≡ stop_answer run.stopped) }
+    ensures ends { IfOk result IsFinal }
+    ensures ok { OnOk result (Appends run.report.items (E.written err.old) (E.written err.new)) }
+    ensures failed { IfErr result (λ outcome. outcome ≡ Outcome.WriteFault) }
+    ensures err { OnErr result (AppendsPart run.report.items (E.written err.old) (E.written err.new)) }
+    ensures count { CountsFault result (E.faults err.old) (E.faults err.new) }
+{
+    let ScriptRun {
+        texts,
+        report,
+        stopped,
+    } = run;
+    drop(texts);
+    let answer = stop_answer(stopped);
+    write_report(err, &report, answer)
 }
 
 /// Runs the statements on the opening, writes the folder, then the report.
@@ -209,7 +260,9 @@ fn run_script_work<F: Files, E: Sink>(
     err: &mut E,
     folder: &Text,
     work: ScriptWork,
-) -> Result<(), Outcome>
+) -> Result<Outcome, Outcome>
+    ensures answers { IfOk result (λ answer. answer ≡ answer_of_run (running_of folder.now work)) }
+    ensures ends { IfOk result IsFinal }
     ensures ok { OnOk result ((printed : Option (List ℕ)) → IsCarriedOut (Runs (running_of folder.now work)) (F.tree files.old) (F.tree files.new) printed printed (E.written err.old) (E.written err.new)) }
     ensures unread { IfErr result IsUnread }
     ensures refused { IfErr result (λ outcome. IsAnswerDue outcome (Ok (Runs (running_of folder.now work)))) }
@@ -223,10 +276,16 @@ fn run_script_work<F: Files, E: Sink>(
         statements,
         opening,
         boot,
+        stop,
     } = work;
-    let run = run_opening(alloc, opening, boot, &statements)?;
-    write_texts(alloc, files, folder, &run.texts)?;
-    write_report(err, &run.report)
+    let run = run_opening(alloc, opening, boot, &statements, stop)?;
+    match write_texts(alloc, files, folder, &run.texts) {
+        Ok(()) => tell_run(err, run),
+        Err(outcome) => {
+            drop(run);
+            Err(outcome)
+        }
+    }
 }
 
 /// Carries out what psql has to do, writes the folder, then the report.
@@ -236,8 +295,10 @@ fn carry_out<F: Files, E: Sink>(
     err: &mut E,
     folder: &Text,
     work: Work,
-) -> Result<(), Outcome>
+) -> Result<Outcome, Outcome>
     requires taken { IsTaken work }
+    ensures answers { IfOk result (λ answer. answer ≡ answer_of (plan_of folder.now work)) }
+    ensures ends { IfOk result IsFinal }
     ensures ok { OnOk result ((printed : Option (List ℕ)) → IsCarriedOut (plan_of folder.now work) (F.tree files.old) (F.tree files.new) printed printed (E.written err.old) (E.written err.new)) }
     ensures unread { IfErr result IsUnread }
     ensures refused { IfErr result (λ outcome. IsAnswerDue outcome (Ok (plan_of folder.now work))) }
@@ -261,18 +322,20 @@ pub(crate) fn psql<F: Files, I: Source, E: Sink>(
     err: &mut E,
     folder: &Text,
     script: &ScriptSource,
-) -> Result<(), Outcome>
-    ensures done { OnOk result ((tree : Tree) (bytes : Bytes) (printed : Option (List ℕ)) → F.tree files.old ≡ Some tree → TellsLeft (is_input script.now) (I.left input.old) bytes → WasDue (psql_due folder.now script.now tree bytes) (F.tree files.old) (F.tree files.new) printed printed (E.written err.old) (E.written err.new)) }
-    ensures refused { IfErr result (λ outcome. (tree : Tree) (bytes : Bytes) → F.tree files.old ≡ Some tree → TellsLeft (is_input script.now) (I.left input.old) bytes → IsAnswerDue outcome (psql_due folder.now script.now tree bytes)) }
+    stop: bool,
+) -> Result<Outcome, Outcome>
+    ensures ends { IfOk result IsFinal }
+    ensures done { IfOk result (λ answer. (tree : Tree) (bytes : Bytes) (printed : Option (List ℕ)) → F.tree files.old ≡ Some tree → TellsLeft (is_input script.now) (I.left input.old) bytes → WasDue (psql_due folder.now script.now stop tree bytes) answer (F.tree files.old) (F.tree files.new) printed printed (E.written err.old) (E.written err.new)) }
+    ensures refused { IfErr result (λ outcome. (tree : Tree) (bytes : Bytes) → F.tree files.old ≡ Some tree → TellsLeft (is_input script.now) (I.left input.old) bytes → IsAnswerDue outcome (psql_due folder.now script.now stop tree bytes)) }
     ensures kept { IfErr result (λ outcome. IsRefusal outcome → F.tree files.new ≡ F.tree files.old) }
     ensures unread { is_input script.now ≡ false → input.new ≡ input.old }
     ensures taken { (bytes : Bytes) → TellsLeft (is_input script.now) (I.left input.old) bytes → StepTakes result (where_read (is_input script.now) bytes) (I.left input.old) (I.left input.new) }
-    ensures cut { OnErr result ((teller : Teller) (tree : Tree) (bytes : Bytes) (printed : Option (List ℕ)) → F.tree files.old ≡ Some tree → TellsLeft (is_input script.now) (I.left input.old) bytes → HasCut (where_read (is_input script.now) bytes) teller (psql_due folder.now script.now tree bytes) (world (F.tree files.old) (I.left input.old) printed (E.written err.old)) (world (F.tree files.new) (I.left input.new) printed (E.written err.new))) }
+    ensures cut { OnErr result ((teller : Teller) (tree : Tree) (bytes : Bytes) (printed : Option (List ℕ)) → F.tree files.old ≡ Some tree → TellsLeft (is_input script.now) (I.left input.old) bytes → HasCut (where_read (is_input script.now) bytes) teller (psql_due folder.now script.now stop tree bytes) (world (F.tree files.old) (I.left input.old) printed (E.written err.old)) (world (F.tree files.new) (I.left input.new) printed (E.written err.new))) }
     ensures silent { IfErr result (λ outcome. IsTold outcome → E.written err.new ≡ E.written err.old) }
     ensures counted { (prints : ℕ) → CountsStep result (counts (F.read_faults files.old) (I.faults input.old) (F.write_faults files.old) prints (E.faults err.old)) (counts (F.read_faults files.new) (I.faults input.new) (F.write_faults files.new) prints (E.faults err.new)) }
 {
     let text = read_source(alloc, files, input, script)?;
-    apply(alloc, files, err, folder, &text)
+    apply(alloc, files, err, folder, stop, &text)
 }
 
 /// Applies the text of a script to a folder.
@@ -281,15 +344,17 @@ fn apply<F: Files, E: Sink>(
     files: &mut F,
     err: &mut E,
     folder: &Text,
+    stop: bool,
     text: &[u8],
-) -> Result<(), Outcome>
-    ensures done { OnOk result ((tree : Tree) (printed : Option (List ℕ)) → F.tree files.old ≡ Some tree → WasDue (text_due folder.now text.now tree) (F.tree files.old) (F.tree files.new) printed printed (E.written err.old) (E.written err.new)) }
-    ensures refused { IfErr result (λ outcome. (tree : Tree) → F.tree files.old ≡ Some tree → IsAnswerDue outcome (text_due folder.now text.now tree)) }
+) -> Result<Outcome, Outcome>
+    ensures ends { IfOk result IsFinal }
+    ensures done { IfOk result (λ answer. (tree : Tree) (printed : Option (List ℕ)) → F.tree files.old ≡ Some tree → WasDue (text_due folder.now stop text.now tree) answer (F.tree files.old) (F.tree files.new) printed printed (E.written err.old) (E.written err.new)) }
+    ensures refused { IfErr result (λ outcome. (tree : Tree) → F.tree files.old ≡ Some tree → IsAnswerDue outcome (text_due folder.now stop text.now tree)) }
     ensures kept { IfErr result (λ outcome. IsRefusal outcome → F.tree files.new ≡ F.tree files.old) }
-    ensures cut { OnErr result ((teller : Teller) (tree : Tree) (left printed : Option (List ℕ)) → F.tree files.old ≡ Some tree → HasCut None teller (text_due folder.now text.now tree) (world (F.tree files.old) left printed (E.written err.old)) (world (F.tree files.new) left printed (E.written err.new))) }
+    ensures cut { OnErr result ((teller : Teller) (tree : Tree) (left printed : Option (List ℕ)) → F.tree files.old ≡ Some tree → HasCut None teller (text_due folder.now stop text.now tree) (world (F.tree files.old) left printed (E.written err.old)) (world (F.tree files.new) left printed (E.written err.new))) }
     ensures silent { IfErr result (λ outcome. IsTold outcome → E.written err.new ≡ E.written err.old) }
     ensures counted { (inputs prints : ℕ) → CountsStep result (counts (F.read_faults files.old) inputs (F.write_faults files.old) prints (E.faults err.old)) (counts (F.read_faults files.new) inputs (F.write_faults files.new) prints (E.faults err.new)) }
 {
-    let work = read_plan(alloc, files, folder, text)?;
+    let work = read_plan(alloc, files, folder, stop, text)?;
     carry_out(alloc, files, err, folder, work)
 }

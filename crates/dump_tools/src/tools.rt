@@ -11,64 +11,97 @@ ghost use Rattle.tool_words.specs.Words.{is_input, reads_input};
 ghost use Rattle.tool_words.specs.Messages.{outcome_line};
 ghost use Rattle.schema_folders.specs.Statements.{are_taken};
 ghost use Rattle.openings.specs.Openings.{export_named};
-ghost use Rattle.dump_tools.specs.Due.{Prints, dump_due, second_due, compare_due, IsUnequal, due, IsAnswerDue, WasDue, counts, NoneRose, Counted, CountsStep};
+ghost use Rattle.dump_tools.specs.Due.{IsFinal, Prints, whole_due, dump_due, second_due, compare_due, IsUnequal, due, IsAnswerDue, WasDue, counts, NoneRose, Counted, CountsStep};
 ghost use Rattle.dump_tools.specs.Inputs.{where_read, TellsLeft};
 ghost use Rattle.dump_tools.specs.Outputs.{world};
 ghost use Rattle.dump_tools.specs.Runs.{read_by, StepTakes, HasCut, Ended, Answered};
 
 use crate::dumping::dump_text;
 use crate::psql::psql;
-use cat_model::Key;
+use cat_model::{Key, What};
 use cat_same::{Verdict, compare_maps};
 use copy_text::Text;
 use dump_ports::{Failed, Files, Gate, Moment, Sink, Source};
 use openings::{Opening, read_opening};
 use schema_folders::read_folder;
 use std::alloc::{AllocError, Global};
-use tool_words::{Asked, Difference, Outcome, Teller, read_asked, tell, teller_of, write_bytes};
+use tool_words::{
+    Asked, Difference, DumpAsked, Outcome, Teller, is_whole_script, read_asked, tell, teller_of,
+    write_bytes,
+};
 
-/// Writes a report, or a script, to its stream.
-pub(crate) fn write_report<S: Sink>(stream: &mut S, report: &[u8]) -> Result<(), Outcome>
+/// Writes a report, or a script, to its stream, and gives the answer.
+pub(crate) fn write_report<S: Sink>(
+    stream: &mut S,
+    report: &[u8],
+    answer: Outcome,
+) -> Result<Outcome, Outcome>
+    requires { IsFinal answer }
+    ensures answers { IfOk result (λ told. told ≡ answer) }
+    ensures ends { IfOk result IsFinal }
     ensures ok { OnOk result (Appends report.now (S.written stream.old) (S.written stream.new)) }
     ensures failed { IfErr result (λ outcome. outcome ≡ Outcome.WriteFault) }
     ensures err { OnErr result (AppendsPart report.now (S.written stream.old) (S.written stream.new)) }
     ensures count { CountsFault result (S.faults stream.old) (S.faults stream.new) }
 {
     match write_bytes(stream, report) {
-        Ok(()) => Ok(()),
-        Err(Failed) => Err(Outcome::WriteFault),
+        Ok(()) => Ok(answer),
+        Err(Failed) => {
+            drop(answer);
+            Err(Outcome::WriteFault)
+        }
     }
 }
 
 /// Prints the script of a folder of schemas.
-#[tactic(auto, unfolding(crate::specs::Due::dump_due))]
 fn pg_dump<F: Files, O: Sink>(
     alloc: Global,
     files: &mut F,
     out: &mut O,
-    folder: &Text,
+    asked: &DumpAsked,
     moment: Moment,
-) -> Result<(), Outcome>
-    ensures done { OnOk result ((tree : Tree) (told : Option (List ℕ)) → F.tree files.old ≡ Some tree → WasDue (dump_due folder.now moment tree) (F.tree files.old) (F.tree files.new) (O.written out.old) (O.written out.new) told told) }
-    ensures refused { IfErr result (λ outcome. (tree : Tree) → F.tree files.old ≡ Some tree → IsDue outcome (dump_due folder.now moment tree)) }
+) -> Result<Outcome, Outcome>
+    ensures ends { IfOk result IsFinal }
+    ensures done { IfOk result (λ answer. (tree : Tree) (told : Option (List ℕ)) → F.tree files.old ≡ Some tree → WasDue (dump_due asked.now moment tree) answer (F.tree files.old) (F.tree files.new) (O.written out.old) (O.written out.new) told told) }
+    ensures refused { IfErr result (λ outcome. (tree : Tree) → F.tree files.old ≡ Some tree → IsDue outcome (dump_due asked.now moment tree)) }
     ensures kept { F.tree files.new ≡ F.tree files.old }
     ensures quiet { IfErr result (λ outcome. IsRefusal outcome → O.written out.new ≡ O.written out.old) }
-    ensures cut { OnErr result ((teller : Teller) (tree : Tree) (left told : Option (List ℕ)) → F.tree files.old ≡ Some tree → HasCut None teller (dump_due folder.now moment tree) (world (F.tree files.old) left (O.written out.old) told) (world (F.tree files.new) left (O.written out.new) told)) }
+    ensures cut { OnErr result ((teller : Teller) (tree : Tree) (left told : Option (List ℕ)) → F.tree files.old ≡ Some tree → HasCut None teller (dump_due asked.now moment tree) (world (F.tree files.old) left (O.written out.old) told) (world (F.tree files.new) left (O.written out.new) told)) }
     ensures counted { (inputs lines : ℕ) → CountsStep result (counts (F.read_faults files.old) inputs (F.write_faults files.old) (O.faults out.old) lines) (counts (F.read_faults files.new) inputs (F.write_faults files.new) (O.faults out.new) lines) }
 {
-    let text = read_dump(alloc, files, folder, moment)?;
-    write_report(out, &text)
+    let text = read_asked_dump(alloc, files, asked, moment)?;
+    write_report(out, &text, Outcome::Done)
+}
+
+/// What is to be printed of a dump that is asked for.
+#[tactic(auto, unfolding(crate::specs::Due::dump_due))]
+fn read_asked_dump<F: Files>(
+    alloc: Global,
+    files: &mut F,
+    asked: &DumpAsked,
+    moment: Moment,
+) -> Result<Vec<u8>, Outcome>
+    ensures due { (tree : Tree) → F.tree files.old ≡ Some tree → Gives (λ text. Prints text.items) result (dump_due asked.now moment tree) }
+    ensures kept { F.tree files.new ≡ F.tree files.old }
+    ensures read_count { CountsRead result (F.read_faults files.old) (F.read_faults files.new) }
+    ensures write_count { F.write_faults files.new ≡ F.write_faults files.old }
+{
+    if is_whole_script(asked) {
+        read_dump(alloc, files, &asked.folder, moment)
+    } else {
+        Err(Outcome::OutOfProfile(What::Unbuilt))
+    }
 }
 
 /// Reads a folder of schemas, and gives its script.
-#[tactic(auto, unfolding(crate::specs::Due::dump_due))]
+#[tactic(auto, unfolding(crate::specs::Due::whole_due))]
 fn read_dump<F: Files>(
     alloc: Global,
     files: &mut F,
     folder: &Text,
     moment: Moment,
 ) -> Result<Vec<u8>, Outcome>
-    ensures due { (tree : Tree) → F.tree files.old ≡ Some tree → Gives (λ text. Prints text.items) result (dump_due folder.now moment tree) }
+    ensures due { (tree : Tree) → F.tree files.old ≡ Some tree → Gives (λ text. Prints text.items) result (whole_due folder.now moment tree) }
     ensures kept { F.tree files.new ≡ F.tree files.old }
     ensures read_count { CountsRead result (F.read_faults files.old) (F.read_faults files.new) }
     ensures write_count { F.write_faults files.new ≡ F.write_faults files.old }
@@ -85,8 +118,9 @@ fn pg_catcmp<F: Files>(
     files: &mut F,
     first: &Text,
     second: &Text,
-) -> Result<(), Outcome>
-    ensures done { OnOk result ((tree : Tree) (printed told : Option (List ℕ)) → F.tree files.old ≡ Some tree → WasDue (compare_due first.now second.now tree) (F.tree files.old) (F.tree files.new) printed printed told told) }
+) -> Result<Outcome, Outcome>
+    ensures ends { IfOk result IsFinal }
+    ensures done { IfOk result (λ answer. (tree : Tree) (printed told : Option (List ℕ)) → F.tree files.old ≡ Some tree → WasDue (compare_due first.now second.now tree) answer (F.tree files.old) (F.tree files.new) printed printed told told) }
     ensures refused { IfErr result (λ outcome. (tree : Tree) → F.tree files.old ≡ Some tree → IsAnswerDue outcome (compare_due first.now second.now tree)) }
     ensures kept { F.tree files.new ≡ F.tree files.old }
     ensures read_count { CountsRead result (F.read_faults files.old) (F.read_faults files.new) }
@@ -103,8 +137,9 @@ fn compare_second<F: Files>(
     files: &mut F,
     one: &Opening,
     second: &Text,
-) -> Result<(), Outcome>
-    ensures done { OnOk result ((tree : Tree) (printed told : Option (List ℕ)) → F.tree files.old ≡ Some tree → WasDue (second_due one.now second.now tree) (F.tree files.old) (F.tree files.new) printed printed told told) }
+) -> Result<Outcome, Outcome>
+    ensures ends { IfOk result IsFinal }
+    ensures done { IfOk result (λ answer. (tree : Tree) (printed told : Option (List ℕ)) → F.tree files.old ≡ Some tree → WasDue (second_due one.now second.now tree) answer (F.tree files.old) (F.tree files.new) printed printed told told) }
     ensures refused { IfErr result (λ outcome. (tree : Tree) → F.tree files.old ≡ Some tree → IsAnswerDue outcome (second_due one.now second.now tree)) }
     ensures kept { F.tree files.new ≡ F.tree files.old }
     ensures read_count { CountsRead result (F.read_faults files.old) (F.read_faults files.new) }
@@ -115,8 +150,9 @@ fn compare_second<F: Files>(
 }
 
 /// Compares two openings, and tells the least key at which they differ.
-fn compare_both(alloc: Global, one: &Opening, other: &Opening) -> Result<(), Outcome>
-    ensures done { OnOk result (export_named one.now ≡ export_named other.now) }
+fn compare_both(alloc: Global, one: &Opening, other: &Opening) -> Result<Outcome, Outcome>
+    ensures ends { IfOk result IsFinal }
+    ensures done { IfOk result (λ answer. (answer ≡ Outcome.Done) × (export_named one.now ≡ export_named other.now)) }
     ensures unequal { IfErr result (λ outcome. IsUnequal outcome (export_named one.now) (export_named other.now)) }
     ensures count { (n : ℕ) → CountsRead result n n }
 {
@@ -125,13 +161,14 @@ fn compare_both(alloc: Global, one: &Opening, other: &Opening) -> Result<(), Out
 }
 
 /// The answer of a comparison.
-fn told_verdict(alloc: Global, verdict: Verdict) -> Result<(), Outcome>
-    ensures done { (a b : Named) → IsVerdict a b verdict → OnOk result (a ≡ b) }
+fn told_verdict(alloc: Global, verdict: Verdict) -> Result<Outcome, Outcome>
+    ensures ends { IfOk result IsFinal }
+    ensures done { (a b : Named) → IsVerdict a b verdict → IfOk result (λ answer. (answer ≡ Outcome.Done) × (a ≡ b)) }
     ensures unequal { (a b : Named) → IsVerdict a b verdict → IfErr result (λ outcome. IsUnequal outcome a b) }
     ensures count { (n : ℕ) → CountsRead result n n }
 {
     match verdict {
-        Verdict::Same => Ok(()),
+        Verdict::Same => Ok(Outcome::Done),
         Verdict::Differs(key) => Err(differs_at(alloc, key)),
     }
 }
@@ -163,8 +200,9 @@ fn perform<F: Files, I: Source, O: Sink, E: Sink>(
     out: &mut O,
     err: &mut E,
     moment: Moment,
-) -> Result<(), Outcome>
-    ensures done { OnOk result ((tree : Tree) (bytes : Bytes) → F.tree files.old ≡ Some tree → TellsLeft (reads_input words.now) (I.left input.old) bytes → WasDue (due words.now moment tree bytes) (F.tree files.old) (F.tree files.new) (O.written out.old) (O.written out.new) (E.written err.old) (E.written err.new)) }
+) -> Result<Outcome, Outcome>
+    ensures ends { IfOk result IsFinal }
+    ensures done { IfOk result (λ answer. (tree : Tree) (bytes : Bytes) → F.tree files.old ≡ Some tree → TellsLeft (reads_input words.now) (I.left input.old) bytes → WasDue (due words.now moment tree bytes) answer (F.tree files.old) (F.tree files.new) (O.written out.old) (O.written out.new) (E.written err.old) (E.written err.new)) }
     ensures refused { IfErr result (λ outcome. (tree : Tree) (bytes : Bytes) → F.tree files.old ≡ Some tree → TellsLeft (reads_input words.now) (I.left input.old) bytes → IsAnswerDue outcome (due words.now moment tree bytes)) }
     ensures kept { IfErr result (λ outcome. IsRefusal outcome → F.tree files.new ≡ F.tree files.old) }
     ensures quiet { IfErr result (λ outcome. IsRefusal outcome → O.written out.new ≡ O.written out.old) }
@@ -176,8 +214,12 @@ fn perform<F: Files, I: Source, O: Sink, E: Sink>(
 {
     let asked = read_asked(alloc, words)?;
     match &asked {
-        Asked::Psql { folder, script } => psql(alloc, files, input, err, folder, script),
-        Asked::Dump { folder } => pg_dump(alloc, files, out, folder, moment),
+        Asked::Psql {
+            folder,
+            script,
+            stop,
+        } => psql(alloc, files, input, err, folder, script, *stop),
+        Asked::Dump(asked) => pg_dump(alloc, files, out, asked, moment),
         Asked::Compare { first, second } => pg_catcmp(alloc, files, first, second),
     }
 }
@@ -227,7 +269,7 @@ pub fn run_tools<F: Files, I: Source, O: Sink, E: Sink, G: Gate + Sync>(
 {
     let teller = teller_of(words);
     match perform(alloc, words, files, input, out, err, moment) {
-        Ok(()) => Outcome::Done,
+        Ok(answer) => answer,
         Err(outcome) => match tell_outcome(err, teller, outcome) {
             Ok(outcome) => outcome,
             Err(Failed) => Outcome::WriteFault,

@@ -8,6 +8,7 @@ use Rattle.cat_names.specs.declared.fault.CheckError.TheVariants as check
 use Rattle.cat_names.specs.DataSets.{TextsByOid}
 use Rattle.cat_names.specs.Gives.{IsTableDue}
 use Rattle.well_formed.specs.Catalogues.{catalogue_fault}
+use Rattle.well_formed.specs.declared.check.WellFormed.{WellFormed}
 use Rattle.table_rows.specs.declared.fault.CheckValuesError.{CheckValuesError}
 use Rattle.table_rows.specs.declared.fault.CheckValuesError.TheVariants as values
 use Rattle.table_rows.specs.Values.{values_fault, GivesCheck}
@@ -21,7 +22,7 @@ use Rattle.tool_words.specs.declared.outcome.Outcome.TheVariants as outcomes
 use Rattle.tool_words.specs.Answers.{◌>>=◌, IsDue, Gives, CountsRead}
 use Rattle.tool_words.specs.Outcomes.{folder_outcome, fault_outcome, check_outcome, check_values_outcome}
 use Rattle.exports.specs.Cells.{catalogue_with}
-use Rattle.exports.specs.Exports.{Exported, told, well_formed, have_rows, export_with, export_of}
+use Rattle.exports.specs.Exports.{Exported, told, well_formed, have_rows, formed_with, formed_of, export_with, export_of}
 use Rattle.exports.proofs.Cells.{catalogue_is}
 
 -- an outcome is due of itself
@@ -36,6 +37,9 @@ due_itself Y (outcomes.BadScript fault) = refl
 due_itself Y (outcomes.OutOfProfile what) = refl
 due_itself Y (outcomes.TooLarge what n) = refl
 due_itself Y (outcomes.Differs key) = refl
+due_itself Y (outcomes.ScriptStopped stop) = refl
+due_itself Y (outcomes.Loop path) = refl
+due_itself Y (outcomes.NoMatch pattern) = refl
 due_itself Y outcomes.Memory = tt
 
 -- a fault of the folder that is due, told as its outcome, is due of what follows
@@ -69,6 +73,24 @@ catalogue_read folder tree cat e =
 pub catalogue_refused : (folder : Bytes) (tree : Tree) (fault : FolderFault) → IsFolderDue fault (catalogue_of folder tree) → IsDue (folder_outcome fault) (export_of folder tree)
 unfolding export_of
 catalogue_refused folder tree fault d = told_due fault (catalogue_of folder tree) (λ tables. export_with folder (bytes_of folder tree) (catalogue_with tables) tree) d
+
+-- the same of the catalogue alone
+pub formed_read : (folder : Bytes) (tree : Tree) (cat : Catalogue) → catalogue_of folder tree ≡ Ok (catalogue_rows cat) → formed_of folder tree ≡ formed_with cat
+unfolding formed_of
+formed_read folder tree cat e = ap (λ r. told r >>= λ tables. formed_with (catalogue_with tables)) e ∙ ap formed_with (catalogue_is cat)
+
+pub formed_refused : (folder : Bytes) (tree : Tree) (fault : FolderFault) → IsFolderDue fault (catalogue_of folder tree) → IsDue (folder_outcome fault) (formed_of folder tree)
+unfolding formed_of
+formed_refused folder tree fault d = told_due fault (catalogue_of folder tree) (λ tables. formed_with (catalogue_with tables)) d
+
+-- it isn't well-formed, or memory ran out
+pub unformed_due : (cat : Catalogue) (error : CheckError) → IsTableDue error (catalogue_fault cat) → IsDue (check_outcome error) (formed_with cat)
+unformed_due cat check.Memory d = tt
+unformed_due cat (check.Fault fault) d = rw d (due_itself Catalogue (fault_outcome fault fault.kind))
+
+-- what an answer gives of one thing it gives of the same
+pub formed_along : (r : Result WellFormed Outcome) (a b : Result Catalogue Outcome) → a ≡ b → Gives (λ cat. cat) r a → Gives (λ cat. cat) r b
+formed_along r a b e = subst (Gives (λ (cat : WellFormed). cat) r) e
 
 -- the catalogue isn't well-formed, or memory ran out
 pub check_due : (folder : Bytes) (used : ℕ) (cat : Catalogue) (tree : Tree) (error : CheckError) → IsTableDue error (catalogue_fault cat) → IsDue (check_outcome error) (export_with folder used cat tree)

@@ -56,3 +56,11 @@ unfoldable pub export_of : Bytes → Tree → Result Exported Outcome
 export_of folder tree = do
   tables ← told (catalogue_of folder tree)
   export_with folder (bytes_of folder tree) (catalogue_with tables) tree
+
+-- a catalogue whose rows fit together
+abbrev pub formed_with : Catalogue → Result Catalogue Outcome
+formed_with cat = well_formed (catalogue_fault cat) >>= λ formed. Ok cat
+
+-- the catalogue that a folder holds: its tables are read, and fit together
+unfoldable pub formed_of : Bytes → Tree → Result Catalogue Outcome
+formed_of folder tree = told (catalogue_of folder tree) >>= λ tables. formed_with (catalogue_with tables)

@@ -4,4 +4,4 @@
 pub mod laws;
 mod reading;
 
-pub use reading::{Export, read_export};
+pub use reading::{Export, read_export, read_formed};

@@ -1,10 +1,10 @@
 //! A folder read as an export.
-ghost use Rattle.std.specs.Prelude.{◌≡◌, Some, None};
+ghost use Rattle.std.specs.Prelude.{◌≡◌, ℕ, Some, None};
 ghost use Rattle.dump_ports.specs.Tree.{Tree};
 ghost use Rattle.table_rows.specs.Values.{values_fault};
 ghost use Rattle.folder_io.specs.Folders.{bytes_of};
 ghost use Rattle.tool_words.specs.Answers.{Gives, CountsRead};
-ghost use Rattle.exports.specs.Exports.{export_with, export_of};
+ghost use Rattle.exports.specs.Exports.{formed_with, formed_of, export_with, export_of};
 
 use cat_names::DataSet;
 use cat_rows::Catalogue;
@@ -57,6 +57,33 @@ impl Export {
     {
         &self.rows
     }
+}
+
+/// Reads the catalogue of an export folder: the marker and its tables, which are well-formed. No data file is read.
+///
+/// `Missing`, `BadExport`, `OutOfProfile` and `TooLarge` are told as these steps meet them. `ReadFault` comes exactly
+/// where a call of the files failed, and `Memory` may come for any folder.
+#[tactic(auto, unfolding(crate::specs::Exports::formed_of))]
+pub fn read_formed<F: Files>(
+    alloc: Global,
+    files: &mut F,
+    folder: &Text,
+) -> Result<WellFormed, Outcome>
+    ensures due { (tree : Tree) → F.tree files.old ≡ Some tree → Gives (λ cat. cat) result (formed_of folder.now tree) }
+    ensures kept { F.tree files.new ≡ F.tree files.old }
+    ensures read_count { CountsRead result (F.read_faults files.old) (F.read_faults files.new) }
+    ensures write_count { F.write_faults files.new ≡ F.write_faults files.old }
+{
+    let read = read_catalogue(alloc, files, folder)?;
+    check_formed(alloc, read.cat)
+}
+
+/// The same catalogue, where it is well-formed.
+fn check_formed(alloc: Global, cat: Catalogue) -> Result<WellFormed, Outcome>
+    ensures due { Gives (λ cat. cat) result (formed_with cat) }
+    ensures count { (n : ℕ) → CountsRead result n n }
+{
+    Ok(WellFormed::check(alloc, cat)?)
 }
 
 /// Reads an export folder. The first step that refuses is the answer: the marker and the tables of the catalogue are

@@ -38,7 +38,7 @@ where
 {
     match asked {
         Asked::Psql { folder, .. } => files.hold(folder.as_str(), Hold::Alone),
-        Asked::Dump { folder } => files.hold(folder.as_str(), Hold::Shared),
+        Asked::Dump(asked) => files.hold(asked.folder.as_str(), Hold::Shared),
         Asked::Compare { first, second } => {
             files.hold(first.as_str(), Hold::Shared)?;
             files.hold(second.as_str(), Hold::Shared)

@@ -22,7 +22,7 @@ pgtools TOOL --help tells the options of a tool.
 ";
 
 const STATUSES: &str = "
-Exit status: 0 done, 71 out of memory, 1 anything else, which standard error tells.
+Exit status: 0 done, 71 out of memory, 3 a script that stopped, 1 anything else. Standard error tells why.
 ";
 
 const PSQL: &str = "psql applies a script to a folder
@@ -31,7 +31,7 @@ Usage: pgtools psql [OPTION]... [FOLDER]
 
   -d, --dbname=FOLDER   the folder
   -f, --file=FILE       the script
-  -v ON_ERROR_STOP=1    end at the first refused statement (not built yet)
+  -v ON_ERROR_STOP=1    end at the first refused statement, with status 3
 
 Without -f, or with -f -, the script is standard input.
 A refused statement changes nothing; its line stands on standard error.

@@ -4,6 +4,7 @@
 
 mod boot;
 mod running;
+mod stopping;
 mod texts;
 
 pub use boot::boot_role;

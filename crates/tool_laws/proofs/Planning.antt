@@ -49,17 +49,17 @@ script_taken text statements e = by (statements_of text) refl e
 
 -- ---- a plan of schemas
 
-none_applies : (folder : Bytes) (statements : List Located) (export : Exported) (plan : Application) → running folder statements export ≡ Ok (Applies plan) → ⊥
-none_applies folder statements export plan e =
-    let opening = bind_ok (opened export) (λ opening. runs_as folder statements opening (boot_role opening.cat)) (Applies plan) e in
+none_applies : (folder : Bytes) (stop : Bool) (statements : List Located) (export : Exported) (plan : Application) → running folder stop statements export ≡ Ok (Applies plan) → ⊥
+none_applies folder stop statements export plan e =
+    let opening = bind_ok (opened export) (λ opening. runs_as folder stop statements opening (boot_role opening.cat)) (Applies plan) e in
     by opening.0 (boot_role opening.0.cat) opening.2
   where
-    by : (opening : Exported) (role : Option Bytes) → runs_as folder statements opening role ≡ Ok (Applies plan) → ⊥
+    by : (opening : Exported) (role : Option Bytes) → runs_as folder stop statements opening role ≡ Ok (Applies plan) → ⊥
     by opening None h = absurd cc
     by opening (Some role) h = cc
 
-schemas_are : (statements : List Located) (cat : Catalogue) (rows : List SchemaRow) → schemas_for statements cat ≡ Some rows → opening_in cat ≡ Ok rows
-schemas_are statements cat rows e = by (are_taken statements) e
+schemas_are : (stop : Bool) (statements : List Located) (cat : Catalogue) (rows : List SchemaRow) → schemas_for stop statements cat ≡ Some rows → opening_in cat ≡ Ok rows
+schemas_are stop statements cat rows e = by (not stop && are_taken statements) e
   where
     found : (r : Result (List SchemaRow) Outcome) → result_ok r ≡ Some rows → r ≡ Ok rows
     found (Ok others) h = let same : others ≡ rows = cc in ap Ok same
@@ -70,31 +70,31 @@ schemas_are statements cat rows e = by (are_taken statements) e
     by false h = absurd cc
 
 -- the rows of a plan of schemas are those of the catalogue
-pub planned_rows : (folder : Bytes) (statements : List Located) (export : Exported) (plan : Application) → plan_for folder statements export ≡ Ok (Applies plan) → opening_in export.cat ≡ Ok plan.rows
+pub planned_rows : (folder : Bytes) (stop : Bool) (statements : List Located) (export : Exported) (plan : Application) → plan_for folder stop statements export ≡ Ok (Applies plan) → opening_in export.cat ≡ Ok plan.rows
 unfolding plan_for
-planned_rows folder statements export plan e = by (schemas_for statements export.cat) refl e
+planned_rows folder stop statements export plan e = by (schemas_for stop statements export.cat) refl e
   where
-    by : (schemas : Option (List SchemaRow)) → schemas_for statements export.cat ≡ schemas → plan_with folder statements export schemas ≡ Ok (Applies plan) → opening_in export.cat ≡ Ok plan.rows
-    by None is h = elim (none_applies folder statements export plan h) [ ]
+    by : (schemas : Option (List SchemaRow)) → schemas_for stop statements export.cat ≡ schemas → plan_with folder stop statements export schemas ≡ Ok (Applies plan) → opening_in export.cat ≡ Ok plan.rows
+    by None is h = elim (none_applies folder stop statements export plan h) [ ]
     by (Some rows) is h =
         let same : record { folder = folder; statements = statements; rows = rows } ≡ plan = cc in
-        schemas_are statements export.cat plan.rows (is ∙ ap (λ (p : Application). Some p.rows) same)
+        schemas_are stop statements export.cat plan.rows (is ∙ ap (λ (p : Application). Some p.rows) same)
 
 -- statements of schemas, for a catalogue of schemas alone
-pub plans_schemas : (folder : Bytes) (statements : List Located) (export : Exported) (rows : List SchemaRow) → are_taken statements ≡ true → opening_in export.cat ≡ Ok rows → plan_for folder statements export ≡ Ok (Applies (record { folder = folder; statements = statements; rows = rows }))
+pub plans_schemas : (folder : Bytes) (statements : List Located) (export : Exported) (rows : List SchemaRow) → are_taken statements ≡ true → opening_in export.cat ≡ Ok rows → plan_for folder false statements export ≡ Ok (Applies (record { folder = folder; statements = statements; rows = rows }))
 unfolding plan_for
 plans_schemas folder statements export rows taken opened =
-    let found : schemas_for statements export.cat ≡ Some rows = ap (λ b. cond b (result_ok (opening_in export.cat)) None) taken ∙ ap result_ok opened in
-    ap (plan_with folder statements export) found
+    let found : schemas_for false statements export.cat ≡ Some rows = ap (λ b. cond b (result_ok (opening_in export.cat)) None) taken ∙ ap result_ok opened in
+    ap (plan_with folder false statements export) found
 
-pub planned : (target : Bytes) (script : ScriptSource) (second : Tree) (input : Bytes) (text : Bytes) (statements : List Located) (rows : List SchemaRow) → source_of script second input ≡ Ok text → script_of text ≡ Ok statements → opening_of target second ≡ Ok rows → psql_due target script second input ≡ Ok (Applies (record { folder = target; statements = statements; rows = rows }))
+pub planned : (target : Bytes) (script : ScriptSource) (second : Tree) (input : Bytes) (text : Bytes) (statements : List Located) (rows : List SchemaRow) → source_of script second input ≡ Ok text → script_of text ≡ Ok statements → opening_of target second ≡ Ok rows → psql_due target script false second input ≡ Ok (Applies (record { folder = target; statements = statements; rows = rows }))
 unfolding psql_due text_due opening_of
 planned target script second input text statements rows passed reads opened =
     let taken = script_taken text statements reads in
     let export = bind_ok (export_of target second) (λ export. opening_in export.cat) rows opened in
-    ap (λ (r : Result Bytes Outcome). r >>= λ text. text_due target text second) passed
-    ∙ ap (λ (r : Result (List Located) Outcome). r >>= λ statements. export_of target second >>= λ export. plan_for target statements export) taken.reads
-    ∙ ap (λ (r : Result Exported Outcome). r >>= λ export. plan_for target statements export) export.1
+    ap (λ (r : Result Bytes Outcome). r >>= λ text. text_due target false text second) passed
+    ∙ ap (λ (r : Result (List Located) Outcome). r >>= λ statements. export_of target second >>= λ export. plan_for target false statements export) taken.reads
+    ∙ ap (λ (r : Result Exported Outcome). r >>= λ export. plan_for target false statements export) export.1
     ∙ plans_schemas target statements export.0 rows taken.taken export.2
 
 -- ---- a folder of schemas alone is an opening

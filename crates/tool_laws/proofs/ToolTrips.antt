@@ -12,7 +12,7 @@ use Rattle.tool_words.specs.declared.words.ScriptSource.{ScriptSource}
 use Rattle.tool_words.specs.Words.{is_input}
 use Rattle.tool_words.specs.declared.outcome.Outcome.{Outcome}
 use Rattle.tool_words.specs.Answers.{◌>>=◌}
-use Rattle.dump_tools.specs.Due.{Plan, Application, Applies, Prints, source_of, counted, script_due, dump_due, psql_due, database, dump_row, report_of}
+use Rattle.dump_tools.specs.Due.{Plan, Application, Applies, Prints, source_of, counted, script_due, whole_due, psql_due, database, dump_row, report_of}
 use Rattle.dump_tools.specs.Inputs.{where_read, HasTaken}
 use Rattle.dump_tools.specs.Outputs.{World, world, Output, all_performed}
 use Rattle.dump_tools.specs.Runs.{Run, run_of, IsApplied, MayCome, Begins, MayRun}
@@ -36,8 +36,8 @@ printed : (script text : Bytes) (toc : Result (List Entry) ℕ) → counted scri
 printed script text (Ok entries) e = cc
 printed script text (Err n) e = absurd cc
 
-dumped : (source : Bytes) (moment : Moment) (first : Tree) (rows : List SchemaRow) (text : Bytes) → opening_of source first ≡ Ok rows → dump_due source moment first ≡ Ok (Prints text) → dumped_script database boot moment (map dump_row rows) ≡ text
-unfolding dump_due
+dumped : (source : Bytes) (moment : Moment) (first : Tree) (rows : List SchemaRow) (text : Bytes) → opening_of source first ≡ Ok rows → whole_due source moment first ≡ Ok (Prints text) → dumped_script database boot moment (map dump_row rows) ≡ text
+unfolding whole_due
 dumped source moment first rows text opened e =
     printed (dumped_script database boot moment (map dump_row rows)) text (toc_due database boot (map dump_row rows))
     (ap (λ (r : Result (List SchemaRow) Outcome). r >>= script_due moment) (sym opened) ∙ e)
@@ -47,7 +47,7 @@ remakes law source moment first rows target script second input read back =
     subst (λ (text : Bytes). Remakes text rows) (dumped source moment first rows back.text back.opened back.dumped)
     (law moment rows (record { names = read.named; distinct = read.schemas.names; users = read.schemas.users }))
 
-pub makes_same : ScriptLaw → OpenLaw → (source : Bytes) (moment : Moment) (first : Tree) (rows : List SchemaRow) (target : Bytes) (script : ScriptSource) (second : Tree) (input : Bytes) → GoesBack source moment first rows target script second input → MakesSame (psql_due target script second input) rows
+pub makes_same : ScriptLaw → OpenLaw → (source : Bytes) (moment : Moment) (first : Tree) (rows : List SchemaRow) (target : Bytes) (script : ScriptSource) (second : Tree) (input : Bytes) → GoesBack source moment first rows target script second input → MakesSame (psql_due target script false second input) rows
 makes_same law opened source moment first rows target script second input back =
     let read = opened source first rows back.opened in
     let made = remakes law source moment first rows target script second input read back in
@@ -96,7 +96,7 @@ behind_first target rows reads first later run before left between is h = (
 )
 
 pub stands_for : ScriptLaw → OpenLaw → LeaveLaw → (source : Bytes) (moment : Moment) (first : Tree) (rows : List SchemaRow) (target : Bytes) (script : ScriptSource) (second : Tree) (input : Bytes) (teller : Teller) (run : Run) (before : World) → GoesBack source moment first rows target script second input
-    → before.tree ≡ Some second → MayRun (where_read (is_input script) input) teller (psql_due target script second input) run → (run.answer ≡ Done) × Restores target rows (where_read (is_input script) input) before (all_performed run.outputs before)
+    → before.tree ≡ Some second → MayRun (where_read (is_input script) input) teller (psql_due target script false second input) run → (run.answer ≡ Done) × Restores target rows (where_read (is_input script) input) before (all_performed run.outputs before)
 stands_for law opened leave source moment first rows target script second input teller run before back holds may =
     let read = opened source first rows back.opened in
     let made = remakes law source moment first rows target script second input read back in

@@ -73,10 +73,10 @@ abbrev pub OpenLaw : Type 0
 OpenLaw = (folder : Bytes) (tree : Tree) (rows : List SchemaRow) → opening_of folder tree ≡ Ok rows → WereRead rows
 
 -- the rows of a plan of psql were read
-pub plan_read : OpenLaw → (folder : Bytes) (script : ScriptSource) (tree : Tree) (input : Bytes) (plan : Application) → psql_due folder script tree input ≡ Ok (Applies plan) → WereRead plan.rows
+pub plan_read : OpenLaw → (folder : Bytes) (script : ScriptSource) (stop : Bool) (tree : Tree) (input : Bytes) (plan : Application) → psql_due folder script stop tree input ≡ Ok (Applies plan) → WereRead plan.rows
 unfolding psql_due text_due opening_of
-plan_read opened folder script tree input plan e =
+plan_read opened folder script stop tree input plan e =
     let text = bind_ok (source_of script tree input) _ (Applies plan) e in
     let statements = bind_ok (script_read text.0) _ (Applies plan) text.2 in
-    let export = bind_ok (export_of folder tree) (λ export. plan_for folder statements.0 export) (Applies plan) statements.2 in
-    opened folder tree plan.rows (ap (λ (r : Result Exported Outcome). r >>= λ export. opening_in export.cat) export.1 ∙ planned_rows folder statements.0 export.0 plan export.2)
+    let export = bind_ok (export_of folder tree) (λ export. plan_for folder stop statements.0 export) (Applies plan) statements.2 in
+    opened folder tree plan.rows (ap (λ (r : Result Exported Outcome). r >>= λ export. opening_in export.cat) export.1 ∙ planned_rows folder stop statements.0 export.0 plan export.2)

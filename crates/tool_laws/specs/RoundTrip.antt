@@ -16,7 +16,7 @@ use Rattle.tool_words.specs.declared.words.ScriptSource.{ScriptSource}
 use Rattle.tool_words.specs.declared.outcome.Outcome.{Outcome}
 use Rattle.tool_words.specs.Lines.{Appends}
 use Rattle.dump_tools.specs.Outputs.{World}
-use Rattle.dump_tools.specs.Due.{Plan, Application, Applies, Prints, source_of, dump_due}
+use Rattle.dump_tools.specs.Due.{Plan, Application, Applies, Prints, source_of, whole_due}
 use Rattle.dump_tools.specs.Inputs.{HasTaken}
 use Rattle.schema_folders.specs.Folder.{has_public, opening_of, schemas_alone, Holds}
 use Rattle.schema_folders.specs.Naming.{boot, named}
@@ -60,7 +60,7 @@ public_alone oid = record { oid = oid; name = codes "public" } ∷ []
 pub record GoesBack (source : Bytes) (moment : Moment) (first : Tree) (rows : List SchemaRow) (target : Bytes) (script : ScriptSource) (second : Tree) (input : Bytes) : Type 0 where
   pub opened : opening_of source first ≡ Ok rows
   pub text : Bytes
-  pub dumped : dump_due source moment first ≡ Ok (Prints text)
+  pub dumped : whole_due source moment first ≡ Ok (Prints text)
   pub passed : source_of script second input ≡ Ok text
   pub oid : ℕ
   pub fresh : opening_of target second ≡ Ok (public_alone oid)

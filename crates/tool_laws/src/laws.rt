@@ -1,5 +1,5 @@
 //! Laws of the definitions, each the contract of a function that does nothing.
-ghost use Rattle.std.specs.Prelude.{◌≡◌, ◌≤◌, List, map, length, [], Some, None, Ok, codes};
+ghost use Rattle.std.specs.Prelude.{◌≡◌, ◌≤◌, Bool, false, List, map, length, [], Some, None, Ok, codes};
 ghost use Rattle.std.specs.FinMap.{empty};
 ghost use Rattle.dump_ports.specs.Tree.{Tree};
 ghost use Rattle.dump_ports.specs.declared.moment.Moment.{Moment};
@@ -71,17 +71,17 @@ pub fn folders_of_schemas_have_one_meaning()
 /// catalogue by names; and it is read as an export, by every tool, and as an opening by psql and pg_dump, where the file
 /// of pg_namespace is within the limit of a table's file.
 pub fn psql_leaves_an_export()
-    ensures formed { (folder : Bytes) (script : ScriptSource) (tree : Tree) (input : Bytes) (plan : Application) (run : Run) (applied : IsApplied plan run)
-        → psql_due folder script tree input ≡ Ok (Applies plan)
+    ensures formed { (folder : Bytes) (script : ScriptSource) (stop : Bool) (tree : Tree) (input : Bytes) (plan : Application) (run : Run) (applied : IsApplied plan run)
+        → psql_due folder script stop tree input ≡ Ok (Applies plan)
         → catalogue_fault (schemas_alone applied.comes.rows) ≡ None }
     ensures named { (plan : Application) (run : Run) (applied : IsApplied plan run)
         → export_named (record { cat = schemas_alone applied.comes.rows; rows = empty }) ≡ catalogue_after boot plan.statements (named plan.rows) }
-    ensures read { (folder : Bytes) (script : ScriptSource) (tree : Tree) (input : Bytes) (plan : Application) (run : Run) (applied : IsApplied plan run) (after : Tree)
-        → psql_due folder script tree input ≡ Ok (Applies plan)
+    ensures read { (folder : Bytes) (script : ScriptSource) (stop : Bool) (tree : Tree) (input : Bytes) (plan : Application) (run : Run) (applied : IsApplied plan run) (after : Tree)
+        → psql_due folder script stop tree input ≡ Ok (Applies plan)
         → length applied.text ≤ table_limit
         → export_of plan.folder (folder_saved plan.folder applied.text after) ≡ Ok (record { cat = schemas_alone applied.comes.rows; rows = empty }) }
-    ensures opened { (folder : Bytes) (script : ScriptSource) (tree : Tree) (input : Bytes) (plan : Application) (run : Run) (applied : IsApplied plan run) (after : Tree)
-        → psql_due folder script tree input ≡ Ok (Applies plan)
+    ensures opened { (folder : Bytes) (script : ScriptSource) (stop : Bool) (tree : Tree) (input : Bytes) (plan : Application) (run : Run) (applied : IsApplied plan run) (after : Tree)
+        → psql_due folder script stop tree input ≡ Ok (Applies plan)
         → length applied.text ≤ table_limit
         → opening_of plan.folder (folder_saved plan.folder applied.text after) ≡ Ok applied.comes.rows }
 {
@@ -104,11 +104,11 @@ pub fn pg_catcmp_finds_the_same_schemas_the_same()
 pub fn psql_restores_what_pg_dump_prints()
     ensures due { (source : Bytes) (moment : Moment) (first : Tree) (rows : List SchemaRow) (target : Bytes) (script : ScriptSource) (second : Tree) (input : Bytes)
         → GoesBack source moment first rows target script second input
-        → MakesSame (psql_due target script second input) rows }
+        → MakesSame (psql_due target script false second input) rows }
     ensures done { (source : Bytes) (moment : Moment) (first : Tree) (rows : List SchemaRow) (target : Bytes) (script : ScriptSource) (second : Tree) (input : Bytes) (teller : Teller) (run : Run) (before : World)
         → GoesBack source moment first rows target script second input
         → before.tree ≡ Some second
-        → MayRun (where_read (is_input script) input) teller (psql_due target script second input) run
+        → MayRun (where_read (is_input script) input) teller (psql_due target script false second input) run
         → (run.answer ≡ Done) × Restores target rows (where_read (is_input script) input) before (all_performed run.outputs before) }
 {
     the_dumped_script_makes_the_schemas();

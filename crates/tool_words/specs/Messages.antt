@@ -9,6 +9,8 @@ use Rattle.command_line.specs.declared.usage.UsageKind.TheVariants as usage
 use Rattle.command_line.specs.Options.{tool_name}
 use Rattle.tool_words.specs.declared.words.Teller.{Teller}
 use Rattle.tool_words.specs.declared.words.Teller.TheVariants as teller
+use Rattle.tool_words.specs.declared.outcome.Unmatched.{Unmatched}
+use Rattle.tool_words.specs.declared.outcome.Unmatched.TheVariants as unmatched
 use Rattle.tool_words.specs.declared.outcome.Limit.{Limit}
 use Rattle.tool_words.specs.declared.outcome.Limit.TheVariants.{Script, TableFile, DataFile, Folder, Entries}
 use Rattle.tool_words.specs.declared.outcome.Outcome.{Outcome}
@@ -127,6 +129,11 @@ abbrev pub teller_name : Teller → List ℕ
 teller_name teller.Program = codes "pgtools"
 teller_name (teller.Tool tool) = tool_name tool
 
+-- the place of a pattern among those of its option
+abbrev pub place_of : Unmatched → ℕ
+place_of (unmatched.Schemas at) = at
+place_of (unmatched.Tables at) = at
+
 abbrev pub outcome_text : Outcome → List ℕ
 outcome_text outcome.Done = []
 outcome_text (outcome.Usage word kind) = codes "word " ++ decimal word ++ codes ": " ++ kind_text kind
@@ -138,6 +145,9 @@ outcome_text (outcome.BadScript fault) = codes "bad script at " ++ decimal (faul
 outcome_text (outcome.OutOfProfile what) = codes "not supported: " ++ what_text what
 outcome_text (outcome.TooLarge limit most) = codes "too large: " ++ limit_text limit
 outcome_text (outcome.Differs key) = codes "differs: " ++ key_text key
+outcome_text (outcome.ScriptStopped stop) = codes "stopped at " ++ decimal stop.0 ++ codes ": " ++ cause_text stop.1
+outcome_text (outcome.Loop path) = codes "dependency loop"
+outcome_text (outcome.NoMatch pattern) = codes "no match for pattern " ++ decimal (place_of pattern)
 outcome_text outcome.Memory = codes "out of memory"
 
 -- the line of a call that is refused

@@ -1,5 +1,5 @@
 -- What the words of a command line ask for, as far as it is built, and who tells a refusal.
-use Rattle.std.specs.Prelude.{Bool, true, false, ◌&&◌, ◌||◌, not, List, [], ◌∷◌, Option, Some, None, Result, Ok, Err, codes, if◌then◌else◌}
+use Rattle.std.specs.Prelude.{Bool, true, false, ◌&&◌, ◌||◌, not, List, [], ◌∷◌, Option, Some, None, is_none, Result, Ok, Err, codes, if◌then◌else◌}
 use Rattle.cat_names.specs.Rights.{is_empty_list}
 use Rattle.std.specs.Str.{bytes_eq}
 use Rattle.cat_model.specs.Values.{Bytes}
@@ -21,6 +21,7 @@ use Rattle.tool_words.specs.declared.outcome.Outcome.{Outcome}
 use Rattle.tool_words.specs.declared.outcome.Outcome.TheVariants.{Usage, OutOfProfile}
 use Rattle.tool_words.specs.declared.words.Asked.{Asked}
 use Rattle.tool_words.specs.declared.words.Asked.TheVariants.{Psql, Dump, Compare}
+use Rattle.tool_words.specs.declared.words.DumpAsked.{DumpAsked}
 use Rattle.tool_words.specs.declared.words.ScriptSource.{ScriptSource}
 use Rattle.tool_words.specs.declared.words.ScriptSource.TheVariants.{File, Input}
 use Rattle.tool_words.specs.declared.words.Teller.{Teller}
@@ -38,9 +39,9 @@ abbrev pub script_from : Option Bytes → ScriptSource
 script_from None = Input
 script_from (Some name) = if bytes_eq name (codes "-") then Input else File name
 
--- psql applies a script to its end
+-- psql applies a script, to its end or to the first statement that is refused
 abbrev pub psql_asked : PsqlWords → Option Asked
-psql_asked words = if words.on_error_stop then None else Some (Psql (folder_named words.folder) (script_from words.file))
+psql_asked words = Some (Psql (folder_named words.folder) (script_from words.file) words.on_error_stop)
 
 -- something is left out of a dump by a flag, or each pattern has to hit
 abbrev pub is_flagged : Choice → Bool
@@ -56,20 +57,27 @@ names_none choice =
 abbrev pub takes_all : Choice → Bool
 takes_all choice = not (is_flagged choice) && names_none choice
 
--- a script, which is also what is written where no format is named
-abbrev pub is_script : Option Format → Bool
-is_script None = true
-is_script (Some format.Plain) = true
-is_script (Some _) = false
+-- a script is what is written where no format is named
+abbrev pub format_of : Option Format → Format
+format_of None = format.Plain
+format_of (Some f) = f
 
--- standard output
-abbrev pub is_printed : Option Bytes → Bool
-is_printed None = true
-is_printed (Some name) = bytes_eq name (codes "-")
+abbrev pub is_plain : Format → Bool
+is_plain format.Plain = true
+is_plain _ = false
 
--- pg_dump prints the script of a whole folder
+-- where a dump is written: standard output where no file is named, or `-`
+abbrev pub printed_or : Option Bytes → Option Bytes
+printed_or None = None
+printed_or (Some name) = if bytes_eq name (codes "-") then None else Some name
+
+-- pg_dump dumps what is chosen of a folder
 abbrev pub dump_asked : DumpWords → Option Asked
-dump_asked words = if is_printed words.file && is_script words.format && takes_all words.choice then Some (Dump (folder_named words.folder)) else None
+dump_asked words = Some (Dump (record { folder = folder_named words.folder; choice = words.choice; format = format_of words.format; target = printed_or words.file }))
+
+-- the script of a whole folder is printed
+abbrev pub is_whole_script : DumpAsked → Bool
+is_whole_script asked = is_none asked.target && is_plain asked.format && takes_all asked.choice
 
 -- what a command asks for, where that is built
 abbrev pub asked_of : Command → Option Asked
@@ -102,8 +110,8 @@ is_input Input = true
 
 -- only psql reads standard input, where its script stands there
 abbrev pub asks_for_input : Asked → Bool
-asks_for_input (Psql folder script) = is_input script
-asks_for_input (Dump folder) = false
+asks_for_input (Psql folder script stop) = is_input script
+asks_for_input (Dump asked) = false
 asks_for_input (Compare first second) = false
 
 abbrev pub asked_input : Result Asked Outcome → Bool

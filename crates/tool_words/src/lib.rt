@@ -3,10 +3,12 @@
 
 mod keys;
 mod outcome;
+mod stop;
 mod telling;
 mod words;
 
 pub use keys::Difference;
-pub use outcome::{ExportFault, Limit, Outcome};
+pub use outcome::{ExportFault, Limit, Outcome, Unmatched};
+pub use stop::Stop;
 pub use telling::{tell, write_bytes};
-pub use words::{Asked, ScriptSource, Teller, read_asked, teller_of};
+pub use words::{Asked, DumpAsked, ScriptSource, Teller, is_whole_script, read_asked, teller_of};

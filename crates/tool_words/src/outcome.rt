@@ -5,7 +5,8 @@ ghost use Rattle.tool_words.specs.Outcomes.{export_fault, limit_of, folder_outco
 ghost use Rattle.tool_words.specs.declared.outcome.Outcome.TheVariants as outcomes;
 
 use crate::keys::Difference;
-use cat_model::{Cause, What};
+use crate::stop::Stop;
+use cat_model::{Cause, Items, What};
 use cat_names::{CatFault, CheckError, FaultKind};
 use cat_rows::RowFault;
 use command_line::UsageKind;
@@ -13,6 +14,7 @@ use copy_text::Text;
 use data_rows::DataFault;
 use ddl_read::{DdlFault, ReadStmtsError};
 use folder_io::{ExportFile, ExportKind, FolderFault, FolderLimit};
+use graph_parts::ObjId;
 use std::alloc::AllocError;
 use table_rows::{CheckValuesError, ValuesFault};
 
@@ -29,6 +31,15 @@ pub enum Limit {
     Folder,
     /// A dump has at most 200,000 entries.
     Entries,
+}
+
+/// A pattern that hits nothing: its place among those of its option, counted from 0.
+#[derive(Clone, Copy, Debug, PartialEq, Eq)]
+pub enum Unmatched {
+    /// A pattern of schemas.
+    Schemas(usize),
+    /// A pattern of tables, views and sequences.
+    Tables(usize),
 }
 
 /// What is wrong with a place of an export folder.
@@ -79,18 +90,27 @@ pub enum Outcome {
     TooLarge(Limit, u64),
     /// Two folders stand for different catalogues by names; the least key at which they differ.
     Differs(Difference),
+    /// A script ended at its first statement that was refused; what the statements before it leave was written.
+    ScriptStopped(Stop),
+    /// Objects of a folder need each other; each needs the next one, and the last is the first.
+    Loop(Items<ObjId>),
+    /// A pattern of what is to be dumped hits nothing.
+    NoMatch(Unmatched),
     /// Memory ran out.
     Memory,
 }
 
 impl Outcome {
-    /// The exit status: 0 for `Done`, 71 for `Memory`, as `EX_OSERR` of sysexits.h, and 1 for all others.
+    /// The exit status: 0 for `Done`, 71 for `Memory`, as `EX_OSERR` of sysexits.h, 3 for `ScriptStopped`, as psql has it,
+    /// and 1 for all others.
+    /// <https://www.postgresql.org/docs/16/app-psql.html>
     pub fn status(&self) -> u8
         ensures { result ≡ status_of self.now }
     {
         match self {
             Outcome::Done => 0,
             Outcome::Memory => 71,
+            Outcome::ScriptStopped(_) => 3,
             _ => 1,
         }
     }

@@ -2,10 +2,11 @@
 ghost use Rattle.std.specs.Prelude.{◌≡◌, ℕ, ◌≤◌, ◌++◌, List, OnOk, OnErr, decimal, codes};
 ghost use Rattle.dump_ports.specs.Faults.{CountsFault};
 ghost use Rattle.folder_io.specs.Folders.{file_name};
-ghost use Rattle.tool_words.specs.Messages.{kind_text, limit_text, what_text, outcome_text, outcome_line};
+ghost use Rattle.tool_words.specs.Messages.{kind_text, limit_text, what_text, cause_text, place_of, outcome_text, outcome_line};
 ghost use Rattle.tool_words.specs.Lines.{Appends, AppendsPart};
 
-use crate::outcome::{Limit, Outcome};
+use crate::outcome::{Limit, Outcome, Unmatched};
+use crate::stop::Stop;
 use crate::words::Teller;
 use cat_model::What;
 use command_line::UsageKind;
@@ -41,7 +42,47 @@ fn write_outcome<E: Sink>(err: &mut E, outcome: &Outcome) -> Result<(), Failed>
         Outcome::OutOfProfile(what) => write_two(err, b"not supported: ", what_text(what)),
         Outcome::TooLarge(limit, _) => write_two(err, b"too large: ", limit_text(*limit)),
         Outcome::Differs(difference) => write_two(err, b"differs: ", difference.text()),
+        Outcome::ScriptStopped(stop) => write_stop(err, stop),
+        Outcome::Loop(_) => write_bytes(err, b"dependency loop"),
+        Outcome::NoMatch(pattern) => write_unmatched(err, *pattern),
         Outcome::Memory => write_bytes(err, b"out of memory"),
+    }
+}
+
+/// Writes where a script stopped, and why.
+fn write_stop<E: Sink>(err: &mut E, stop: &Stop) -> Result<(), Failed>
+    ensures ok { OnOk result (Appends (codes "stopped at " ++ decimal stop.now.0 ++ codes ": " ++ cause_text stop.now.1) (E.written err.old) (E.written err.new)) }
+    ensures err { OnErr result (AppendsPart (codes "stopped at " ++ decimal stop.now.0 ++ codes ": " ++ cause_text stop.now.1) (E.written err.old) (E.written err.new)) }
+    ensures count { CountsFault result (E.faults err.old) (E.faults err.new) }
+{
+    write_counted(err, b"stopped at ", stop.place())?;
+    write_two(err, b": ", stop.text())
+}
+
+/// Writes a number behind a text.
+fn write_counted<E: Sink>(err: &mut E, before: &[u8], number: usize) -> Result<(), Failed>
+    ensures ok { OnOk result (Appends (before.now ++ decimal number) (E.written err.old) (E.written err.new)) }
+    ensures err { OnErr result (AppendsPart (before.now ++ decimal number) (E.written err.old) (E.written err.new)) }
+    ensures count { CountsFault result (E.faults err.old) (E.faults err.new) }
+{
+    let mut buffer = Buffer::new();
+    write_two(err, before, buffer.format(number).as_bytes())
+}
+
+/// Writes which pattern hits nothing.
+fn write_unmatched<E: Sink>(err: &mut E, pattern: Unmatched) -> Result<(), Failed>
+    ensures ok { OnOk result (Appends (codes "no match for pattern " ++ decimal (place_of pattern)) (E.written err.old) (E.written err.new)) }
+    ensures err { OnErr result (AppendsPart (codes "no match for pattern " ++ decimal (place_of pattern)) (E.written err.old) (E.written err.new)) }
+    ensures count { CountsFault result (E.faults err.old) (E.faults err.new) }
+{
+    write_counted(err, b"no match for pattern ", place_of(pattern))
+}
+
+fn place_of(pattern: Unmatched) -> usize
+    ensures { result ≡ place_of pattern }
+{
+    match pattern {
+        Unmatched::Schemas(at) | Unmatched::Tables(at) => at,
     }
 }
 

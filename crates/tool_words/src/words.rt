@@ -2,7 +2,7 @@
 ghost use Rattle.std.specs.Prelude.{◌≡◌, ℕ, List, Option, Some, None, Result, Ok, Err, MatchResult};
 ghost use Rattle.cat_names.specs.Rights.{is_empty_list};
 ghost use Rattle.tool_words.specs.Answers.{Gives, CountsRead};
-ghost use Rattle.tool_words.specs.Words.{folder_named, script_from, psql_asked, is_flagged, names_none, takes_all, is_script, is_printed, dump_asked, asked_of, built, words_asked, told_by, teller_of};
+ghost use Rattle.tool_words.specs.Words.{folder_named, script_from, psql_asked, is_flagged, names_none, takes_all, format_of, printed_or, is_whole_script, dump_asked, asked_of, built, words_asked, told_by, teller_of};
 ghost use Rattle.tool_words.specs.Messages.{teller_name};
 
 use crate::outcome::Outcome;
@@ -23,21 +23,33 @@ pub enum ScriptSource {
     Input,
 }
 
+/// A dump that is asked for.
+#[derive(Debug, Drop)]
+pub struct DumpAsked {
+    /// The folder.
+    pub folder: Text,
+    /// What of it is dumped.
+    pub choice: Choice,
+    /// In which format.
+    pub format: Format,
+    /// Where it is written: the file or the directory of this name, or standard output.
+    pub target: Option<Text>,
+}
+
 /// What the words ask for, where that is built.
 #[derive(Debug, Drop)]
 pub enum Asked {
-    /// psql applies a script to a folder, to its end.
+    /// psql applies a script to a folder.
     Psql {
         /// The folder.
         folder: Text,
         /// Where the script is read.
         script: ScriptSource,
+        /// Whether it ends at the first statement that is refused.
+        stop: bool,
     },
-    /// pg_dump prints the script of a folder.
-    Dump {
-        /// The folder.
-        folder: Text,
-    },
+    /// pg_dump dumps a folder.
+    Dump(DumpAsked),
     /// pg_catcmp compares two folders.
     Compare {
         /// The first folder.
@@ -132,12 +144,10 @@ fn psql_asked(words: PsqlWords) -> Option<Asked>
         file,
         on_error_stop,
     } = words;
-    if on_error_stop {
-        return None;
-    }
     Some(Asked::Psql {
         folder: folder_named(folder),
         script: script_from(file),
+        stop: on_error_stop,
     })
 }
 
@@ -163,30 +173,46 @@ fn folder_named(folder: Folder) -> Text
 fn dump_asked(words: DumpWords) -> Option<Asked>
     ensures { result ≡ dump_asked words }
 {
-    if !is_printed(&words.file) || !is_script(words.format) || !takes_all(&words.choice) {
-        return None;
-    }
-    let DumpWords { folder, .. } = words;
-    Some(Asked::Dump {
+    let DumpWords {
+        folder,
+        file,
+        format,
+        choice,
+        ..
+    } = words;
+    Some(Asked::Dump(DumpAsked {
         folder: folder_named(folder),
-    })
+        choice,
+        format: format_of(format),
+        target: printed_or(file),
+    }))
 }
 
-/// Whether standard output is written to.
-fn is_printed(file: &Option<Text>) -> bool
-    ensures { result ≡ is_printed file.now }
+/// Standard output where no file is named, or `-`.
+fn printed_or(file: Option<Text>) -> Option<Text>
+    ensures { result ≡ printed_or file }
 {
     match file {
-        Some(name) => name.as_str() == "-",
-        None => true,
+        Some(name) if name.as_str() != "-" => Some(name),
+        _ => None,
     }
 }
 
-/// Whether a script is written.
-fn is_script(format: Option<Format>) -> bool
-    ensures { result ≡ is_script format }
+/// A script, where no format is named.
+fn format_of(format: Option<Format>) -> Format
+    ensures { result ≡ format_of format }
 {
-    matches!(format, None | Some(Format::Plain))
+    match format {
+        Some(format) => format,
+        None => Format::Plain,
+    }
+}
+
+/// Whether the script of a whole folder is printed.
+pub fn is_whole_script(asked: &DumpAsked) -> bool
+    ensures { result ≡ is_whole_script asked.now }
+{
+    asked.target.is_none() && matches!(asked.format, Format::Plain) && takes_all(&asked.choice)
 }
 
 /// Whether all of a folder is dumped.

@@ -4,6 +4,7 @@ use Rattle.dump_tools.specs.Due.{plan_of}
 use Rattle.dump_tools.proofs.Counting.{step_writing}
 use Rattle.dump_tools.proofs.Putting.{cut_kept, cut_due}
 use Rattle.std.proofs.Common.{None, refl, ◌∙◌}
+use Rattle.dump_tools.proofs.Ending.{both_ok}
 use Rattle.dump_tools.proofs.psql.apply.Goals as goal
 
 -- nothing was put out before all was read
@@ -15,11 +16,12 @@ returns-in_err-work-clause-cut g c =
 -- the plan that is due was carried out, whatever was printed before
 pub returns-clause-done : goal.returns-clause-done
 returns-clause-done g c =
-    IfOk-weaker c.carry_out.result _ _ (λ _ carried tree printed told. record {
+    IfOk-weaker c.carry_out.result _ _ (λ answer done tree printed told. let carried = done.1 in record {
       plan = plan_of c.args.folder.now c.in_ok-work.work;
       is_due = c.in_ok-work.ensures.due tree told;
+      answers = done.0;
       carried = rw c.in_ok-work.ensures.kept at (carried printed);
-    }) c.carry_out.ensures.ok
+    }) (both_ok c.carry_out.result _ _ c.carry_out.ensures.answers c.carry_out.ensures.ok)
 
 -- or its outputs were cut short
 pub returns-clause-cut : goal.returns-clause-cut

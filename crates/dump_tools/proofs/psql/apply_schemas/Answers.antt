@@ -1,5 +1,6 @@
 use Rattle.std.proofs.Common.{refl}
 use Rattle.std.proofs.lemmas.Result.{on_err_weaker, IfOk-weaker}
+use Rattle.tool_words.specs.declared.outcome.Outcome.TheVariants.{Done}
 use Rattle.dump_tools.specs.Due.{application_of, report_of}
 use Rattle.tool_words.proofs.Lining.{always_err}
 use Rattle.dump_tools.proofs.Ending.{applied}
@@ -11,7 +12,7 @@ pub returns-in_err-write_folder-clause-cut : goal.returns-in_err-write_folder-cl
 returns-in_err-write_folder-clause-cut g c =
     let plan = application_of c.args.folder.now c.args.work in
     always_err c.from_residual-in_err-write_folder.result
-    (λ teller left printed. cut_in_files teller _ _ (report_of plan)
+    (λ teller left printed. cut_in_files teller _ _ (report_of plan) Done
     (may_apply plan _ _ c.in_ok-report.ensures.grown (rw c.deref.ensures.value at c.in_ok-report.ensures.applied) c.in_ok-namespaces.ensures)
     _ _ left printed _ (rw c.deref-2.ensures.value at c.in_err-write_folder.ensures.err))
 
@@ -27,7 +28,7 @@ returns-clause-ok g c =
 pub returns-clause-cut : goal.returns-clause-cut
 returns-clause-cut g c =
     let plan = application_of c.args.folder.now c.args.work in
-    on_err_weaker c.write_report.result (λ part teller left printed. cut_in_told teller _ _ (report_of plan)
+    on_err_weaker c.write_report.result (λ part teller left printed. cut_in_told teller _ _ (report_of plan) Done
     (may_apply plan _ _ c.in_ok-report.ensures.grown (rw c.deref.ensures.value at c.in_ok-report.ensures.applied) c.in_ok-namespaces.ensures)
     _ _ left printed _ _ (rw c.deref-2.ensures.value at c.in_ok-write_folder.ensures.ok)
     (rw (rw c.deref.ensures.value at c.in_ok-report.ensures.reported) at (rw c.deref-3.ensures.value at part)))

@@ -18,12 +18,12 @@ returns-in_err-text-clause-cut g c =
 pub returns-in_err-text-clause-refused : goal.returns-in_err-text-clause-refused
 returns-in_err-text-clause-refused g c =
     let p = err_from_is_err_and c.from_residual.result c.from_residual.ensures.1 in
-    rw (p.1, p.2) (λ tree bytes known tells. inl (psql_refused _ c.args.folder.now c.args.script.now tree bytes (c.in_err-text.ensures.due tree bytes known tells)))
+    rw (p.1, p.2) (λ tree bytes known tells. inl (psql_refused _ c.args.folder.now c.args.script.now c.args.stop tree bytes (c.in_err-text.ensures.due tree bytes known tells)))
 
 pub returns-clause-refused : goal.returns-clause-refused
 returns-clause-refused g c =
     IfErr-weaker c.apply.result _ _ (λ outcome due tree bytes known tells.
-    subst (λ (d : Result Plan Outcome). IsAnswerDue outcome d) (sym (psql_read c.args.folder.now c.args.script.now tree bytes c.in_ok-text.text.items (c.in_ok-text.ensures.due tree bytes known tells)))
+    subst (λ (d : Result Plan Outcome). IsAnswerDue outcome d) (sym (psql_read c.args.folder.now c.args.script.now c.args.stop tree bytes c.in_ok-text.text.items (c.in_ok-text.ensures.due tree bytes known tells)))
     (rw c.deref.ensures.value at (due tree (c.in_ok-text.ensures.kept ∙ known))))
     c.apply.ensures.refused
 
@@ -36,8 +36,8 @@ returns-clause-counted g c = λ prints.
 -- the plan that is due was carried out
 pub returns-clause-done : goal.returns-clause-done
 returns-clause-done g c =
-    IfOk-weaker c.apply.result _ _ (λ _ done tree bytes printed known tells.
-    psql_done c.args.folder.now c.args.script.now tree bytes c.in_ok-text.text.items _ _ _ printed _ _ (c.in_ok-text.ensures.due tree bytes known tells) c.in_ok-text.ensures.kept
+    IfOk-weaker c.apply.result _ _ (λ answer done tree bytes printed known tells.
+    psql_done c.args.folder.now c.args.script.now c.args.stop tree bytes c.in_ok-text.text.items answer _ _ _ printed _ _ (c.in_ok-text.ensures.due tree bytes known tells) c.in_ok-text.ensures.kept
     (rw c.deref.ensures.value at (done tree printed (c.in_ok-text.ensures.kept ∙ known))))
     c.apply.ensures.done
 
@@ -47,6 +47,6 @@ returns-clause-cut g c =
     on_err_weaker c.apply.result (λ cut teller tree bytes printed known tells.
     behind_cut _ teller _ _ _ _
     (begun _ _ _ _ _ printed printed _ _ (c.in_ok-text.ensures.taken bytes tells) c.in_ok-text.ensures.kept refl refl)
-    (cut_due teller None None _ _ _ _ refl (psql_read c.args.folder.now c.args.script.now tree bytes c.in_ok-text.text.items (c.in_ok-text.ensures.due tree bytes known tells))
+    (cut_due teller None None _ _ _ _ refl (psql_read c.args.folder.now c.args.script.now c.args.stop tree bytes c.in_ok-text.text.items (c.in_ok-text.ensures.due tree bytes known tells))
     (rw c.deref.ensures.value at (cut teller tree (g.I.Source.left c.read_source.new.input) printed (c.in_ok-text.ensures.kept ∙ known)))))
     c.apply.ensures.cut

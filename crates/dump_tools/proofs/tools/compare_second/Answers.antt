@@ -8,10 +8,11 @@ use Rattle.dump_tools.proofs.tools.compare_second.Goals as goal
 -- both stand for the same, and nothing was written
 pub returns-clause-done : goal.returns-clause-done
 returns-clause-done g c =
-    IfOk-weaker c.compare_both.result _ _ (λ _ same tree printed told known. record {
+    IfOk-weaker c.compare_both.result _ _ (λ answer same tree printed told known. record {
       plan = Compares (export_named c.args.one.now) (export_named c.in_ok-other.other);
       is_due = second_read c.args.one.now c.args.second.now tree c.in_ok-other.other (c.in_ok-other.ensures.due tree known);
-      carried = (same, c.in_ok-other.ensures.kept, refl, refl);
+      answers = same.0;
+      carried = (same.1, c.in_ok-other.ensures.kept, refl, refl);
     }) c.compare_both.ensures.done
 
 -- or not

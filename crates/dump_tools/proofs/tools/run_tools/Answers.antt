@@ -6,21 +6,26 @@ use Rattle.dump_tools.proofs.Counting.{counted_told, counted_untold, lines_risen
 use Rattle.dump_tools.proofs.Refusing.{due_never}
 use Rattle.dump_tools.proofs.Putting.{ended}
 use Rattle.dump_tools.proofs.Taking.{begun, behind_ended}
-use Rattle.dump_tools.proofs.Telling.{told_answer, untold_answer, refuses, completed}
+use Rattle.dump_tools.proofs.Telling.{as_answered, not_early, counted_final, told_answer, untold_answer, refuses, completed}
 use Rattle.dump_tools.proofs.tools.run_tools.Goals as goal
 
 -- what was due was done
 pub returns-in-Ok-clause-answered : goal.returns-in-Ok-clause-answered
 returns-in-Ok-clause-answered g c = λ tree bytes known tells.
-    behind_ended _ (teller_of c.args.words.now) (due c.args.words.now c.args.moment tree bytes) _ _ _ _
+    as_answered c.in-Ok.answer c.args.words.now c.args.moment tree bytes _ _ _ _
+    (λ early. elim (not_early c.in-Ok.answer c.in-Ok.ensures.ends early) [ ])
+    (λ late. behind_ended _ (teller_of c.args.words.now) (due c.args.words.now c.args.moment tree bytes) _ _ _ _
     (begun _ _ _ _ _ _ _ _ _ (c.in-Ok.ensures.taken bytes tells) refl refl refl)
-    (ended (teller_of c.args.words.now) (due c.args.words.now c.args.moment tree bytes) _ _ _ _ _ _ _ (c.in-Ok.ensures.done tree bytes known tells))
+    (ended (teller_of c.args.words.now) (due c.args.words.now c.args.moment tree bytes) _ _ _ _ _ _ _ _ (c.in-Ok.ensures.done tree bytes known tells)))
+
+pub returns-in-Ok-clause-counted : goal.returns-in-Ok-clause-counted
+returns-in-Ok-clause-counted g c = counted_final c.in-Ok.answer _ _ c.in-Ok.ensures.ends c.in-Ok.ensures.counted
 
 pub returns-in-Ok-clause-complete : goal.returns-in-Ok-clause-complete
 returns-in-Ok-clause-complete g c = λ tree bytes known tells none. inl (
     behind_ended _ (teller_of c.args.words.now) (due c.args.words.now c.args.moment tree bytes) _ _ _ _
     (begun _ _ _ _ _ _ _ _ _ (c.in-Ok.ensures.taken bytes tells) refl refl refl)
-    (ended (teller_of c.args.words.now) (due c.args.words.now c.args.moment tree bytes) _ _ _ _ _ _ _ (c.in-Ok.ensures.done tree bytes known tells)))
+    (ended (teller_of c.args.words.now) (due c.args.words.now c.args.moment tree bytes) _ _ _ _ _ _ _ _ (c.in-Ok.ensures.done tree bytes known tells)))
 
 -- an answer whose line was told
 pub returns-in-Ok-tell_outcome-clause-counted : goal.returns-in-Ok-tell_outcome-clause-counted
