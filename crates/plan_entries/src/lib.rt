@@ -1,0 +1,10 @@
+//! The plan of a restore made: what each entry of a list depends on, locks, reads and writes, in its place.
+#![tactic(auto)]
+
+mod earlier;
+mod footprints;
+mod places;
+mod plan;
+
+pub use places::placed_entries;
+pub use plan::Plan;
