@@ -43,7 +43,7 @@ use Rattle.ddl_read.specs.declared.fault.DdlFault.{DdlFault}
 use Rattle.ddl_read.specs.declared.located.Located.{Located}
 use Rattle.ddl_read.specs.Reading.{statements_of}
 use Rattle.ddl_laws.specs.Respelling.{IsWritable}
-use Rattle.ddl_laws.proofs.Respelled.{read_writable}
+use Rattle.ddl_laws.proofs.Respelled.{read_is_writable}
 use Rattle.row_texts.specs.declared.index_text.IndexText.{IndexText}
 use Rattle.row_texts.specs.DefaultTexts.{default_said}
 use Rattle.row_texts.specs.IndexTexts.{Named, named_index, index_of, index_part, index_text, is_bracketed, if_bracketed, index_said}
@@ -248,7 +248,7 @@ stated_writable : (text : Bytes) (s : Stmt) → statement_said text ≡ Some s �
 stated_writable text s e = by (statements_of (statement_text text)) refl e
   where
     one : (found : Located) → statements_of (statement_text text) ≡ Ok (found ∷ []) → (b : Bool) → cond {A = Option Stmt} b (Some found.stmt) None ≡ Some s → IsWritable s
-    one found read true h = let same : found.stmt ≡ s = cc in subst IsWritable same (read_writable (statement_text text) (found ∷ []) read).0
+    one found read true h = let same : found.stmt ≡ s = cc in subst IsWritable same (read_is_writable (statement_text text) (found ∷ []) read).0
     one found read false h = absurd cc
 
     by : (r : Result (List Located) DdlFault) → statements_of (statement_text text) ≡ r → only_statement (length (statement_text text)) r ≡ Some s → IsWritable s

@@ -24,7 +24,7 @@ use Rattle.cat_load.specs.declared.meeting.LoadFault.{LoadFault}
 use Rattle.ddl_read.specs.declared.located.Located.{Located}
 use Rattle.ddl_read.specs.Reading.{statements_of}
 use Rattle.ddl_laws.specs.Respelling.{said}
-use Rattle.ddl_laws.proofs.Respelled.{read_writable}
+use Rattle.ddl_laws.proofs.Respelled.{read_is_writable}
 use Rattle.model_laws.specs.Examples.{catalogue_after}
 use Rattle.cat_sound.specs.Asked.{Asked}
 use Rattle.cat_sound.specs.Sound.{IsMet, IsSound}
@@ -93,4 +93,4 @@ module _ (cat : Catalogue) (texts : TextsByOid) (is : IsLoaded cat texts) where
   script_sound role text found e read =
       let at = boot_there cat (rows_by_oid texts) well in
       let same : at.0 ≡ role = let both = sym at.1 ∙ e in cc in
-      run-keeps grammar role (said found) (loaded cat texts) sound (all_fit (said found) (read_writable text found read)) (subst (λ (n : Bytes). IsMet (loaded cat texts) (key.Role n, Asked.there)) same at.2)
+      run-keeps grammar role (said found) (loaded cat texts) sound (all_fit (said found) (read_is_writable text found read)) (subst (λ (n : Bytes). IsMet (loaded cat texts) (key.Role n, Asked.there)) same at.2)
