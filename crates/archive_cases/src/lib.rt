@@ -12,3 +12,4 @@ mod showing;
 
 pub use answering::answer;
 pub use kind::ArchiveKind;
+pub use showing::put_entry;

@@ -93,7 +93,7 @@ fn put_extra(alloc: Global, extra: &Extra, out: &mut Vec<u8>) -> Result<(), Allo
 }
 
 /// Appends an entry.
-pub(crate) fn put_entry(alloc: Global, entry: &Entry, out: &mut Vec<u8>) -> Result<(), AllocError> {
+pub fn put_entry(alloc: Global, entry: &Entry, out: &mut Vec<u8>) -> Result<(), AllocError> {
     put_identity(alloc, entry, out)?;
     put_labels(alloc, entry, out)?;
     put_statements(entry, out)?;

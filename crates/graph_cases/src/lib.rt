@@ -6,4 +6,5 @@ mod labels;
 mod options;
 mod selecting;
 
+pub use options::select_of;
 pub use selecting::selected;

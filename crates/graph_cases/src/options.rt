@@ -15,6 +15,9 @@ struct Reading {
     schema_only: bool,
     data_only: bool,
     strict: bool,
+    owners: bool,
+    grants: bool,
+    comments: bool,
     sections: Sections,
 }
 
@@ -29,6 +32,9 @@ impl Reading {
             schema_only: false,
             data_only: false,
             strict: false,
+            owners: true,
+            grants: true,
+            comments: true,
             sections: Sections {
                 pre: false,
                 rows: false,
@@ -46,7 +52,10 @@ impl Reading {
             "--section=pre-data" => self.sections.pre = true,
             "--section=data" => self.sections.rows = true,
             "--section=post-data" => self.sections.post = true,
-            "-O" | "-x" | "--no-comments" | "all" => {}
+            "-O" => self.owners = false,
+            "-x" => self.grants = false,
+            "--no-comments" => self.comments = false,
+            "all" => {}
             _ => return false,
         }
         true
@@ -75,9 +84,9 @@ impl Reading {
             schema_only: self.schema_only,
             data_only: self.data_only,
             strict: self.strict,
-            owners: true,
-            grants: true,
-            comments: true,
+            owners: self.owners,
+            grants: self.grants,
+            comments: self.comments,
             sections: Sections {
                 pre: none || self.sections.pre,
                 rows: none || self.sections.rows,
@@ -154,7 +163,7 @@ fn read_word<'w>(
 }
 
 /// The selection that a line says; `None` where it says none.
-pub(crate) fn select_of(alloc: Global, line: &str) -> Result<Option<Select>, AllocError> {
+pub fn select_of(alloc: Global, line: &str) -> Result<Option<Select>, AllocError> {
     let words = words_of(alloc, line)?;
     let mut reading = Reading::new(alloc);
     let mut asked = None;

@@ -1,4 +1,4 @@
 mod Shown
-mod Lines
+pub mod Lines
 mod Session
 mod Entries

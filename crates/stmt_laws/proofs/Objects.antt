@@ -136,7 +136,7 @@ type_can cat o g =
 
 -- ---- tables
 
-columns_hold : (cat : Catalogue) → HoldsCells cat → (relation : ℕ) → All table.PgAttribute attribute_cells (columns_of cat relation)
+pub columns_hold : (cat : Catalogue) → HoldsCells cat → (relation : ℕ) → All table.PgAttribute attribute_cells (columns_of cat relation)
 columns_hold cat holds relation =
     numbered_have (IsOf table.PgAttribute attribute_cells) (λ a. a.attnum) (filter (λ a. same_oid relation a.attrelid) cat.pg_attribute)
     (kept_have (IsOf table.PgAttribute attribute_cells) (λ a. same_oid relation a.attrelid) cat.pg_attribute (rows_hold cat holds table.PgAttribute attribute_cells cat.pg_attribute refl))
@@ -164,7 +164,7 @@ table_can cat standing o g =
     let columns_ok = chosen_have (IsOf table.PgAttribute attribute_cells) IsColumn (column_def cat standing) (columns_of cat oid) (columns_hold cat g.holds oid) (column_known cat g.laws standing) in
     known_map IsPath IsWritable (table_at cat standing oid) (path_of o) g.path (λ q path. (path, columns_ok, checks_ok))
 
-column_found : (cat : Catalogue) → HoldsCells cat → (relation : ℕ) (number : ℤ) → Known (IsOf table.PgAttribute attribute_cells) (column_at cat relation number)
+pub column_found : (cat : Catalogue) → HoldsCells cat → (relation : ℕ) (number : ℤ) → Known (IsOf table.PgAttribute attribute_cells) (column_at cat relation number)
 column_found cat holds relation number = found_has (IsOf table.PgAttribute attribute_cells) (λ a. same_oid relation a.attrelid && int_eq number a.attnum) cat.pg_attribute (rows_hold cat holds table.PgAttribute attribute_cells cat.pg_attribute refl)
 
 default_can : (cat : Catalogue) (o : Obj) → Given cat o → Known IsWritable (default_stmt cat o)
@@ -262,7 +262,7 @@ index_can cat o g = by (index_of cat o.id.oid)
 
 -- ---- all kinds
 
-kind_can : (cat : Catalogue) (standing : List ℕ) (o : Obj) → Given cat o → Known IsName o.name → (k : ObjKind) → is_dummy k ≡ false → Known IsWritable (stmt_of_kind cat standing o k)
+pub kind_can : (cat : Catalogue) (standing : List ℕ) (o : Obj) → Given cat o → Known IsName o.name → (k : ObjKind) → is_dummy k ≡ false → Known IsWritable (stmt_of_kind cat standing o k)
 kind_can cat standing o g name kind.Schema e = schema_can o.name name
 kind_can cat standing o g name kind.UserType e = type_can cat o g
 kind_can cat standing o g name kind.Table e = table_can cat standing o g
@@ -279,7 +279,7 @@ kind_can cat standing o g name kind.Index e = index_can cat o g
 kind_can cat standing o g name kind.Rule e = rule_can cat o g
 kind_can cat standing o g name kind.Foreign e = constraint_can cat o g
 
-given : (laws : TextLaws) (cat : Catalogue) (o : Obj) → HoldsCells cat → IsNamed o → Given cat o
+pub given : (laws : TextLaws) (cat : Catalogue) (o : Obj) → HoldsCells cat → IsNamed o → Given cat o
 given laws cat o holds named = record { laws = laws; holds = holds; path = path_so o.schema o.name (known_so IsName o.schema named.0) (known_so IsName o.name named.1) }
 
 pub own_can : (laws : TextLaws) (cat : Catalogue) (standing : List ℕ) (o : Obj) (s : Stmt) → HoldsCells cat → IsNamed o → is_dummy o.kind ≡ false → stmt_of cat standing o ≡ Some s → IsWritable s

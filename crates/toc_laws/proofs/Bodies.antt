@@ -1,0 +1,149 @@
+-- What the definition of an entry says lies in it, and so do the rows of a table.
+use Rattle.std.proofs.Common.{◌≡◌, ℕ, Bool, true, false, List, [], ◌∷◌, ◌++◌, map, append_assoc, append-nil, Option, Some, None, refl, sym, ap, subst, ◌∙◌, codes}
+use Rattle.std.specs.Prelude.{unwrap_or, if◌then◌else◌}
+use Rattle.std.specs.List.{AllByRecursion, flat_map}
+use Rattle.std.specs.Option.{option_map}
+use Rattle.std.specs.Str.{is_utf8, chars}
+use Rattle.std.proofs.Math.Utf8.{encode}
+use Rattle.std.proofs.lemmas.Bool.{cases_Bool}
+use Rattle.std.proofs.Common.{inl, inr}
+use Rattle.sql_lex.specs.Bytes.{in_line}
+use Rattle.sql_lex.specs.Written.{written_name}
+use Rattle.copy_text.specs.Texts.{IsName}
+use Rattle.cat_model.specs.declared.object.QName.{QName}
+use Rattle.cat_model.specs.declared.stmt.Stmt.{Stmt}
+use Rattle.cat_model.specs.declared.stmt.Stmt.TheVariants as stmt
+use Rattle.cat_model.specs.Values.{Bytes}
+use Rattle.cat_rows.specs.declared.catalogue.Catalogue.{Catalogue}
+use Rattle.cat_rows.specs.declared.relations.AttributeRow.{AttributeRow}
+use Rattle.cat_rows.specs.declared.table.SysTable.TheVariants as table
+use Rattle.cat_rows.specs.declared.types.TypeRow.{TypeRow}
+use Rattle.cat_rows.specs.RowCells.{attribute_cells}
+use Rattle.cat_book.specs.Chains.{type_of, is_domain_letter}
+use Rattle.ddl_lines.specs.CopyRows.{AreRows}
+use Rattle.ddl_write.specs.Paths.{path, listed}
+use Rattle.ddl_write.specs.RowsText.{copy_text}
+use Rattle.ddl_write.specs.Spelling.{spelling}
+use Rattle.ddl_laws.specs.Laying.{Lays, no_more, comment_line, statement_text}
+use Rattle.ddl_laws.specs.Respelling.{IsPath, IsWritable, AllWritable}
+use Rattle.graph_parts.specs.declared.object.Obj.{Obj}
+use Rattle.graph_parts.specs.declared.object.ObjKind.{ObjKind}
+use Rattle.graph_parts.specs.declared.object.ObjKind.TheVariants as kind
+use Rattle.dump_rows.specs.Rows.{columns_of}
+use Rattle.dump_grants.specs.Stmts.{texts, spelled}
+use Rattle.dump_stmts.specs.Paths.{path_of, written, is_public}
+use Rattle.dump_stmts.specs.Stmts.{schema_stmt, stmt_of_kind, schema_defn, defn_of_kind}
+use Rattle.dump_stmts.specs.Tables.{more_names, column_list, copy_line, copy_of}
+use Rattle.dump_toc.specs.Drafts.{copy_of_kind}
+use Rattle.dump_toc.specs.Tags.{type_desc, desc_of_kind}
+use Rattle.fmt_text.specs.Parts.{is_table_data, text_or_none}
+use Rattle.script_laws.proofs.Lines.{lays_both, known_shown, two_lines}
+use Rattle.stmt_laws.specs.Named.{HoldsCells}
+use Rattle.stmt_laws.proofs.Lists.{Known, seen_have}
+use Rattle.stmt_laws.proofs.Rows.{IsOf}
+use Rattle.stmt_laws.proofs.Objects.{columns_hold}
+use Rattle.toc_laws.specs.Dumps.{is_data}
+
+-- statements that a text says
+abbrev pub Said : List ℕ → Type 0
+Said text = (statements : List Stmt) × Lays text statements
+
+abbrev pub SpelledLaw : Type 0
+SpelledLaw = (s : Stmt) → IsWritable s → (text : List ℕ) × (spelling s ≡ Some text)
+
+-- ---- statements
+
+pub spelled_lays : SpelledLaw → (s : Stmt) → IsWritable s → Lays (written (Some s)) (s ∷ [])
+spelled_lays law s is =
+    let w = law s is in
+    let text : unwrap_or (spelling s) [] ≡ w.0 = ap (λ (o : Option (List ℕ)). unwrap_or o []) w.1 in
+    subst (λ (x : List ℕ). Lays x (s ∷ [])) (append-nil w.0 ∙ sym text) (statement_text s w.0 [] [] is w.1 no_more)
+
+pub written_says : SpelledLaw → (o : Option Stmt) → Known IsWritable o → Said (written o)
+written_says law None k = ([], no_more)
+written_says law (Some s) k = (s ∷ [], spelled_lays law s k)
+
+pub texts_lay : SpelledLaw → (ss : List Stmt) → AllWritable ss → Lays (texts ss) ss
+texts_lay law [] all = no_more
+texts_lay law (s ∷ ss) all = lays_both (spelled s) (texts ss) (s ∷ []) ss (spelled_lays law s all.0) (texts_lay law ss all.1)
+
+-- ---- definitions
+
+schema_by : SpelledLaw → (public : Bool) (name : List ℕ) → Known IsWritable (if public then None else Some (stmt.CreateSchema name))
+    → Said (if public then codes "-- *not* creating schema, since initdb creates it\n" else written (if public then None else Some (stmt.CreateSchema name)))
+unfolding in_line is_utf8 chars encode
+schema_by law true name k = ([], comment_line (codes " *not* creating schema, since initdb creates it") [] [] (known_shown _ refl refl) no_more)
+schema_by law false name k = (stmt.CreateSchema name ∷ [], spelled_lays law (stmt.CreateSchema name) k)
+
+schema_says : SpelledLaw → (name : Option (List ℕ)) → Known IsWritable (schema_stmt name) → Said (schema_defn name)
+schema_says law None k = ([], no_more)
+schema_says law (Some name) k = schema_by law (is_public name) name k
+
+defn_says : SpelledLaw → (cat : Catalogue) (standing : List ℕ) (o : Obj) (k : ObjKind) → Known IsWritable (stmt_of_kind cat standing o k) → Said (defn_of_kind cat standing o k)
+defn_says law cat standing o kind.Schema can = schema_says law o.name can
+defn_says law cat standing o other can = written_says law (stmt_of_kind cat standing o other) can
+
+-- ---- rows
+
+abbrev names_in : List AttributeRow → List (List ℕ)
+names_in columns = map (λ (a : AttributeRow). a.attname) columns
+
+more_is : (columns : List AttributeRow) → more_names columns ≡ flat_map (λ n. codes ", " ++ written_name n) (names_in columns)
+more_is [] = refl
+more_is (a ∷ columns) = ap (λ (x : List ℕ). (codes ", " ++ written_name a.attname) ++ x) (more_is columns)
+
+-- the line of COPY, the rows and two empty lines, parted otherwise
+parted : (path list from rows last more : List ℕ) → ((codes "COPY " ++ path) ++ list ++ from) ++ (rows ++ (last ++ more)) ≡ (codes "COPY " ++ (path ++ (list ++ (from ++ (rows ++ (last ++ [])))))) ++ more
+parted path list from rows last more = simp (append_assoc, append-nil)
+
+line_and_rows : (q : QName) (columns : List AttributeRow) (r : List ℕ) → copy_line q columns ++ (r ++ codes "\\.\n\n\n") ≡ copy_text q (names_in columns) r ++ codes "\n\n"
+unfolding copy_line copy_text column_list listed
+line_and_rows q [] r = parted (path q) [] (codes " FROM stdin;\n") r (codes "\\.\n") (codes "\n\n")
+line_and_rows q (a ∷ columns) r =
+    let names = (codes "(" ++ written_name a.attname) in
+    ap (λ (x : List ℕ). ((codes "COPY " ++ path q) ++ ((codes " (" ++ written_name a.attname) ++ x ++ codes ")") ++ codes " FROM stdin;\n") ++ (r ++ codes "\\.\n\n\n")) (more_is columns)
+    ∙ parted (path q) (codes " " ++ (names ++ flat_map (λ n. codes ", " ++ written_name n) (names_in columns) ++ codes ")")) (codes " FROM stdin;\n") r (codes "\\.\n") (codes "\n\n")
+
+rows_say : (cat : Catalogue) → HoldsCells cat → (oid : ℕ) (q : QName) → IsPath q → (r : List ℕ) → AreRows r → Said (copy_line q (columns_of cat oid) ++ (r ++ codes "\\.\n\n\n"))
+unfolding spelling
+rows_say cat holds oid q is r are =
+    let columns = columns_of cat oid in
+    let s = stmt.CopyRows q (names_in columns) r in
+    let named : AllByRecursion IsName (names_in columns) = seen_have (IsOf table.PgAttribute attribute_cells) IsName (λ a. a.attname) columns (columns_hold cat holds oid) (λ a row. row.cells.1.1.0) in
+    let lays : Lays (copy_text q (names_in columns) r ++ codes "\n\n") (s ∷ []) = statement_text s (copy_text q (names_in columns) r) (codes "\n\n") [] (is, named, are) refl two_lines in
+    (s ∷ [], subst (λ (x : List ℕ). Lays x (s ∷ [])) (sym (line_and_rows q columns r)) lays)
+
+abbrev copied_of : Catalogue → Obj → Option QName → Bytes
+copied_of cat o q = unwrap_or (option_map (λ q. copy_line q (columns_of cat o.id.oid)) q) []
+
+data_says : (cat : Catalogue) → HoldsCells cat → (o : Obj) (q : QName) → Known IsPath (path_of o) → path_of o ≡ Some q → (rows : Option Bytes) (r : Bytes) → AreRows r → rows ≡ Some (r ++ codes "\\.\n\n\n") → Said (copy_of cat o ++ text_or_none rows)
+data_says cat holds o q known is rows r are e =
+    let path : IsPath q = subst (Known IsPath) is known in
+    subst Said (ap (λ (p : Option QName). copied_of cat o p ++ (r ++ codes "\\.\n\n\n")) (sym is) ∙ ap (λ (x : Option (List ℕ)). copy_of cat o ++ text_or_none x) (sym e))
+    (rows_say cat holds o.id.oid q path r are)
+
+-- ---- the body of an object's entry
+
+abbrev pub object_body : Catalogue → List ℕ → Obj → ObjKind → Option Bytes → Bytes
+object_body cat standing o k rows =
+    if is_table_data (desc_of_kind cat o k) then text_or_none (copy_of_kind cat o k) ++ text_or_none rows else defn_of_kind cat standing o k ++ codes "\n\n"
+
+type_is_none : (r : Option TypeRow) → is_table_data (type_desc r) ≡ false
+type_is_none None = refl
+type_is_none (Some row) = elim (cases_Bool (is_domain_letter row.typtype)) [ inl is ↦ rw is refl | inr isnt ↦ rw isnt refl ]
+
+pub lines_behind : (text : List ℕ) → Said text → Said (text ++ codes "\n\n")
+lines_behind text says = (says.0 ++ [], lays_both text (codes "\n\n") says.0 [] says.1 two_lines)
+
+-- where an object is the rows of a table, these
+abbrev pub DataSays : Catalogue → Obj → ObjKind → Option Bytes → Type 0
+DataSays cat o k rows = is_data k ≡ true → Said (copy_of cat o ++ text_or_none rows)
+
+pub object_says : SpelledLaw → (cat : Catalogue) (standing : List ℕ) (o : Obj) (rows : Option Bytes) (k : ObjKind) → Known IsWritable (stmt_of_kind cat standing o k) → DataSays cat o k rows → Said (object_body cat standing o k rows)
+object_says law cat standing o rows kind.TableData can copied = copied refl
+object_says law cat standing o rows kind.UserType can copied = rw (type_is_none (type_of cat.pg_type o.id.oid)) (lines_behind _ (defn_says law cat standing o kind.UserType can))
+object_says law cat standing o rows kind.Schema can copied = lines_behind _ (defn_says law cat standing o kind.Schema can)
+object_says law cat standing o rows other can copied = lines_behind _ (defn_says law cat standing o other can)
+
+pub rows_are : (cat : Catalogue) → HoldsCells cat → (o : Obj) (q : QName) → Known IsPath (path_of o) → path_of o ≡ Some q → (rows : Option Bytes) (r : Bytes) → AreRows r → rows ≡ Some (r ++ codes "\\.\n\n\n") → Said (copy_of cat o ++ text_or_none rows)
+rows_are = data_says

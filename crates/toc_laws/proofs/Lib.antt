@@ -1,0 +1,4 @@
+mod Names
+mod Remarks
+mod Bodies
+mod Dumps

@@ -1,0 +1,53 @@
+-- What is known of what a dump takes, so that its script reads as its statements.
+use Rattle.std.specs.Prelude.{◌≡◌, ◌++◌, Bool, true, false, List, map, Option, Some, codes}
+use Rattle.std.specs.List.{AllByRecursion}
+use Rattle.std.specs.Option.{ForSome, option_and_then}
+use Rattle.cat_rows.specs.declared.catalogue.Catalogue.{Catalogue}
+use Rattle.cat_model.specs.declared.object.QName.{QName}
+use Rattle.cat_model.specs.declared.stmt.Stmt.{Stmt}
+use Rattle.cat_model.specs.Values.{Bytes}
+use Rattle.ddl_laws.specs.Respelling.{AllWritable, IsExpressionText}
+use Rattle.ddl_lines.specs.CopyRows.{AreRows}
+use Rattle.graph_parts.specs.declared.object.Obj.{Obj}
+use Rattle.graph_parts.specs.declared.object.ObjKind.{ObjKind}
+use Rattle.graph_parts.specs.declared.object.ObjKind.TheVariants as kind
+use Rattle.dep_sort.specs.Ordering.{Sorted}
+use Rattle.dump_grants.specs.Stmts.{grant_stmts}
+use Rattle.dump_stmts.specs.Paths.{path_of}
+use Rattle.dump_stmts.specs.Views.{dummy_body}
+use Rattle.dump_toc.specs.Owners.{owner_of}
+use Rattle.dump_toc.specs.Rights.{granted_as, grant_kind, acl_of}
+use Rattle.toc_entry.specs.declared.entry.Entry.{Entry}
+use Rattle.script_laws.specs.Scripts.{AllEntries, rows_of}
+use Rattle.stmt_laws.specs.Named.{HoldsCells, IsNamed, is_dummy}
+
+abbrev pub is_data : ObjKind → Bool
+is_data kind.TableData = true
+is_data other = false
+
+-- the statements for the grants on an object, where there are some
+abbrev pub rights_stmts : Catalogue → Obj → Option (List Stmt)
+rights_stmts cat o =
+    option_and_then (λ acl. option_and_then (λ owner. option_and_then (λ what. grant_stmts (grant_kind o.kind) what owner acl) (granted_as o o.kind)) (owner_of cat o)) (acl_of cat o o.kind)
+
+-- An object's names are names, the rows that it is are those of a path, and what isn't shown to be writable is: the body of a
+-- dummy view, and grants.
+pub record IsDumpable (cat : Catalogue) (o : Obj) : Type 0 where
+  pub named : IsNamed o
+  pub path : is_data o.kind ≡ true → (q : QName) × (path_of o ≡ Some q)
+  pub body : is_dummy o.kind ≡ true → IsExpressionText (dummy_body cat o.id.oid)
+  pub grants : ForSome (rights_stmts cat o) AllWritable
+
+pub record IsDump (cat : Catalogue) (order : Sorted) : Type 0 where
+  pub cells : HoldsCells cat
+  pub objects : AllByRecursion (IsDumpable cat) order.objects
+
+-- the rows of an entry that has rows, and what ends them
+abbrev pub HasRows : Entry → Option Bytes → Type 0
+HasRows e rows = e.has_rows ≡ true → (r : Bytes) × AreRows r × (rows ≡ Some (r ++ codes "\\.\n\n\n"))
+
+abbrev pub HaveRows : AllEntries → Type 0
+HaveRows entries = AllByRecursion (λ e. HasRows e.0 (rows_of e)) entries
+
+abbrev pub entries_in : AllEntries → List Entry
+entries_in entries = map (λ e. e.0) entries
