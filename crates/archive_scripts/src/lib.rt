@@ -1,0 +1,9 @@
+//! The plain scripts of archives.
+#![tactic(auto)]
+
+mod custom;
+mod directory;
+mod entries;
+
+pub use custom::custom_script;
+pub use directory::directory_script;
