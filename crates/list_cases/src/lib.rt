@@ -1,0 +1,7 @@
+//! Cases of lists and scripts of archives, for the program `trials`.
+#![tactic(auto)]
+
+mod answering;
+mod request;
+
+pub use answering::answer;
