@@ -1,0 +1,22 @@
+//! Laws of the definitions, each the contract of a function that does nothing.
+ghost use Rattle.std.specs.Prelude.{◌≡◌, true, Some};
+ghost use Rattle.cat_model.specs.declared.object.QName.{QName};
+ghost use Rattle.cat_model.specs.declared.type_name.TypeName.{TypeName};
+ghost use Rattle.cat_model.specs.declared.value.Index.{Index};
+ghost use Rattle.cat_model.specs.Values.{Bytes};
+ghost use Rattle.ddl_write.specs.Tables.{type_text};
+ghost use Rattle.row_texts.specs.DefaultTexts.{default_said};
+ghost use Rattle.row_texts.specs.IndexTexts.{index_said};
+ghost use Rattle.row_texts.specs.TypeTexts.{type_named};
+ghost use Rattle.row_texts.specs.ViewTexts.{view_body};
+ghost use Rattle.sound_texts.specs.Grammar.{grammar};
+ghost use Rattle.good_texts.specs.Rows.{body_text, index_text};
+
+/// A type that is good is named by its one spelling, a default that is good by itself, a view's body with a semicolon behind it,
+/// and an index by the statement that makes it.
+pub fn good_texts_are_read_from_rows()
+    ensures types { (t : TypeName) → grammar.type t ≡ true → type_named (type_text t) ≡ Some t }
+    ensures defaults { (v : Bytes) → grammar.expression v ≡ true → default_said v ≡ Some v }
+    ensures bodies { (v : Bytes) → grammar.body v ≡ true → view_body (body_text v) ≡ Some v }
+    ensures indexes { (q : QName) (name : Bytes) (i : Index) → grammar.index q name i ≡ true → index_said (index_text q name i) ≡ Some (record { unique = i.unique; name = name; table = q; method = i.method; rest = i.text }) }
+{}
