@@ -1,7 +1,7 @@
 pub mod Computing
 pub mod GrammarLaws
 pub mod Paths
-mod Relations
+pub mod Relations
 mod Tables
 mod Admin
 mod Rights

@@ -61,7 +61,7 @@ no_semicolon (t ∷ u ∷ ts) last ends = let both = and_parts (not (semicolon t
     of_not true e = absurd cc
     of_not false e = refl
 
-are_collected : (text : Bytes) (ts : List Lexeme) → spelled ts ≡ text → Stood ts → only_last semicolon ts ≡ true → IsCollected text 0 ts (collected text 0)
+pub are_collected : (text : Bytes) (ts : List Lexeme) → spelled ts ≡ text → Stood ts → only_last semicolon ts ≡ true → IsCollected text 0 ts (collected text 0)
 are_collected text ts bytes stood last = by (ends_with semicolon ts) refl
   where
     by : (b : Bool) → ends_with semicolon ts ≡ b → IsCollected text 0 ts (collected text 0)
@@ -76,7 +76,7 @@ all_of text ts bytes are =
 
 -- ---- a written text is read whole
 
-ends_well : (b : Behind) → admits b [] ≡ true
+pub ends_well : (b : Behind) → admits b [] ≡ true
 ends_well Anything = refl
 ends_well Words = refl
 ends_well Safe = refl

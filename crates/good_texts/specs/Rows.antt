@@ -1,10 +1,11 @@
 -- The texts that rows may hold for what a catalogue by names has: each reads as it.
-use Rattle.std.specs.Prelude.{[], ◌∷◌, ◌++◌, codes, if◌then◌else◌}
+use Rattle.std.specs.Prelude.{List, [], ◌∷◌, ◌++◌, codes, if◌then◌else◌}
 use Rattle.cat_model.specs.declared.object.QName.{QName}
 use Rattle.cat_model.specs.declared.value.Index.{Index}
 use Rattle.cat_model.specs.Values.{Bytes}
 use Rattle.sql_lex.specs.Written.{written_name}
-use Rattle.ddl_write.specs.Paths.{path}
+use Rattle.ddl_write.specs.Keys.{rest_text}
+use Rattle.ddl_write.specs.Paths.{path, listed}
 
 -- a body with its semicolon
 abbrev pub body_text : Bytes → Bytes
@@ -17,3 +18,17 @@ index_words i = if i.unique then codes "CREATE UNIQUE INDEX " else codes "CREATE
 abbrev pub index_text : QName → Bytes → Index → Bytes
 index_text q name i =
     index_words i ++ (written_name name ++ (codes " ON " ++ (path q ++ (codes " USING " ++ (written_name i.method ++ (codes " " ++ i.text))))))
+
+-- what follows a constraint's name: the columns of a key and what is said of it
+abbrev pub key_said : Bytes → List Bytes → Bytes → Bytes
+key_said words columns rest = words ++ (listed columns ++ rest_text rest)
+
+abbrev pub foreign_said : List Bytes → QName → List Bytes → Bytes → Bytes
+foreign_said columns parent parents rest = codes "FOREIGN KEY " ++ (listed columns ++ (codes " REFERENCES " ++ (path parent ++ (listed parents ++ rest_text rest))))
+
+abbrev pub check_said : Bytes → Bytes
+check_said text = codes "CHECK (" ++ (text ++ 41 ∷ [])
+
+-- the table and the name that stand before it where it is read
+abbrev pub some_table : QName
+some_table = record { schema = codes "a"; name = codes "a" }
