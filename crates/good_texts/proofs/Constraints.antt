@@ -12,9 +12,12 @@ use Rattle.copy_text.specs.Texts.{IsName}
 use Rattle.copy_text.proofs.TextLemmas.{name_from_test}
 use Rattle.cat_model.specs.declared.constraint.ConstraintKind.TheVariants as kinds
 use Rattle.cat_model.specs.declared.object.QName.{QName}
+use Rattle.cat_model.specs.declared.constraint.ConstraintKind.{ConstraintKind}
+use Rattle.cat_model.specs.declared.value.Constraint.{Constraint as StoredConstraint}
+use Rattle.cat_model.specs.declared.value.Value.TheVariants as value
 use Rattle.cat_model.specs.declared.stmt.Stmt.{Stmt}
 use Rattle.cat_model.specs.declared.stmt.Stmt.TheVariants as stmt
-use Rattle.cat_sound.specs.Itself.{check_of}
+use Rattle.cat_sound.specs.Itself.{check_of, IsConstraint, IsOfKind}
 use Rattle.cat_model.specs.Values.{Bytes}
 use Rattle.ddl_parts.specs.Collecting.{Collected, collected, collected_within, collected_by}
 use Rattle.ddl_parts.specs.Expressions.{nested}
@@ -49,10 +52,12 @@ use Rattle.ddl_write.specs.Keys.{rest_text}
 use Rattle.ddl_laws.specs.Readings.{IsStatement, Reads, all_read, one_read}
 use Rattle.ddl_laws.proofs.ReadingLaws.{collected_first, only, statement_closes}
 use Rattle.ddl_laws.proofs.Relations.{constraint_body_as, only_name_as, columns_as, key_rest_as, foreign_rest_as}
+use Rattle.cat_naming.specs.Constraints.{constraint_value}
+use Rattle.std.specs.Option.{option_and_then}
 use Rattle.constraint_table.specs.Said.{statement_text, only_statement, statement_said}
 use Rattle.sound_texts.specs.Grammar.{grammar}
 use Rattle.sound_texts.proofs.Tested.{run_from, columns_from, rest_from, path_from}
-use Rattle.good_texts.specs.Rows.{key_said, foreign_said, check_said, some_table}
+use Rattle.good_texts.specs.Rows.{key_said, foreign_said, check_said, some_table, constraint_text}
 use Rattle.good_texts.proofs.Wholes.{are_collected, ends_well}
 
 -- ---- a semicolon on a line of its own
@@ -228,3 +233,20 @@ foreign_keys_read columns parent parents rest e =
 pub checks_read : (v : Bytes) → grammar.constraint (check_of v) ≡ true → statement_said (check_said v) ≡ Some (stmt.AddCheck some_table (codes "a") v)
 unfolding constraint_body_as expression_as
 checks_read v e = fit_said (Check v) (inl (v, run_from (nested false false) v e, refl)) (check_said v) refl
+
+-- ---- all of them
+
+pub in_order_read : (c : StoredConstraint) → IsConstraint grammar c → option_and_then constraint_value (statement_said (constraint_text c)) ≡ Some (value.Constraint c)
+in_order_read c is = by c.kind c.columns c.parent c.text is.text is.kind
+  where
+    by : (k : ConstraintKind) (columns : List Bytes) (parent : Option (QName × List Bytes)) (text : Bytes) → grammar.constraint (record { kind = k; columns = columns; parent = parent; text = text }) ≡ true → IsOfKind (record { kind = k; columns = columns; parent = parent; text = text }) k
+        → option_and_then constraint_value (statement_said (constraint_text (record { kind = k; columns = columns; parent = parent; text = text }))) ≡ Some (value.Constraint (record { kind = k; columns = columns; parent = parent; text = text }))
+    by kinds.Primary columns None text good kind = ap (option_and_then constraint_value) (primaries_read columns text good)
+    by kinds.Primary columns (Some p) text good kind = absurd cc
+    by kinds.Unique columns None text good kind = ap (option_and_then constraint_value) (uniques_read columns text good)
+    by kinds.Unique columns (Some p) text good kind = absurd cc
+    by kinds.Foreign columns None text good kind = absurd kind
+    by kinds.Foreign columns (Some (parent, parents)) text good kind = ap (option_and_then constraint_value) (foreign_keys_read columns parent parents text good)
+    by kinds.Check [] None text good kind = ap (option_and_then constraint_value) (checks_read text good)
+    by kinds.Check [] (Some p) text good kind = let no = kind.0 in absurd cc
+    by kinds.Check (n ∷ ns) parent text good kind = let no = kind.1 in absurd cc

@@ -1,6 +1,9 @@
 -- The texts that rows may hold for what a catalogue by names has: each reads as it.
-use Rattle.std.specs.Prelude.{List, [], ◌∷◌, ◌++◌, codes, if◌then◌else◌}
+use Rattle.std.specs.Prelude.{List, Option, Some, None, [], ◌∷◌, ◌++◌, codes, if◌then◌else◌}
 use Rattle.cat_model.specs.declared.object.QName.{QName}
+use Rattle.cat_model.specs.declared.constraint.ConstraintKind.{ConstraintKind}
+use Rattle.cat_model.specs.declared.constraint.ConstraintKind.TheVariants as kinds
+use Rattle.cat_model.specs.declared.value.Constraint.{Constraint}
 use Rattle.cat_model.specs.declared.value.Index.{Index}
 use Rattle.cat_model.specs.Values.{Bytes}
 use Rattle.sql_lex.specs.Written.{written_name}
@@ -32,3 +35,17 @@ check_said text = codes "CHECK (" ++ (text ++ 41 ∷ [])
 -- the table and the name that stand before it where it is read
 abbrev pub some_table : QName
 some_table = record { schema = codes "a"; name = codes "a" }
+
+abbrev foreign_text : Constraint → Option (QName × List Bytes) → Bytes
+foreign_text c None = []
+foreign_text c (Some (parent, parents)) = foreign_said c.columns parent parents c.text
+
+abbrev text_of_kind : Constraint → ConstraintKind → Bytes
+text_of_kind c kinds.Primary = key_said (codes "PRIMARY KEY ") c.columns c.text
+text_of_kind c kinds.Unique = key_said (codes "UNIQUE ") c.columns c.text
+text_of_kind c kinds.Foreign = foreign_text c c.parent
+text_of_kind c kinds.Check = check_said c.text
+
+-- the text of a constraint of a table
+abbrev pub constraint_text : Constraint → Bytes
+constraint_text c = text_of_kind c c.kind
