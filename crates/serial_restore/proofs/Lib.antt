@@ -1,3 +1,4 @@
 pub mod Lists
+pub mod Parents
 pub mod Runs
 pub mod Stops
