@@ -1,7 +1,8 @@
 -- Columns of tables: what is asked for is one, it has a row, and its number leads to its name.
-use Rattle.std.proofs.Common.{◌≡◌, ℕ, Bool, true, ◌&&◌, List, [], ◌∷◌, Some, option_map, refl, ap, sym, subst, ◌∙◌}
+use Rattle.std.proofs.Common.{◌≡◌, ℕ, Bool, true, ◌&&◌, List, [], ◌∷◌, Some, option_map, refl, ap, sym, subst, ◌∙◌, ◌⊎◌, ◌<◌, ℤ, inl, inr, true≢false}
 use Rattle.std.proofs.lemmas.Bool.Decides.{Decides-int_eq}
-use Rattle.std.specs.Ordering.{int_eq, eq_by_cmp}
+use Rattle.std.specs.declared.cmp.Ordering.TheVariants.{Less}
+use Rattle.std.specs.Ordering.{int_eq, eq_by_cmp, int_cmp, is_lt}
 use Rattle.std.specs.Cmp.{nat_cmp_total, int_cmp_total, tied_itself, first_so, second_so}
 use Rattle.std.specs.Cmp.Lexicographic.{nat_list_cmp_total}
 use Rattle.std.specs.FinMap.{get, nat_cmp-IsAntisymmetric}
@@ -36,7 +37,7 @@ use Rattle.named_tables.proofs.Ties.{tie}
 use Rattle.named_tables.proofs.Rows.{in_place, among_in}
 use Rattle.named_objects.specs.Oids.{ObjectOids, AreNumbers}
 use Rattle.named_objects.specs.Relations.{NamedColumn, IsColumn, IsColumnRow}
-use Rattle.named_objects.proofs.Found.{found_in, has_mapped, any_place, tested_weaker, in_filter, from_filter, one_row}
+use Rattle.named_objects.proofs.Found.{found_in, has_mapped, any_place, tested_weaker, in_filter, from_filter, one_row, three_ways}
 use Rattle.named_objects.proofs.Lookups.{AreLedTo, has_tie, kind_found}
 
 -- a column of a table by its name
@@ -85,13 +86,25 @@ module _ (texts : Texts) (named : Named) (sound : IsSound texts named) (oids : O
   is_thing : (q : QName) (name : Bytes) (c : ColumnOf named q name) → IsColumn named (thing_of q name c)
   is_thing q name c = record { there = c.there; at = c.at }
 
+  -- two places of a table don't have one number
+  place_apart : (q : QName) (columns : List Column) (i j : ℕ) (c d : Column) → get named (key.Rel q) ≡ Some (value.Table columns) → slice_get columns i ≡ Some c → slice_get columns j ≡ Some d → oids.number q c.name ≡ oids.number q d.name → i ≡ j
+  place_apart q columns i j c d is at_i at_j same = by (three_ways i j)
+    where
+      no_less : (m n : ℤ) → m ≡ n → int_cmp m n ≡ Less → ⊥
+      no_less m n e less = true≢false (sym (ap is_lt less) ∙ ap is_lt (ap (int_cmp m) (sym e) ∙ tied_itself int_cmp_total m))
+
+      by : (i < j) ⊎ ((j < i) ⊎ (i ≡ j)) → i ≡ j
+      by (inl below) = absurd (no_less (oids.number q c.name) (oids.number q d.name) same (numbers.rises q columns i j c d is below at_i at_j))
+      by (inr (inl below)) = absurd (no_less (oids.number q d.name) (oids.number q c.name) (sym same) (numbers.rises q columns j i d c is below at_j at_i))
+      by (inr (inr e)) = e
+
   -- columns of a table and of one number are one
   pub one_column : (t s : NamedColumn) → IsColumn named t → IsColumn named s → t.table ≡ s.table → oids.number t.table t.column.name ≡ oids.number s.table s.column.name → t ≡ s
   one_column t s is_t is_s tables same =
       let lists : Some (value.Table t.columns) ≡ Some (value.Table s.columns) = sym is_t.there ∙ ap (λ (q : QName). get named (key.Rel q)) tables ∙ is_s.there in
       let columns : t.columns ≡ s.columns = cc in
       let at_s : slice_get t.columns s.place ≡ Some s.column = ap (λ (cs : List Column). slice_get cs s.place) columns ∙ is_s.at in
-      let places : t.place ≡ s.place = numbers.apart t.table t.columns t.place s.place t.column s.column is_t.there is_t.at at_s (same ∙ ap (λ (q : QName). oids.number q s.column.name) (sym tables)) in
+      let places : t.place ≡ s.place = place_apart t.table t.columns t.place s.place t.column s.column is_t.there is_t.at at_s (same ∙ ap (λ (q : QName). oids.number q s.column.name) (sym tables)) in
       let both : Some t.column ≡ Some s.column = sym is_t.at ∙ ap (slice_get t.columns) places ∙ at_s in
       let column : t.column ≡ s.column = cc in
       λ i. record { table = tables i; columns = columns i; place = places i; column = column i }

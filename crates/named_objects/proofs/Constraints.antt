@@ -34,7 +34,7 @@ use Rattle.named_objects.specs.Kinds.{of_constraints}
 use Rattle.named_objects.proofs.Found.{find_row}
 use Rattle.named_objects.proofs.Lookups.{AreLedTo, has_tie, class_path_found}
 
-none_found : {R : Type 0} (test : R → Bool) (rows : List R) → ((r : R) → IsIn r rows → test r ≡ false) → find test rows ≡ None
+pub none_found : {R : Type 0} (test : R → Bool) (rows : List R) → ((r : R) → IsIn r rows → test r ≡ false) → find test rows ≡ None
 none_found test [] none = refl
 none_found {R = R} test (x ∷ rows) none = ap (λ (b : Bool). cond b (Some x) (find test rows)) (none x (inl refl)) ∙ none_found test rows (λ r among. none r (inr among))
 

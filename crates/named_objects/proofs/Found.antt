@@ -98,7 +98,7 @@ any_place {A = A} test (y ∷ xs) e = by (any_place test xs) (test y) refl e
 
 -- ---- places
 
-three_ways : (i j : ℕ) → (i < j) ⊎ ((j < i) ⊎ (i ≡ j))
+pub three_ways : (i j : ℕ) → (i < j) ⊎ ((j < i) ⊎ (i ≡ j))
 three_ways zero zero = inr (inr refl)
 three_ways zero (suc j) = inl (omega arith)
 three_ways (suc i) zero = inr (inl (omega arith))

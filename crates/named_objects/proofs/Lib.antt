@@ -14,3 +14,11 @@ pub mod IndexRows
 pub mod Counting
 pub mod RelationRows
 pub mod ConstraintRows
+pub mod Ordered
+pub mod Ends
+pub mod MapsOf
+pub mod TypeNames
+pub mod ColumnNames
+pub mod IndexTables
+pub mod RelationNames
+pub mod Whole

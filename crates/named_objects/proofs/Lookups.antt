@@ -134,7 +134,7 @@ module _ (texts : Texts) (named : Named) (sound : IsSound texts named) (oids : O
           let value : s.relation ≡ v = cc in
           λ i. record { path = paths i; relation = value i }
 
-  row_path : (q : QName) (v : Value) (row : ClassRow) → get named (key.Rel q) ≡ Some v → IsRelationRow named oids (record { path = q; relation = v }) row → class_path cat.pg_namespace row ≡ Some q
+  pub row_path : (q : QName) (v : Value) (row : ClassRow) → get named (key.Rel q) ≡ Some v → IsRelationRow named oids (record { path = q; relation = v }) row → class_path cat.pg_namespace row ≡ Some q
   row_path q v row is says = (λ i. path_in cat.pg_namespace (says.schema i) (says.name i)) ∙ path_found q (schema_of_relation q v is)
 
   -- the path that a relation's oid leads to, and what it is
@@ -162,13 +162,13 @@ module _ (texts : Texts) (named : Named) (sound : IsSound texts named) (oids : O
 
   -- ---- types
 
-  record WholeType (q : QName) (v : Value) : Type 0 where
-    thing : NamedType
-    is : IsType named thing
-    path : thing.path ≡ q
-    type : thing.type ≡ v
+  pub record WholeType (q : QName) (v : Value) : Type 0 where
+    pub thing : NamedType
+    pub is : IsType named thing
+    pub path : thing.path ≡ q
+    pub type : thing.type ≡ v
 
-  whole_type : (q : QName) (v : Value) → get named (key.UserType q) ≡ Some v → WholeType q v
+  pub whole_type : (q : QName) (v : Value) → get named (key.UserType q) ≡ Some v → WholeType q v
   whole_type q v is =
       let others = (sound.each (key.UserType q) v is).others in
       let owner = owner_of texts named sound (object.Type q) others.1.0 in
@@ -190,7 +190,7 @@ module _ (texts : Texts) (named : Named) (sound : IsSound texts named) (oids : O
       let grants : t.grants ≡ s.grants = cc in
       λ i. record { path = paths i; type = type i; owner = owner i; grants = grants i }
 
-  type_row_path : (t : NamedType) (row : TypeRow) → IsType named t → IsTypeRow oids t row → type_path cat.pg_namespace row ≡ Some t.path
+  pub type_row_path : (t : NamedType) (row : TypeRow) → IsType named t → IsTypeRow oids t row → type_path cat.pg_namespace row ≡ Some t.path
   type_row_path t row is says = (λ i. path_in cat.pg_namespace (says.schema i) (says.name i)) ∙ path_found t.path (sound.each (key.UserType t.path) t.type is.there).others.0
 
   pub record FoundType (q : QName) (v : Value) : Type 0 where
@@ -199,6 +199,7 @@ module _ (texts : Texts) (named : Named) (sound : IsSound texts named) (oids : O
     pub found : type_of cat.pg_type (oids (key.UserType q)) ≡ Some row
     pub path : type_path cat.pg_namespace row ≡ Some q
     pub kind : IsRowOfType oids v row
+    pub oid : row.oid ≡ oids (key.UserType q)
 
   pub type_found : (q : QName) (v : Value) → get named (key.UserType q) ≡ Some v → FoundType q v
   type_found q v is =
@@ -210,6 +211,7 @@ module _ (texts : Texts) (named : Named) (sound : IsSound texts named) (oids : O
         found = find_row (IsType named) (IsTypeRow oids) cat.pg_type are.types (λ t. same_oid (oids (key.UserType q)) t.oid) whole.thing at.0 at.1 at.2 (has_tie (oids (key.UserType q)) at.0.oid (ap (λ (p : QName). oids (key.UserType p)) (sym whole.path) ∙ sym at.2.oid)) (λ s r is_s says ties. only whole.thing whole.is whole.path s r is_s says ties);
         path = type_row_path whole.thing at.0 whole.is at.2 ∙ ap Some whole.path;
         kind = subst (λ (x : Value). IsRowOfType oids x at.0) whole.type at.2.kind;
+        oid = at.2.oid ∙ ap (λ (p : QName). oids (key.UserType p)) whole.path;
       }
     where
       only : (t : NamedType) → IsType named t → t.path ≡ q → (s : NamedType) (r : TypeRow) → IsType named s → IsTypeRow oids s r → same_oid (oids (key.UserType q)) r.oid ≡ true → s ≡ t

@@ -68,7 +68,7 @@ or_true : (b : Bool) → b || true ≡ true
 or_true true = refl
 or_true false = refl
 
-keyed_letter : (kind : ConstraintKind) → is_unique kind ≡ true → letter_of kind == 112 || letter_of kind == 117 ≡ true
+pub keyed_letter : (kind : ConstraintKind) → is_unique kind ≡ true → letter_of kind == 112 || letter_of kind == 117 ≡ true
 keyed_letter kinds.Primary e = refl
 keyed_letter kinds.Unique e = refl
 keyed_letter kinds.Foreign e = cc

@@ -1,7 +1,9 @@
 -- The oids of objects, and the numbers of columns.
-use Rattle.std.specs.Prelude.{◌≡◌, ℕ, ℤ, true, false, List, Some, if◌then◌else◌}
+use Rattle.std.specs.Prelude.{◌≡◌, ℕ, ◌<◌, ℤ, true, false, List, Some, if◌then◌else◌}
 use Rattle.std.specs.FinMap.{get}
 use Rattle.std.specs.List.{slice_get}
+use Rattle.std.specs.declared.cmp.Ordering.TheVariants.{Less}
+use Rattle.std.specs.Ordering.{int_cmp}
 use Rattle.cat_model.specs.declared.object.QName.{QName}
 use Rattle.cat_model.specs.declared.key.Key.TheVariants as key
 use Rattle.cat_model.specs.declared.type_name.TypeName.{TypeName}
@@ -30,9 +32,9 @@ abbrev pub type_oid : Oids → TypeName → ℕ
 type_oid oids (Words text) = 0
 type_oid oids (Path q) = if is_system q.schema then 0 else oids (key.UserType q)
 
--- columns are numbered from 1 up, and two of a table don't have the same number
+-- columns are numbered from 1 up, rising in their order, with or without gaps
 pub record AreNumbers (named : Named) (number : QName → Bytes → ℤ) : Type 0 where
-  pub apart : (q : QName) (columns : List Column) (i j : ℕ) (c d : Column) → get named (key.Rel q) ≡ Some (value.Table columns) → slice_get columns i ≡ Some c → slice_get columns j ≡ Some d → number q c.name ≡ number q d.name → i ≡ j
+  pub rises : (q : QName) (columns : List Column) (i j : ℕ) (c d : Column) → get named (key.Rel q) ≡ Some (value.Table columns) → i < j → slice_get columns i ≡ Some c → slice_get columns j ≡ Some d → int_cmp (number q c.name) (number q d.name) ≡ Less
   pub from_one : (q : QName) (columns : List Column) (i : ℕ) (c : Column) → get named (key.Rel q) ≡ Some (value.Table columns) → slice_get columns i ≡ Some c → is_column_number (number q c.name) ≡ true
 
 -- the oids of domains' checks are their own among those of all constraints, and none is 0

@@ -1,20 +1,25 @@
 //! Tables that stand for a catalogue which is in order meet their conditions, and what they are named as is that catalogue.
 //! Each law is the contract of a function that does nothing.
-ghost use Rattle.std.specs.Prelude.{◌≡◌, List};
+ghost use Rattle.std.specs.Prelude.{◌≡◌, List, Some};
 ghost use Rattle.std.specs.FinMap.{get, from_entries, retain_keys};
 ghost use Rattle.std.specs.List.{flat_map};
 ghost use Rattle.cat_book.specs.Meets.{Meets};
 ghost use Rattle.cat_model.specs.Values.{Bytes, Named};
 ghost use Rattle.cat_model.specs.declared.key.Key.{Key};
+ghost use Rattle.cat_model.specs.declared.key.Key.TheVariants as key;
+ghost use Rattle.cat_model.specs.declared.object.QName.{QName};
+ghost use Rattle.cat_model.specs.declared.value.Value.TheVariants as value;
 ghost use Rattle.cat_naming.specs.Comments.{comment_entries};
 ghost use Rattle.cat_naming.specs.Constraints.{constraint_entries, index_entries};
-ghost use Rattle.cat_naming.specs.Relations.{RowsByOid, body_entries, default_entries, sequence_entries};
+ghost use Rattle.cat_naming.specs.Entries.{catalogue_named};
+ghost use Rattle.cat_naming.specs.Relations.{RowsByOid, body_entries, class_entries, default_entries, sequence_entries};
+ghost use Rattle.cat_naming.specs.Types.{type_entries};
 ghost use Rattle.cat_rows.specs.declared.catalogue.Catalogue.{Catalogue};
 ghost use Rattle.cat_rows.specs.declared.notes.DependRow.{DependRow};
 ghost use Rattle.cat_sound.specs.Sound.{IsSound};
 ghost use Rattle.cat_sound.specs.Texts.{Texts};
 ghost use Rattle.constraint_table.specs.Table.{constraint_rules};
-ghost use Rattle.named_objects.specs.Kinds.{of_bodies, of_comments, of_constraints, of_defaults, of_indexes, of_sequences, kept, named_as};
+ghost use Rattle.named_objects.specs.Kinds.{of_bodies, of_comments, of_constraints, of_defaults, of_indexes, of_relations, of_sequences, of_types, kept, named_as};
 ghost use Rattle.named_objects.specs.Oids.{ObjectOids, AreNumbers, AreCheckOids};
 ghost use Rattle.named_objects.specs.Standing.{AllStandFor};
 ghost use Rattle.named_tables.specs.Oids.{AreOids};
@@ -24,6 +29,7 @@ ghost use Rattle.text_tables.specs.Columns.{default_rules};
 ghost use Rattle.text_tables.specs.Indexes.{index_rules};
 ghost use Rattle.text_tables.specs.Sequences.{sequence_rules};
 ghost use Rattle.text_tables.specs.Views.{view_rules};
+ghost use Rattle.type_ends.specs.Ends.{labels_of};
 
 /// The rows of pg_rewrite meet the table's conditions.
 pub fn bodies_meet_their_table()
@@ -88,4 +94,25 @@ pub fn relations_meet_their_table()
 /// The rows of pg_constraint meet the table's conditions.
 pub fn constraints_meet_their_table()
     ensures { (texts : Texts) (named : Named) (oids : ObjectOids) (current : Bytes) (depends : List DependRow) (cat : Catalogue) (rows : RowsByOid) → IsSound texts named → AreOids named oids.of → AreNumbers named oids.number → AreCheckOids named oids → AllStandFor named oids current depends cat rows → Meets constraint_rules cat cat.pg_constraint }
+{}
+
+/// The labels of an enum by rows are its labels, in their order.
+pub fn labels_are_named()
+    ensures { (texts : Texts) (named : Named) (oids : ObjectOids) (current : Bytes) (depends : List DependRow) (cat : Catalogue) (rows : RowsByOid) → IsSound texts named → AreOids named oids.of → AllStandFor named oids current depends cat rows → (q : QName) (labels : List Bytes) → get named (key.UserType q) ≡ Some (value.Enum labels) → labels_of cat (oids.of (key.UserType q)) ≡ labels }
+{}
+
+/// The rows of pg_type, with those of labels and checks, stand for the enums and domains with their owners and grants.
+pub fn types_are_named()
+    ensures { (texts : Texts) (named : Named) (oids : ObjectOids) (current : Bytes) (depends : List DependRow) (cat : Catalogue) (rows : RowsByOid) → IsSound texts named → AreOids named oids.of → AllStandFor named oids current depends cat rows → from_entries (flat_map (type_entries cat) cat.pg_type) ≡ retain_keys named of_types }
+{}
+
+/// The rows of pg_class, with those of columns, indexes and keys and with the rows of tables, stand for the relations other
+/// than sequences, the rows of tables, and the owners and grants of relations.
+pub fn relations_are_named()
+    ensures { (texts : Texts) (named : Named) (oids : ObjectOids) (current : Bytes) (depends : List DependRow) (cat : Catalogue) (rows : RowsByOid) → IsSound texts named → AreOids named oids.of → AreNumbers named oids.number → AllStandFor named oids current depends cat rows → (k : Key) → get (named_as (flat_map (class_entries cat rows) cat.pg_class)) k ≡ kept of_relations k (get named k) }
+{}
+
+/// Fifteen tables and rows of tables that stand for a catalogue which is in order are named as this catalogue.
+pub fn catalogues_are_named()
+    ensures { (texts : Texts) (named : Named) (oids : ObjectOids) (current : Bytes) (depends : List DependRow) (cat : Catalogue) (rows : RowsByOid) → IsSound texts named → AreOids named oids.of → AreNumbers named oids.number → AreCheckOids named oids → AllStandFor named oids current depends cat rows → catalogue_named cat rows ≡ named }
 {}
