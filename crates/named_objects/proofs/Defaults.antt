@@ -41,7 +41,7 @@ use Rattle.named_objects.specs.Kinds.{of_defaults}
 use Rattle.named_objects.proofs.Lookups.{AreLedTo, class_path_found, kind_found, references_met}
 use Rattle.named_objects.proofs.Columns.{ColumnOf, column_of, is_of_table, one_number, column_name_found, has_number_found}
 
-is_default_said : (text said : Bytes) → default_said text ≡ Some said → is_default text ≡ true
+pub is_default_said : (text said : Bytes) → default_said text ≡ Some said → is_default text ≡ true
 unfolding is_default
 is_default_said text said e = ap is_some e
 

@@ -22,3 +22,9 @@ pub mod ColumnNames
 pub mod IndexTables
 pub mod RelationNames
 pub mod Whole
+pub mod Places
+pub mod LabelRows
+pub mod TypeRows
+pub mod Parted
+pub mod ColumnRows
+pub mod Formed

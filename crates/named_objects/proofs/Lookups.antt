@@ -180,7 +180,7 @@ module _ (texts : Texts) (named : Named) (sound : IsSound texts named) (oids : O
         type = refl;
       }
 
-  same_type : (t s : NamedType) → IsType named t → IsType named s → t.path ≡ s.path → t ≡ s
+  pub same_type : (t s : NamedType) → IsType named t → IsType named s → t.path ≡ s.path → t ≡ s
   same_type t s is_t is_s paths =
       let types : Some t.type ≡ Some s.type = sym is_t.there ∙ ap (λ (q : QName). get named (key.UserType q)) paths ∙ is_s.there in
       let type : t.type ≡ s.type = cc in

@@ -4,3 +4,4 @@ pub mod Relations
 pub mod Constraints
 pub mod Standing
 pub mod Kinds
+pub mod Views

@@ -42,3 +42,8 @@ pub record AreCheckOids (named : Named) (oids : ObjectOids) : Type 0 where
   pub apart : (p q : QName) (d e : Domain) (m n one two : Bytes) → get named (key.UserType p) ≡ Some (value.Domain d) → get named (key.UserType q) ≡ Some (value.Domain e) → get d.checks m ≡ Some one → get e.checks n ≡ Some two → oids.check p m ≡ oids.check q n → (p ≡ q) × (m ≡ n)
   pub of_no_table : (p : QName) (d : Domain) (m text : Bytes) (q : QName) (n : Bytes) (v : Value) → get named (key.UserType p) ≡ Some (value.Domain d) → get d.checks m ≡ Some text → get named (key.Con q n) ≡ Some v → oids.check p m ≡ oids.of (key.Con q n) → ⊥
   pub some : (p : QName) (d : Domain) (m text : Bytes) → get named (key.UserType p) ≡ Some (value.Domain d) → get d.checks m ≡ Some text → is_no_oid (oids.check p m) ≡ false
+
+-- two labels don't have the same oid, and none has 0
+pub record AreLabelOids (named : Named) (oids : ObjectOids) : Type 0 where
+  pub apart : (p q : QName) (ls ms : List Bytes) (i j : ℕ) (l m : Bytes) → get named (key.UserType p) ≡ Some (value.Enum ls) → get named (key.UserType q) ≡ Some (value.Enum ms) → slice_get ls i ≡ Some l → slice_get ms j ≡ Some m → oids.label p i ≡ oids.label q j → (p ≡ q) × (i ≡ j)
+  pub some : (p : QName) (ls : List Bytes) (i : ℕ) (l : Bytes) → get named (key.UserType p) ≡ Some (value.Enum ls) → slice_get ls i ≡ Some l → is_no_oid (oids.label p i) ≡ false

@@ -20,16 +20,20 @@ ghost use Rattle.cat_sound.specs.Sound.{IsSound};
 ghost use Rattle.cat_sound.specs.Texts.{Texts};
 ghost use Rattle.constraint_table.specs.Table.{constraint_rules};
 ghost use Rattle.named_objects.specs.Kinds.{of_bodies, of_comments, of_constraints, of_defaults, of_indexes, of_relations, of_sequences, of_types, kept, named_as};
-ghost use Rattle.named_objects.specs.Oids.{ObjectOids, AreNumbers, AreCheckOids};
+ghost use Rattle.named_objects.specs.Oids.{ObjectOids, AreNumbers, AreCheckOids, AreLabelOids};
 ghost use Rattle.named_objects.specs.Standing.{AllStandFor};
-ghost use Rattle.named_tables.specs.Oids.{AreOids};
+ghost use Rattle.named_objects.specs.Views.{AreKept};
+ghost use Rattle.named_tables.specs.Oids.{AreOids, IsStarted};
 ghost use Rattle.plain_tables.specs.Comments.{comment_rules};
+ghost use Rattle.plain_tables.specs.Labels.{label_rules};
 ghost use Rattle.plain_tables.specs.Relations.{relation_rules};
-ghost use Rattle.text_tables.specs.Columns.{default_rules};
+ghost use Rattle.text_tables.specs.Columns.{column_rules, default_rules};
 ghost use Rattle.text_tables.specs.Indexes.{index_rules};
 ghost use Rattle.text_tables.specs.Sequences.{sequence_rules};
+ghost use Rattle.text_tables.specs.Types.{type_rules};
 ghost use Rattle.text_tables.specs.Views.{view_rules};
 ghost use Rattle.type_ends.specs.Ends.{labels_of};
+ghost use Rattle.well_formed.specs.Formed.{IsWellFormed};
 
 /// The rows of pg_rewrite meet the table's conditions.
 pub fn bodies_meet_their_table()
@@ -115,4 +119,25 @@ pub fn relations_are_named()
 /// Fifteen tables and rows of tables that stand for a catalogue which is in order are named as this catalogue.
 pub fn catalogues_are_named()
     ensures { (texts : Texts) (named : Named) (oids : ObjectOids) (current : Bytes) (depends : List DependRow) (cat : Catalogue) (rows : RowsByOid) → IsSound texts named → AreOids named oids.of → AreNumbers named oids.number → AreCheckOids named oids → AllStandFor named oids current depends cat rows → catalogue_named cat rows ≡ named }
+{}
+
+/// The rows of pg_type meet the table's conditions.
+pub fn types_meet_their_table()
+    ensures { (texts : Texts) (named : Named) (oids : ObjectOids) (current : Bytes) (depends : List DependRow) (cat : Catalogue) (rows : RowsByOid) → IsSound texts named → AreOids named oids.of → AllStandFor named oids current depends cat rows → Meets type_rules cat cat.pg_type }
+{}
+
+/// The rows of pg_enum meet the table's conditions.
+pub fn labels_meet_their_table()
+    ensures { (texts : Texts) (named : Named) (oids : ObjectOids) (current : Bytes) (depends : List DependRow) (cat : Catalogue) (rows : RowsByOid) → IsSound texts named → AreOids named oids.of → AreLabelOids named oids → AllStandFor named oids current depends cat rows → Meets label_rules cat cat.pg_enum }
+{}
+
+/// The rows of pg_attribute meet the table's conditions, where those of the columns of views do.
+pub fn columns_meet_their_table()
+    ensures { (texts : Texts) (named : Named) (oids : ObjectOids) (current : Bytes) (depends : List DependRow) (cat : Catalogue) (rows : RowsByOid) → IsSound texts named → AreOids named oids.of → AreNumbers named oids.number → AreKept cat → AllStandFor named oids current depends cat rows → Meets column_rules cat cat.pg_attribute }
+{}
+
+/// Fifteen tables that stand for a catalogue which is in order are well-formed, where what they keep of the opening meets
+/// the conditions of its tables: the columns of views, and dependencies.
+pub fn catalogues_are_well_formed()
+    ensures { (texts : Texts) (named : Named) (oids : ObjectOids) (current : Bytes) (depends : List DependRow) (cat : Catalogue) (rows : RowsByOid) → IsSound texts named → AreOids named oids.of → IsStarted named oids.of current → AreNumbers named oids.number → AreCheckOids named oids → AreLabelOids named oids → AreKept cat → AllStandFor named oids current depends cat rows → IsWellFormed cat }
 {}
