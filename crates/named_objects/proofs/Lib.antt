@@ -28,3 +28,4 @@ pub mod TypeRows
 pub mod Parted
 pub mod ColumnRows
 pub mod Formed
+pub mod Small

@@ -5,3 +5,4 @@ pub mod Constraints
 pub mod Standing
 pub mod Kinds
 pub mod Views
+pub mod Examples

@@ -19,6 +19,7 @@ ghost use Rattle.cat_rows.specs.declared.notes.DependRow.{DependRow};
 ghost use Rattle.cat_sound.specs.Sound.{IsSound};
 ghost use Rattle.cat_sound.specs.Texts.{Texts};
 ghost use Rattle.constraint_table.specs.Table.{constraint_rules};
+ghost use Rattle.named_objects.specs.Examples.{Empty, Rows, Others};
 ghost use Rattle.named_objects.specs.Kinds.{of_bodies, of_comments, of_constraints, of_defaults, of_indexes, of_relations, of_sequences, of_types, kept, named_as};
 ghost use Rattle.named_objects.specs.Oids.{ObjectOids, AreNumbers, AreCheckOids, AreLabelOids};
 ghost use Rattle.named_objects.specs.Standing.{AllStandFor};
@@ -140,4 +141,12 @@ pub fn columns_meet_their_table()
 /// the conditions of its tables: the columns of views, and dependencies.
 pub fn catalogues_are_well_formed()
     ensures { (texts : Texts) (named : Named) (oids : ObjectOids) (current : Bytes) (depends : List DependRow) (cat : Catalogue) (rows : RowsByOid) → IsSound texts named → AreOids named oids.of → IsStarted named oids.of current → AreNumbers named oids.number → AreCheckOids named oids → AreLabelOids named oids → AreKept cat → AllStandFor named oids current depends cat rows → IsWellFormed cat }
+{}
+
+/// Worked examples: the tables of an empty cluster stand for it, with all that these laws ask for; rows of a small catalogue
+/// with what they stand for, and rows that differ in one thing and don't.
+pub fn tables_meet_the_examples()
+    ensures empty { Empty }
+    ensures rows { Rows }
+    ensures others { Others }
 {}
