@@ -1,0 +1,19 @@
+//! What is asked of an archive.
+
+/// What is written of the entries that are chosen.
+#[derive(Debug, Clone, Copy, PartialEq, Eq)]
+pub enum Wish {
+    /// Their list.
+    List,
+    /// Their script.
+    Script,
+}
+
+/// The format of an archive.
+#[derive(Debug, Clone, Copy, PartialEq, Eq)]
+pub enum ArchiveFormat {
+    /// A file in the custom format.
+    Custom,
+    /// A folder in the directory format.
+    Directory,
+}
