@@ -2,6 +2,7 @@
 #![tactic(auto)]
 
 mod answering;
+mod archive;
 mod request;
 
 pub use answering::answer;

@@ -2,22 +2,16 @@
 use cat_model::{Items, Sections};
 use copy_text::Text;
 use entry_choices::Options;
+use restore_texts::{ArchiveFormat, Wish};
 use std::alloc::{AllocError, Global};
-
-/// What is shown of the entries that are chosen.
-#[derive(Clone, Copy, Debug, PartialEq, Eq)]
-pub(crate) enum Shown {
-    /// Their list.
-    List,
-    /// Their script.
-    Script,
-}
 
 /// What is asked of an archive.
 #[derive(Drop)]
 pub(crate) struct Request<'a> {
-    /// What is shown.
-    pub(crate) shown: Shown,
+    /// What is written.
+    pub(crate) wish: Wish,
+    /// The format that is asked for.
+    pub(crate) format: Option<ArchiveFormat>,
     /// Which entries are chosen.
     pub(crate) options: Options,
     /// The list file.
@@ -36,6 +30,7 @@ struct Reading {
     grants: bool,
     comments: bool,
     sections: Sections,
+    format: Option<ArchiveFormat>,
 }
 
 impl Reading {
@@ -54,6 +49,7 @@ impl Reading {
                 rows: false,
                 post: false,
             },
+            format: None,
         }
     }
 
@@ -68,6 +64,8 @@ impl Reading {
             "--section=pre-data" => self.sections.pre = true,
             "--section=data" => self.sections.rows = true,
             "--section=post-data" => self.sections.post = true,
+            "-Fc" => self.format = Some(ArchiveFormat::Custom),
+            "-Fd" => self.format = Some(ArchiveFormat::Directory),
             _ => return false,
         }
         true
@@ -137,8 +135,8 @@ fn read_word<'w>(
     Ok(Some(Some(word)))
 }
 
-// The options that these words say; `None` where they say none.
-fn options_of(alloc: Global, words: &str) -> Result<Option<Options>, AllocError> {
+// What these words say; `None` where they say nothing.
+fn reading_of(alloc: Global, words: &str) -> Result<Option<Reading>, AllocError> {
     let mut reading = Reading::new(alloc);
     let mut asked = None;
     for word in words.split(' ') {
@@ -153,13 +151,13 @@ fn options_of(alloc: Global, words: &str) -> Result<Option<Options>, AllocError>
     if asked.is_some() {
         return Ok(None);
     }
-    Ok(Some(reading.into_options()))
+    Ok(Some(reading))
 }
 
-fn shown_of(word: &str) -> Option<Shown> {
+fn wish_of(word: &str) -> Option<Wish> {
     match word {
-        "list" => Some(Shown::List),
-        "script" => Some(Shown::Script),
+        "list" => Some(Wish::List),
+        "script" => Some(Wish::Script),
         _ => None,
     }
 }
@@ -174,15 +172,18 @@ pub(crate) fn request_of(alloc: Global, said: &str) -> Result<Option<Request<'_>
         Some((word, words)) => (word, words),
         None => (front, ""),
     };
-    let Some(shown) = shown_of(word) else {
+    let Some(wish) = wish_of(word) else {
         return Ok(None);
     };
-    match options_of(alloc, words)? {
-        Some(options) => Ok(Some(Request {
-            shown,
-            options,
-            list,
-        })),
-        None => Ok(None),
-    }
+    let Some(reading) = reading_of(alloc, words)? else {
+        return Ok(None);
+    };
+    let format = reading.format;
+    let options = reading.into_options();
+    Ok(Some(Request {
+        wish,
+        format,
+        options,
+        list,
+    }))
 }
