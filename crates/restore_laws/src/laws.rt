@@ -1,14 +1,15 @@
 //! Laws of the definitions, each the contract of a function that does nothing.
-ghost use Rattle.std.specs.Prelude.{◌≡◌, ℕ, Bool, true, false, List, [], ◌∷◌, Option, Some, None, Ok, Err, map, slice_get, option_map};
+ghost use Rattle.std.specs.Prelude.{◌≡◌, ℕ, Bool, true, false, List, [], ◌∷◌, Option, Some, None, Ok, Err, length, map, slice_get, option_map};
 ghost use Rattle.std.specs.Global.{Vec};
-ghost use Rattle.std.specs.List.{filter};
+ghost use Rattle.std.specs.List.{filter, range_with_len};
 ghost use Rattle.dump_ports.specs.Tree.{Tree, text_at};
 ghost use Rattle.toc_entry.specs.declared.entry.Entry.{Entry};
 ghost use Rattle.toc_entry.specs.declared.head.Head.{Head};
 ghost use Rattle.toc_layout.specs.Heads.{head_seen};
 ghost use Rattle.toc_table.specs.Ids.{is_among};
 ghost use Rattle.toc_table.specs.Tables.{ids_with_rows};
-ghost use Rattle.entry_choices.specs.Choices.{wanted_places};
+ghost use Rattle.entry_choices.specs.declared.options.Options.{Options};
+ghost use Rattle.entry_choices.specs.Choices.{wanted, wanted_places};
 ghost use Rattle.entry_choices.specs.Examples.{plain};
 ghost use Rattle.fmt_text.specs.Script.{script};
 ghost use Rattle.fmt_custom.specs.Customs.{Custom};
@@ -32,6 +33,16 @@ pub fn entries_without_parts_may_go()
     ensures { (owners : Bool) (custom : Custom) (places : List ℕ) (p : ℕ → Bool)
         → ((i : ℕ) → p i ≡ false → part_at owners custom.entries (custom_rows custom) i ≡ [])
         → custom_script owners custom (filter p places) ≡ custom_script owners custom places }
+{}
+
+/// Where options refuse no entry but those that have no part of their own, as those of the database, the script of the
+/// entries that a restore takes is the plain script of all entries.
+pub fn whole_scripts_are_plain()
+    ensures { (owners : Bool) (o : Options) (custom : Custom) (head : Head) (entries : List (Entry × Option (Vec ℕ)))
+        → head_seen head ≡ custom.head
+        → map (λ e. (e.0, option_map (λ v. v.items) e.1)) entries ≡ entries_with_rows custom.entries (custom_rows custom) (range_with_len 0 (length custom.entries))
+        → ((i : ℕ) → wanted o custom.entries i ≡ false → part_at owners custom.entries (custom_rows custom) i ≡ [])
+        → custom_script owners custom (wanted_places o custom.entries) ≡ script head entries owners }
 {}
 
 /// Where the file of the first entry with rows is absent, the script of a directory archive is missing it.

@@ -4,5 +4,6 @@
 mod laws;
 
 pub use laws::{
-    absent_file_is_missing, entries_without_parts_may_go, scripts_are_of_entries, worked_examples,
+    absent_file_is_missing, entries_without_parts_may_go, scripts_are_of_entries,
+    whole_scripts_are_plain, worked_examples,
 };
