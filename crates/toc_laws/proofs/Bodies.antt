@@ -2,7 +2,7 @@
 use Rattle.std.proofs.Common.{◌≡◌, ℕ, Bool, true, false, List, [], ◌∷◌, ◌++◌, map, append_assoc, append-nil, Option, Some, None, refl, sym, ap, subst, ◌∙◌, codes}
 use Rattle.std.specs.Prelude.{unwrap_or, if◌then◌else◌}
 use Rattle.std.specs.List.{AllByRecursion, flat_map}
-use Rattle.std.specs.Option.{option_map}
+use Rattle.std.specs.Option.{option_map, option_to_list}
 use Rattle.std.specs.Str.{is_utf8, chars}
 use Rattle.std.proofs.Math.Utf8.{encode}
 use Rattle.std.proofs.lemmas.Bool.{cases_Bool}
@@ -59,9 +59,9 @@ spelled_lays law s is =
     let text : unwrap_or (spelling s) [] ≡ w.0 = ap (λ (o : Option (List ℕ)). unwrap_or o []) w.1 in
     subst (λ (x : List ℕ). Lays x (s ∷ [])) (append-nil w.0 ∙ sym text) (statement_text s w.0 [] [] is w.1 no_more)
 
-pub written_says : SpelledLaw → (o : Option Stmt) → Known IsWritable o → Said (written o)
-written_says law None k = ([], no_more)
-written_says law (Some s) k = (s ∷ [], spelled_lays law s k)
+pub written_lays : SpelledLaw → (o : Option Stmt) → Known IsWritable o → Lays (written o) (option_to_list o)
+written_lays law None k = no_more
+written_lays law (Some s) k = spelled_lays law s k
 
 pub texts_lay : SpelledLaw → (ss : List Stmt) → AllWritable ss → Lays (texts ss) ss
 texts_lay law [] all = no_more
@@ -70,18 +70,18 @@ texts_lay law (s ∷ ss) all = lays_both (spelled s) (texts ss) (s ∷ []) ss (s
 -- ---- definitions
 
 schema_by : SpelledLaw → (public : Bool) (name : List ℕ) → Known IsWritable (if public then None else Some (stmt.CreateSchema name))
-    → Said (if public then codes "-- *not* creating schema, since initdb creates it\n" else written (if public then None else Some (stmt.CreateSchema name)))
+    → Lays (if public then codes "-- *not* creating schema, since initdb creates it\n" else written (if public then None else Some (stmt.CreateSchema name))) (option_to_list (if public then None else Some (stmt.CreateSchema name)))
 unfolding in_line is_utf8 chars encode
-schema_by law true name k = ([], comment_line (codes " *not* creating schema, since initdb creates it") [] [] (known_shown _ refl refl) no_more)
-schema_by law false name k = (stmt.CreateSchema name ∷ [], spelled_lays law (stmt.CreateSchema name) k)
+schema_by law true name k = comment_line (codes " *not* creating schema, since initdb creates it") [] [] (known_shown _ refl refl) no_more
+schema_by law false name k = spelled_lays law (stmt.CreateSchema name) k
 
-schema_says : SpelledLaw → (name : Option (List ℕ)) → Known IsWritable (schema_stmt name) → Said (schema_defn name)
-schema_says law None k = ([], no_more)
-schema_says law (Some name) k = schema_by law (is_public name) name k
+schema_lays : SpelledLaw → (name : Option (List ℕ)) → Known IsWritable (schema_stmt name) → Lays (schema_defn name) (option_to_list (schema_stmt name))
+schema_lays law None k = no_more
+schema_lays law (Some name) k = schema_by law (is_public name) name k
 
-defn_says : SpelledLaw → (cat : Catalogue) (standing : List ℕ) (o : Obj) (k : ObjKind) → Known IsWritable (stmt_of_kind cat standing o k) → Said (defn_of_kind cat standing o k)
-defn_says law cat standing o kind.Schema can = schema_says law o.name can
-defn_says law cat standing o other can = written_says law (stmt_of_kind cat standing o other) can
+defn_lays : SpelledLaw → (cat : Catalogue) (standing : List ℕ) (o : Obj) (k : ObjKind) → Known IsWritable (stmt_of_kind cat standing o k) → Lays (defn_of_kind cat standing o k) (option_to_list (stmt_of_kind cat standing o k))
+defn_lays law cat standing o kind.Schema can = schema_lays law o.name can
+defn_lays law cat standing o other can = written_lays law (stmt_of_kind cat standing o other) can
 
 -- ---- rows
 
@@ -104,23 +104,27 @@ line_and_rows q (a ∷ columns) r =
     ap (λ (x : List ℕ). ((codes "COPY " ++ path q) ++ ((codes " (" ++ written_name a.attname) ++ x ++ codes ")") ++ codes " FROM stdin;\n") ++ (r ++ codes "\\.\n\n\n")) (more_is columns)
     ∙ parted (path q) (codes " " ++ (names ++ flat_map (λ n. codes ", " ++ written_name n) (names_in columns) ++ codes ")")) (codes " FROM stdin;\n") r (codes "\\.\n") (codes "\n\n")
 
-rows_say : (cat : Catalogue) → HoldsCells cat → (oid : ℕ) (q : QName) → IsPath q → (r : List ℕ) → AreRows r → Said (copy_line q (columns_of cat oid) ++ (r ++ codes "\\.\n\n\n"))
+-- the statement of the rows of a table
+abbrev pub copy_stmt : Catalogue → ℕ → QName → List ℕ → Stmt
+copy_stmt cat oid q r = stmt.CopyRows q (names_in (columns_of cat oid)) r
+
+rows_lay : (cat : Catalogue) → HoldsCells cat → (oid : ℕ) (q : QName) → IsPath q → (r : List ℕ) → AreRows r → Lays (copy_line q (columns_of cat oid) ++ (r ++ codes "\\.\n\n\n")) (copy_stmt cat oid q r ∷ [])
 unfolding spelling
-rows_say cat holds oid q is r are =
+rows_lay cat holds oid q is r are =
     let columns = columns_of cat oid in
-    let s = stmt.CopyRows q (names_in columns) r in
+    let s = copy_stmt cat oid q r in
     let named : AllByRecursion IsName (names_in columns) = seen_have (IsOf table.PgAttribute attribute_cells) IsName (λ a. a.attname) columns (columns_hold cat holds oid) (λ a row. row.cells.1.1.0) in
     let lays : Lays (copy_text q (names_in columns) r ++ codes "\n\n") (s ∷ []) = statement_text s (copy_text q (names_in columns) r) (codes "\n\n") [] (is, named, are) refl two_lines in
-    (s ∷ [], subst (λ (x : List ℕ). Lays x (s ∷ [])) (sym (line_and_rows q columns r)) lays)
+    subst (λ (x : List ℕ). Lays x (s ∷ [])) (sym (line_and_rows q columns r)) lays
 
 abbrev copied_of : Catalogue → Obj → Option QName → Bytes
 copied_of cat o q = unwrap_or (option_map (λ q. copy_line q (columns_of cat o.id.oid)) q) []
 
-data_says : (cat : Catalogue) → HoldsCells cat → (o : Obj) (q : QName) → Known IsPath (path_of o) → path_of o ≡ Some q → (rows : Option Bytes) (r : Bytes) → AreRows r → rows ≡ Some (r ++ codes "\\.\n\n\n") → Said (copy_of cat o ++ text_or_none rows)
-data_says cat holds o q known is rows r are e =
+pub rows_are : (cat : Catalogue) → HoldsCells cat → (o : Obj) (q : QName) → Known IsPath (path_of o) → path_of o ≡ Some q → (rows : Option Bytes) (r : Bytes) → AreRows r → rows ≡ Some (r ++ codes "\\.\n\n\n") → Lays (copy_of cat o ++ text_or_none rows) (copy_stmt cat o.id.oid q r ∷ [])
+rows_are cat holds o q known is rows r are e =
     let path : IsPath q = subst (Known IsPath) is known in
-    subst Said (ap (λ (p : Option QName). copied_of cat o p ++ (r ++ codes "\\.\n\n\n")) (sym is) ∙ ap (λ (x : Option (List ℕ)). copy_of cat o ++ text_or_none x) (sym e))
-    (rows_say cat holds o.id.oid q path r are)
+    subst (λ (x : List ℕ). Lays x (copy_stmt cat o.id.oid q r ∷ [])) (ap (λ (p : Option QName). copied_of cat o p ++ (r ++ codes "\\.\n\n\n")) (sym is) ∙ ap (λ (x : Option (List ℕ)). copy_of cat o ++ text_or_none x) (sym e))
+    (rows_lay cat holds o.id.oid q path r are)
 
 -- ---- the body of an object's entry
 
@@ -132,8 +136,14 @@ type_is_none : (r : Option TypeRow) → is_table_data (type_desc r) ≡ false
 type_is_none None = refl
 type_is_none (Some row) = elim (cases_Bool (is_domain_letter row.typtype)) [ inl is ↦ rw is refl | inr isnt ↦ rw isnt refl ]
 
-pub lines_behind : (text : List ℕ) → Said text → Said (text ++ codes "\n\n")
-lines_behind text says = (says.0 ++ [], lays_both text (codes "\n\n") says.0 [] says.1 two_lines)
+pub lines_behind : (text : List ℕ) (ss : List Stmt) → Lays text ss → Lays (text ++ codes "\n\n") ss
+lines_behind text ss lays = subst (Lays (text ++ codes "\n\n")) (append-nil ss) (lays_both text (codes "\n\n") ss [] lays two_lines)
+
+pub object_lays : SpelledLaw → (cat : Catalogue) (standing : List ℕ) (o : Obj) (rows : Option Bytes) (k : ObjKind) → Known IsWritable (stmt_of_kind cat standing o k) → is_data k ≡ false → Lays (object_body cat standing o k rows) (option_to_list (stmt_of_kind cat standing o k))
+object_lays law cat standing o rows kind.TableData can e = absurd cc
+object_lays law cat standing o rows kind.UserType can e = rw (type_is_none (type_of cat.pg_type o.id.oid)) (lines_behind _ _ (defn_lays law cat standing o kind.UserType can))
+object_lays law cat standing o rows kind.Schema can e = lines_behind _ _ (defn_lays law cat standing o kind.Schema can)
+object_lays law cat standing o rows other can e = lines_behind _ _ (defn_lays law cat standing o other can)
 
 -- where an object is the rows of a table, these
 abbrev pub DataSays : Catalogue → Obj → ObjKind → Option Bytes → Type 0
@@ -141,9 +151,4 @@ DataSays cat o k rows = is_data k ≡ true → Said (copy_of cat o ++ text_or_no
 
 pub object_says : SpelledLaw → (cat : Catalogue) (standing : List ℕ) (o : Obj) (rows : Option Bytes) (k : ObjKind) → Known IsWritable (stmt_of_kind cat standing o k) → DataSays cat o k rows → Said (object_body cat standing o k rows)
 object_says law cat standing o rows kind.TableData can copied = copied refl
-object_says law cat standing o rows kind.UserType can copied = rw (type_is_none (type_of cat.pg_type o.id.oid)) (lines_behind _ (defn_says law cat standing o kind.UserType can))
-object_says law cat standing o rows kind.Schema can copied = lines_behind _ (defn_says law cat standing o kind.Schema can)
-object_says law cat standing o rows other can copied = lines_behind _ (defn_says law cat standing o other can)
-
-pub rows_are : (cat : Catalogue) → HoldsCells cat → (o : Obj) (q : QName) → Known IsPath (path_of o) → path_of o ≡ Some q → (rows : Option Bytes) (r : Bytes) → AreRows r → rows ≡ Some (r ++ codes "\\.\n\n\n") → Said (copy_of cat o ++ text_or_none rows)
-rows_are = data_says
+object_says law cat standing o rows other can copied = (option_to_list (stmt_of_kind cat standing o other), object_lays law cat standing o rows other can refl)

@@ -17,6 +17,7 @@ use Rattle.cat_model.specs.Values.{Bytes}
 use Rattle.cat_rows.specs.declared.catalogue.Catalogue.{Catalogue}
 use Rattle.cat_rows.specs.declared.table.SysTable.TheVariants as table
 use Rattle.cat_rows.specs.RowCells.{database_cells}
+use Rattle.ddl_laws.specs.Laying.{Lays}
 use Rattle.ddl_laws.specs.Respelling.{IsPath, IsWritable, AllWritable}
 use Rattle.ddl_rights.specs.Writable.{IsObject}
 use Rattle.dep_sort.specs.Ordering.{Sorted}
@@ -51,7 +52,7 @@ use Rattle.stmt_laws.proofs.Objects.{TextLaws, given, kind_can, owned_can}
 use Rattle.toc_laws.specs.Dumps.{is_data, IsDumpable, IsDump, HasRows, HaveRows, entries_in}
 use Rattle.toc_laws.proofs.Names.{tag_text, desc_text, names_text, owner_text, role_known, comment_text, grants_text}
 use Rattle.toc_laws.proofs.Remarks.{CanRemark, remarks_are, both_have, all_have}
-use Rattle.toc_laws.proofs.Bodies.{Said, SpelledLaw, spelled_lays, texts_lay, object_says, rows_are, lines_behind}
+use Rattle.toc_laws.proofs.Bodies.{Said, SpelledLaw, copy_stmt, spelled_lays, texts_lay, object_says, rows_are, lines_behind}
 
 -- with its rows, where it has some, it is stated
 abbrev Ready : Entry → Type 0
@@ -67,26 +68,26 @@ renumbered ids id d ready rows has = let h = ready rows has in record { tag = h.
 
 -- ---- what stands beside an object
 
-beside_ready : (cat : Catalogue) → HoldsCells cat → (o : Obj) → Known IsName o.schema → (desc tag defn : Bytes) (section : ℕ) (needs : List ℕ) → is_utf8 desc ≡ true → is_table_data desc ≡ false → IsUtf8 tag → Said defn → Ready (plain (beside cat o desc section tag defn needs))
+beside_ready : (cat : Catalogue) → HoldsCells cat → (o : Obj) → Known IsName o.schema → (desc tag defn : Bytes) (section : ℕ) (needs : List ℕ) → is_utf8 desc ≡ true → is_table_data desc ≡ false → IsUtf8 tag → (ss : List Stmt) → Lays defn ss → Ready (plain (beside cat o desc section tag defn needs))
 unfolding body
-beside_ready cat holds o schema desc tag defn section needs text other called says rows has = record {
+beside_ready cat holds o schema desc tag defn section needs text other called ss lays rows has = record {
   tag = called;
   desc = IsUtf8-from_is_utf8 desc text;
   namespace = names_text o.schema schema;
   owner = owner_text cat holds o;
-  lays = λ e. rw other (lines_behind defn says);
+  lays = λ e. (ss, rw other (lines_behind defn ss lays));
 }
 
 remark_ready : SpelledLaw → (cat : Catalogue) → HoldsCells cat → (o : Obj) → Known IsName o.schema → (place : ℕ) (r : Remark) → CanRemark r → Ready (plain (remark_draft cat o place r))
 unfolding is_utf8 chars encode
 remark_ready law cat holds o schema place r can =
-    beside_ready cat holds o schema (codes "COMMENT") (comment_tag r.0) (written (Some (stmt.Comment r.0 (Some r.1)))) 1 (place ∷ []) refl refl (comment_text r.0 can.0) (stmt.Comment r.0 (Some r.1) ∷ [], spelled_lays law (stmt.Comment r.0 (Some r.1)) can)
+    beside_ready cat holds o schema (codes "COMMENT") (comment_tag r.0) (written (Some (stmt.Comment r.0 (Some r.1)))) 1 (place ∷ []) refl refl (comment_text r.0 can.0) (stmt.Comment r.0 (Some r.1) ∷ []) (spelled_lays law (stmt.Comment r.0 (Some r.1)) can)
 
 owned_ready : SpelledLaw → (cat : Catalogue) (order : Sorted) (o : Obj) (needs : List ℕ) (place : ℕ) → HoldsCells cat → Known IsName o.schema → IsUtf8 (tag_of cat o) → Known IsWritable (owned_stmt cat o) → (k : ObjKind) → Known (λ d. Ready (plain d)) (owned_drafts_of cat order.objects o needs place k)
 unfolding is_utf8 chars encode
 owned_ready law cat order o needs place holds schema tag can kind.Sequence =
     known_map IsWritable (λ d. Ready (plain d)) (λ s. owned_with cat order.objects o needs place (written (Some s))) (owned_stmt cat o) can
-    (λ s is. beside_ready cat holds o schema (codes "SEQUENCE OWNED BY") (tag_of cat o) (written (Some s)) 2 (owner_needs order.objects needs (owner_table cat o.id.oid) place) refl refl tag (s ∷ [], spelled_lays law s is))
+    (λ s is. beside_ready cat holds o schema (codes "SEQUENCE OWNED BY") (tag_of cat o) (written (Some s)) 2 (owner_needs order.objects needs (owner_table cat o.id.oid) place) refl refl tag (s ∷ []) (spelled_lays law s is))
 owned_ready law cat order o needs place holds schema tag can other = tt
 
 -- ---- grants
@@ -104,7 +105,7 @@ grants_ready : SpelledLaw → (cat : Catalogue) → HoldsCells cat → (o : Obj)
 unfolding is_utf8 chars encode
 grants_ready law cat holds o schema place what is None can = tt
 grants_ready law cat holds o schema place what is (Some ss) can =
-    beside_ready cat holds o schema (codes "ACL") (grants_tag what) (texts ss) 1 (place ∷ []) refl refl (grants_text what is) (ss, texts_lay law ss (can ss refl))
+    beside_ready cat holds o schema (codes "ACL") (grants_tag what) (texts ss) 1 (place ∷ []) refl refl (grants_text what is) ss (texts_lay law ss (can ss refl))
 
 abbrev stmts_by : Obj → Option (Option (List AclItem)) → Option Bytes → Option Granted → Option (List Stmt)
 stmts_by o acl owner what = option_and_then (λ acl. option_and_then (λ owner. option_and_then (λ what. grant_stmts (grant_kind o.kind) what owner acl) what) owner) acl
@@ -120,11 +121,11 @@ rights_by law cat holds o schema place (Some acl) (Some owner) (Some what) is ca
 
 -- ---- an object
 
-record Laws : Type 0 where
-  spelled : SpelledLaw
-  text : TextLaws
+pub record Laws : Type 0 where
+  pub spelled : SpelledLaw
+  pub text : TextLaws
 
-stmt_known : (laws : Laws) (cat : Catalogue) (standing : List ℕ) (o : Obj) → HoldsCells cat → IsDumpable cat o → (k : ObjKind) → o.kind ≡ k → Known IsWritable (stmt_of_kind cat standing o k)
+pub stmt_known : (laws : Laws) (cat : Catalogue) (standing : List ℕ) (o : Obj) → HoldsCells cat → IsDumpable cat o → (k : ObjKind) → o.kind ≡ k → Known IsWritable (stmt_of_kind cat standing o k)
 unfolding dummy_stmt
 stmt_known laws cat standing o holds d kind.Dummy e =
     known_map IsPath IsWritable (λ q. stmt.CreateView q (dummy_body cat o.id.oid)) (path_of o) (given laws.text cat o holds d.named).path (λ q path. (path, d.body (ap is_dummy e)))
@@ -138,7 +139,7 @@ object_ready : (laws : Laws) (cat : Catalogue) (standing : List ℕ) (o : Obj) (
 unfolding object_draft body desc_of defn_of
 object_ready laws cat standing o needs holds d rows has =
     let of_rows : (is : is_data o.kind ≡ true) → Said (copy_of cat o ++ text_or_none rows) =
-    λ is. (let r = has (has_copy cat o o.kind is) in let q = d.path is in rows_are cat holds o q.0 (given laws.text cat o holds d.named).path q.1 rows r.0 r.1 r.2) in
+    λ is. (let r = has (has_copy cat o o.kind is) in let q = d.path is in (copy_stmt cat o.id.oid q.0 r.0 ∷ [], rows_are cat holds o q.0 (given laws.text cat o holds d.named).path q.1 rows r.0 r.1 r.2)) in
     record {
       tag = tag_text cat holds o d.named;
       desc = desc_text cat o;

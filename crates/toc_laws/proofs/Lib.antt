@@ -2,3 +2,4 @@ mod Names
 mod Remarks
 mod Bodies
 mod Dumps
+mod Statements

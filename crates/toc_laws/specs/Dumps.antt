@@ -42,9 +42,13 @@ pub record IsDump (cat : Catalogue) (order : Sorted) : Type 0 where
   pub cells : HoldsCells cat
   pub objects : AllByRecursion (IsDumpable cat) order.objects
 
--- the rows of an entry that has rows, and what ends them
+-- rows, and what ends them
+abbrev pub ended : Bytes → Bytes
+ended r = r ++ codes "\\.\n\n\n"
+
+-- the rows of an entry that has rows
 abbrev pub HasRows : Entry → Option Bytes → Type 0
-HasRows e rows = e.has_rows ≡ true → (r : Bytes) × AreRows r × (rows ≡ Some (r ++ codes "\\.\n\n\n"))
+HasRows e rows = e.has_rows ≡ true → (r : Bytes) × AreRows r × (rows ≡ Some (ended r))
 
 abbrev pub HaveRows : AllEntries → Type 0
 HaveRows entries = AllByRecursion (λ e. HasRows e.0 (rows_of e)) entries
