@@ -49,7 +49,9 @@ use Rattle.stmt_laws.specs.Named.{HoldsCells, is_dummy}
 use Rattle.stmt_laws.proofs.Lists.{Known, known_so, known_map, found_has, seen_have, chosen_have}
 use Rattle.stmt_laws.proofs.Rows.{IsOf, rows_hold}
 use Rattle.stmt_laws.proofs.Objects.{TextLaws, given, kind_can, owned_can}
-use Rattle.toc_laws.specs.Dumps.{is_data, IsDumpable, IsDump, HasRows, HaveRows, entries_in}
+use Rattle.cat_names.specs.declared.rights.GrantKind.{GrantKind}
+use Rattle.grant_laws.specs.Items.{kind_on, IsRoleName, IsItem}
+use Rattle.toc_laws.specs.Dumps.{is_data, AreRights, IsDumpable, IsDump, HasRows, HaveRows, entries_in}
 use Rattle.toc_laws.proofs.Names.{tag_text, desc_text, names_text, owner_text, role_known, comment_text, grants_text}
 use Rattle.toc_laws.proofs.Remarks.{CanRemark, remarks_are, both_have, all_have}
 use Rattle.toc_laws.proofs.Bodies.{Said, SpelledLaw, copy_stmt, spelled_lays, texts_lay, object_says, rows_are, lines_behind}
@@ -107,23 +109,46 @@ grants_ready law cat holds o schema place what is None can = tt
 grants_ready law cat holds o schema place what is (Some ss) can =
     beside_ready cat holds o schema (codes "ACL") (grants_tag what) (texts ss) 1 (place ∷ []) refl refl (grants_text what is) ss (texts_lay law ss (can ss refl))
 
-abbrev stmts_by : Obj → Option (Option (List AclItem)) → Option Bytes → Option Granted → Option (List Stmt)
-stmts_by o acl owner what = option_and_then (λ acl. option_and_then (λ owner. option_and_then (λ what. grant_stmts (grant_kind o.kind) what owner acl) what) owner) acl
-
 abbrev draft_by : Catalogue → Obj → ℕ → Option (Option (List AclItem)) → Option Bytes → Option Granted → Option Draft
 draft_by cat o place acl owner what = option_and_then (λ acl. option_and_then (λ owner. option_and_then (granted_draft cat o place owner acl) what) owner) acl
 
-rights_by : SpelledLaw → (cat : Catalogue) → HoldsCells cat → (o : Obj) → Known IsName o.schema → (place : ℕ) (acl : Option (Option (List AclItem))) (owner : Option Bytes) (what : Option Granted) → Known IsObject what → ForSome (stmts_by o acl owner what) AllWritable → Known (λ d. Ready (plain d)) (draft_by cat o place acl owner what)
-rights_by law cat holds o schema place None owner what is can = tt
-rights_by law cat holds o schema place (Some acl) None what is can = tt
-rights_by law cat holds o schema place (Some acl) (Some owner) None is can = tt
-rights_by law cat holds o schema place (Some acl) (Some owner) (Some what) is can = grants_ready law cat holds o schema place what is (grant_stmts (grant_kind o.kind) what owner acl) can
+-- a statement for grants can be written
+abbrev pub GrantLaw : Type 0
+GrantLaw = (what : Granted) (owner : Bytes) (items : List AclItem) (ss : List Stmt) → IsObject what → IsRoleName owner → AllByRecursion (IsItem (kind_on what)) items → grant_stmts (kind_on what) what owner (Some items) ≡ Some ss → AllWritable ss
+
+mapped_kind : {A : Type 0} (f : A → Granted) (kind : GrantKind) → ((x : A) → kind_on (f x) ≡ kind) → (o : Option A) (what : Granted) → option_map f o ≡ Some what → kind_on what ≡ kind
+mapped_kind f kind h None what e = absurd cc
+mapped_kind f kind h (Some x) what e = let same : f x ≡ what = cc e in subst (λ (w : Granted). kind_on w ≡ kind) same (h x)
+
+kind_same : (o : Obj) (k : ObjKind) (what : Granted) → granted_as o k ≡ Some what → kind_on what ≡ grant_kind k
+kind_same o kind.Schema what e = mapped_kind granted.Schema (grant_kind kind.Schema) (λ n. refl) o.name what e
+kind_same o kind.UserType what e = mapped_kind granted.Type (grant_kind kind.UserType) (λ q. refl) (path_of o) what e
+kind_same o kind.Table what e = mapped_kind granted.Table (grant_kind kind.Table) (λ q. refl) (path_of o) what e
+kind_same o kind.View what e = mapped_kind granted.Table (grant_kind kind.View) (λ q. refl) (path_of o) what e
+kind_same o kind.Dummy what e = mapped_kind granted.Table (grant_kind kind.Dummy) (λ q. refl) (path_of o) what e
+kind_same o kind.Sequence what e = mapped_kind granted.Sequence (grant_kind kind.Sequence) (λ q. refl) (path_of o) what e
+kind_same o other what e = absurd cc
+
+stmts_can : GrantLaw → (kind : GrantKind) (what : Granted) (owner : Bytes) (acl : Option (List AclItem)) → IsObject what → IsRoleName owner → kind_on what ≡ kind → ForSome acl (λ items. AllByRecursion (IsItem (kind_on what)) items) → ForSome (grant_stmts kind what owner acl) AllWritable
+unfolding grant_stmts
+stmts_can law kind what owner None is role same items = λ ss e. absurd cc
+stmts_can law kind what owner (Some list) is role same items = λ ss e.
+    law what owner list ss is role (items list refl) (subst (λ (k : GrantKind). grant_stmts k what owner (Some list) ≡ Some ss) (sym same) e)
+
+rights_by : SpelledLaw → GrantLaw → (cat : Catalogue) → HoldsCells cat → (o : Obj) → Known IsName o.schema → (place : ℕ) (acl : Option (Option (List AclItem))) (owner : Option Bytes) (what : Option Granted) → Known IsObject what → ((w : Granted) → what ≡ Some w → kind_on w ≡ grant_kind o.kind) → ForSome owner IsRoleName → ForSome what (λ w. AreRights (kind_on w) acl)
+    → Known (λ d. Ready (plain d)) (draft_by cat o place acl owner what)
+rights_by law grants cat holds o schema place None owner what is same role rights = tt
+rights_by law grants cat holds o schema place (Some acl) None what is same role rights = tt
+rights_by law grants cat holds o schema place (Some acl) (Some owner) None is same role rights = tt
+rights_by law grants cat holds o schema place (Some acl) (Some owner) (Some what) is same role rights =
+    grants_ready law cat holds o schema place what is (grant_stmts (grant_kind o.kind) what owner acl) (stmts_can grants (grant_kind o.kind) what owner acl is (role owner refl) (same what refl) (rights what refl acl refl))
 
 -- ---- an object
 
 pub record Laws : Type 0 where
   pub spelled : SpelledLaw
   pub text : TextLaws
+  pub grants : GrantLaw
 
 pub stmt_known : (laws : Laws) (cat : Catalogue) (standing : List ℕ) (o : Obj) → HoldsCells cat → IsDumpable cat o → (k : ObjKind) → o.kind ≡ k → Known IsWritable (stmt_of_kind cat standing o k)
 unfolding dummy_stmt
@@ -188,7 +213,7 @@ granted_ready laws cat select place holds d = elim (cases_Bool (is_in_sections s
   | inl is ↦ rw is (
       let o = place.1 in
       let path = (given laws.text cat o holds d.named).path in
-      rights_by laws.spelled cat holds o (known_so IsName o.schema d.named.0) place.0 (acl_of cat o o.kind) (owner_of cat o) (granted_as o o.kind) (object_known o (known_so IsName o.name d.named.1) path o.kind) d.grants)
+      rights_by laws.spelled laws.grants cat holds o (known_so IsName o.schema d.named.0) place.0 (acl_of cat o o.kind) (owner_of cat o) (granted_as o o.kind) (object_known o (known_so IsName o.name d.named.1) path o.kind) (kind_same o o.kind) d.owner d.rights)
   | inr isnt ↦ rw isnt tt
 ]
 
@@ -271,5 +296,5 @@ with_rows (x ∷ es) (p ∷ entries) ready e rows =
     let more : entries_in entries ≡ es = cc e in
     (subst Ready same ready.0 (rows_of p) rows.0, with_rows es entries ready.1 more rows.1)
 
-pub all_stated : SpelledLaw → TextLaws → (cat : Catalogue) (select : Select) (order : Sorted) (entries : AllEntries) → IsDump cat order → entries_in entries ≡ toc_of cat select order → HaveRows entries → AllByRecursion (λ e. IsStated e.0 (rows_of e)) entries
-all_stated spelled text cat select order entries dump e rows = with_rows (toc_of cat select order) entries (toc_ready (record { spelled = spelled; text = text }) cat select order dump) e rows
+pub all_stated : Laws → (cat : Catalogue) (select : Select) (order : Sorted) (entries : AllEntries) → IsDump cat order → entries_in entries ≡ toc_of cat select order → HaveRows entries → AllByRecursion (λ e. IsStated e.0 (rows_of e)) entries
+all_stated laws cat select order entries dump e rows = with_rows (toc_of cat select order) entries (toc_ready laws cat select order dump) e rows

@@ -32,6 +32,7 @@ ghost use Rattle.stmt_laws.specs.Named.{HoldsCells};
 ghost use Rattle.toc_laws.specs.Serial.{Serial};
 
 use ddl_laws::laws::{laid_out_statements_are_read, what_can_be_written_is_spelled};
+use grant_laws::laws::grants_can_be_written;
 use script_laws::laws::scripts_read_as_their_statements;
 use text_laws::laws::texts_of_rows_can_be_written;
 
@@ -51,6 +52,7 @@ pub fn scripts_of_dumps_read_as_their_statements()
 {
     scripts_read_as_their_statements();
     texts_of_rows_can_be_written();
+    grants_can_be_written();
     what_can_be_written_is_spelled();
 }
 
@@ -77,5 +79,6 @@ pub fn entries_say_their_statements()
 {
     laid_out_statements_are_read();
     texts_of_rows_can_be_written();
+    grants_can_be_written();
     what_can_be_written_is_spelled();
 }

@@ -8,7 +8,7 @@ returns c =
     let t = c.texts_of_rows_can_be_written.ensures in
     let text : TextLaws = record { types = t.types; defaults = t.defaults; views = t.views; indexes = t.indexes; constraints = t.constraints; checks = t.checks } in
     let spelled = c.what_can_be_written_is_spelled.ensures in
-    let laws : Laws = record { spelled = spelled; text = text } in
+    let laws : Laws = record { spelled = spelled; text = text; grants = c.grants_can_be_written.ensures } in
     let laid = c.laid_out_statements_are_read.ensures in
     record {
       objects = object_says_so laid laws;
