@@ -10,4 +10,4 @@ mod writer;
 
 pub use pieces::Pieces;
 pub use reader::CustomReader;
-pub use writer::CustomWriter;
+pub use writer::{CustomWriter, end_block, start_block, write_piece};

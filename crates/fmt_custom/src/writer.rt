@@ -1,5 +1,5 @@
 //! Writing an archive in the custom format.
-ghost use Rattle.std.specs.Prelude.{◌≡◌, ◌<◌, ◌^◌, ◌++◌, length, Some, OnOk, OnErr};
+ghost use Rattle.std.specs.Prelude.{◌≡◌, ◌<◌, ◌^◌, ◌++◌, length, Some, None, OnOk, OnErr};
 ghost use Rattle.copy_text.specs.Rows.{Extends};
 ghost use Rattle.fmt_custom.specs.Blocks.{piece};
 ghost use Rattle.fmt_custom.specs.Writing.{start_text};
@@ -100,16 +100,16 @@ impl CustomWriter {
     }
 
     /// Appends the end of a block. After an `Err` nothing was appended.
-    #[tactic(auto, unfolding(crate::specs::Blocks::piece))]
     pub fn block_end(&self, out: &mut Vec<u8>) -> Result<(), AllocError>
         ensures ok { OnOk result (out.new.items ≡ out.old.items ++ piece.write None) }
         ensures err { OnErr result (out.new.items ≡ out.old.items) }
     {
-        write_int(0, out)
+        end_block(out)
     }
 }
 
-fn start_block(id: u32, out: &mut Vec<u8>) -> Result<(), AllocError>
+/// Appends what begins the block of a dump id: the byte 1 and the id. After an `Err` nothing was appended.
+pub fn start_block(id: u32, out: &mut Vec<u8>) -> Result<(), AllocError>
     ensures ok { OnOk result (out.new.items ≡ out.old.items ++ start_text id) }
     ensures err { OnErr result (out.new.items ≡ out.old.items) }
 {
@@ -129,8 +129,18 @@ fn write_start(id: u32, out: &mut Vec<u8>) -> Result<(), AllocError>
     write_integer(i64::from(id), out)
 }
 
+/// Appends the end of a block. After an `Err` nothing was appended.
 #[tactic(auto, unfolding(crate::specs::Blocks::piece))]
-fn write_piece(bytes: &[u8], out: &mut Vec<u8>) -> Result<(), AllocError>
+pub fn end_block(out: &mut Vec<u8>) -> Result<(), AllocError>
+    ensures ok { OnOk result (out.new.items ≡ out.old.items ++ piece.write None) }
+    ensures err { OnErr result (out.new.items ≡ out.old.items) }
+{
+    write_int(0, out)
+}
+
+/// Appends a piece of rows: its length and it. What was there before stays in any case.
+#[tactic(auto, unfolding(crate::specs::Blocks::piece))]
+pub fn write_piece(bytes: &[u8], out: &mut Vec<u8>) -> Result<(), AllocError>
     requires { length bytes.now < 2 ^ 32 }
     ensures ok { OnOk result (out.new.items ≡ out.old.items ++ piece.write (Some bytes.now)) }
     ensures kept { Extends out.old.items out.new.items }
