@@ -7,5 +7,5 @@ mod reader;
 mod writing;
 
 pub use fault::DirFault;
-pub use reader::DirReader;
+pub use reader::{DirReader, rows_path, toc_path};
 pub use writing::dir_toc;

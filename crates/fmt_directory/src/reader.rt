@@ -43,7 +43,8 @@ fn text_of_string(string: String) -> Text
     }
 }
 
-fn toc_path(alloc: Global, folder: &str) -> Result<Text, AllocError>
+/// The path of a directory's `toc.dat`.
+pub fn toc_path(alloc: Global, folder: &str) -> Result<Text, AllocError>
     ensures { IfOk result (λ name. name ≡ toc_name folder.now) }
 {
     let mut name = String::from_str(alloc, folder)?;
@@ -51,7 +52,8 @@ fn toc_path(alloc: Global, folder: &str) -> Result<Text, AllocError>
     Ok(text_of_string(name))
 }
 
-fn rows_path(alloc: Global, folder: &str, dump_id: u32) -> Result<Text, AllocError>
+/// The path of the file of the rows of a dump id in a directory.
+pub fn rows_path(alloc: Global, folder: &str, dump_id: u32) -> Result<Text, AllocError>
     ensures { IfOk result (λ name. name ≡ rows_name folder.now dump_id) }
 {
     let mut name = String::from_str(alloc, folder)?;
