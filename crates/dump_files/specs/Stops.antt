@@ -63,3 +63,9 @@ abbrev pub told_of : {X : Type 0} → ℕ → Result X CheckRowsError → Result
 told_of table (Ok x) = Ok x
 told_of table (Err (Fault first)) = Err (BadRows table first)
 told_of table (Err faults.Memory) = Err Memory
+
+-- one that comes while files are looked for
+abbrev pub IsOfLooking : DumpStop → Type 0
+IsOfLooking (BadRows table first) = ⊥
+IsOfLooking WriteFault = ⊥
+IsOfLooking stop = Unit {0}

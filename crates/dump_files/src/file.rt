@@ -2,7 +2,7 @@
 ghost use Rattle.std.specs.Prelude.{◌≡◌, length, IfOk, IfErr, OnOk, Some, option_map};
 ghost use Rattle.dump_ports.specs.Tree.{Tree, text_at};
 ghost use Rattle.dump_files.specs.Needed.{larger, unready, GivesReady, IsNoSize};
-ghost use Rattle.dump_files.specs.Stops.{CountsRead};
+ghost use Rattle.dump_files.specs.Stops.{CountsRead, IsOfLooking};
 
 use crate::stop::DumpStop;
 use copy_text::Text;
@@ -28,6 +28,7 @@ pub(crate) const MOST: u64 = 1 << 40;
 /// bytes. Each file's size is asked for once, and it takes no memory but for the name of a file that is absent.
 pub fn look_for<F: Files>(files: &mut F, needed: &[DataFile]) -> Result<(), DumpStop>
     ensures told { (tree : Tree) → F.tree files.old ≡ Some tree → GivesReady result (unready tree needed.now) }
+    ensures looking { IfErr result IsOfLooking }
     ensures kept { F.tree files.new ≡ F.tree files.old }
     ensures read_count { CountsRead result (F.read_faults files.old) (F.read_faults files.new) }
     ensures write_count { F.write_faults files.new ≡ F.write_faults files.old }
@@ -60,6 +61,7 @@ fn first_large(so_far: Option<u64>, size: u64) -> Option<u64>
 fn size_of<F: Files>(files: &mut F, file: &DataFile) -> Result<u64, DumpStop>
     ensures told { (tree : Tree) → F.tree files.old ≡ Some tree → IfOk result (λ size. option_map (λ text. length text) (text_at tree file.now.name) ≡ Some size) }
     ensures absent { (tree : Tree) → F.tree files.old ≡ Some tree → IfErr result (IsNoSize file.now.name (text_at tree file.now.name)) }
+    ensures looking { IfErr result IsOfLooking }
     ensures kept { F.tree files.new ≡ F.tree files.old }
     ensures read_count { CountsRead result (F.read_faults files.old) (F.read_faults files.new) }
     ensures write_count { F.write_faults files.new ≡ F.write_faults files.old }
