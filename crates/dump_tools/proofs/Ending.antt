@@ -1,5 +1,5 @@
 -- What stands once a plan is carried out.
-use Rattle.std.proofs.Common.{◌≡◌, List, [], map, Option, option_map, Result, Ok, Err, IfOk, refl, sym, subst, ◌∙◌, inl, inr}
+use Rattle.std.proofs.Common.{◌≡◌, List, [], map, Option, option_map, Result, Ok, Err, IfOk, OnErr, refl, sym, subst, ◌∙◌, inl, inr}
 use Rattle.std.specs.List.Sorted.{IsPermutation}
 use Rattle.dump_ports.specs.Tree.{Tree}
 use Rattle.cat_rows.specs.declared.table.SysTable.TheVariants.{PgNamespace}
@@ -15,6 +15,8 @@ use Rattle.script_runs.specs.Stopping.{ending}
 use Rattle.script_runs.specs.Writing.{IsUnwritten, StandFor}
 use Rattle.tool_words.specs.declared.outcome.Outcome.{Outcome}
 use Rattle.tool_words.specs.declared.outcome.Outcome.TheVariants.{Done, Usage, ReadFault, WriteFault, Missing, BadExport, BadScript, OutOfProfile, TooLarge, Differs, ScriptStopped, Loop, NoMatch, Memory}
+use Rattle.tool_words.specs.Answers.{IsDue}
+use Rattle.dump_tools.specs.Runs.{IsEarly}
 use Rattle.dump_tools.specs.Due.{Application, Comes, Applied, Running, Runs, Leaves, IsAnswerDue}
 use Rattle.schema_folders.proofs.Named.{named-IsPermutation}
 use Rattle.schema_folders.proofs.Standing.{folder_holds}
@@ -73,3 +75,30 @@ leaves plan made stands = record { export = made.export; same = stands.same; rea
 pub both_ok : {X Y : Type 0} (r : Result X Y) (P Q : X → Type 0) → IfOk r P → IfOk r Q → IfOk r (λ x. P x × Q x)
 both_ok (Ok x) P Q p q = (p, q)
 both_ok (Err y) P Q p q = tt
+
+-- ---- what is known once the files are told
+
+pub under_ok : {X Y : Type 0} (r : Result X Y) (A : Tree → Type 0) (P : Tree → X → Type 0) → ((tree : Tree) → A tree → IfOk r (P tree)) → IfOk r (λ x. (tree : Tree) → A tree → P tree x)
+under_ok (Ok x) A P h = h
+under_ok (Err y) A P h = tt
+
+pub under_err : {X Y : Type 0} (r : Result X Y) (A : Tree → Type 0) (B : Tree → Type 0) → ((tree : Tree) → A tree → OnErr r (B tree)) → OnErr r ((tree : Tree) → A tree → B tree)
+under_err (Ok x) A B h = tt
+under_err (Err y) A B h = h
+
+-- an answer by which the work ended on its way is due at any step
+pub early_due : {Y : Type 0} (answer : Outcome) (due : Result Y Outcome) → IsEarly answer → IsDue answer due
+early_due Done due e = elim e [ ]
+early_due (Usage word kind) due e = elim e [ ]
+early_due ReadFault due e = tt
+early_due WriteFault due e = tt
+early_due (Missing name) due e = elim e [ ]
+early_due (BadExport file line kind) due e = elim e [ ]
+early_due (BadScript fault) due e = elim e [ ]
+early_due (OutOfProfile what) due e = elim e [ ]
+early_due (TooLarge what most) due e = elim e [ ]
+early_due (Differs key) due e = elim e [ ]
+early_due (ScriptStopped stop) due e = elim e [ ]
+early_due (Loop path) due e = elim e [ ]
+early_due (NoMatch pattern) due e = elim e [ ]
+early_due Memory due e = tt

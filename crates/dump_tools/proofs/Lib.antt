@@ -7,3 +7,5 @@ pub mod Telling
 pub mod Staying
 pub mod Taking
 pub mod Scripting
+mod Carried
+mod Printed

@@ -82,7 +82,7 @@ pub told_part : (tree : Option Tree) (left printed told after : Option Bytes) (t
 told_part tree left printed told after text p = inr (record { front = p.front; rest = p.rest; split = p.split; put = ap (λ t. world tree left printed t) p.taken })
 
 -- a first part of a text was printed
-printed_part : (tree : Option Tree) (left printed after told : Option Bytes) (text : Bytes) → AppendsPart text printed after → IsPart (Writes text) (world tree left printed told) (world tree left after told)
+pub printed_part : (tree : Option Tree) (left printed after told : Option Bytes) (text : Bytes) → AppendsPart text printed after → IsPart (Writes text) (world tree left printed told) (world tree left after told)
 printed_part tree left printed after told text p = inr (record { front = p.front; rest = p.rest; split = p.split; put = ap (λ t. world tree left t told) p.taken })
 
 -- a whole text was told
@@ -161,29 +161,3 @@ cut_in_text teller due text tree tree' left printed printed_after told d e p = r
   of_run = inr (run_of (Writes text ∷ []) Done, alone teller (Ok (Prints text)) (run_of (Writes text ∷ []) Done) refl, refl);
   cut = record { whole = []; later = Writes text ∷ []; split = refl; cut = printed_part tree left printed printed_after told text p };
 })
-
--- ---- a run that has ended
-
--- a plan that was due was carried out
-pub ended : (teller : Teller) (due : Result Plan Outcome) (answer : Outcome) (before after : Option Tree) (left out_before out_after told_before told_after : Option Bytes) → WasDue due answer before after out_before out_after told_before told_after → Came teller due answer (world before left out_before told_before) (world after left out_after told_after)
-ended teller due answer before after left out_before out_after told_before told_after w =
-    subst (λ d. Came teller d answer (world before left out_before told_before) (world after left out_after told_after)) (sym w.is_due)
-    (subst (λ a. Came teller (Ok w.plan) a (world before left out_before told_before) (world after left out_after told_after)) (sym w.answers) (of w.plan w.carried))
-  where
-    of : (plan : Plan) → IsCarriedOut plan before after out_before out_after told_before told_after → Came teller (Ok plan) (answer_of plan) (world before left out_before told_before) (world after left out_after told_after)
-    of (Applies plan) carried = came_stored teller (Ok (Applies plan)) (files_written plan.folder carried.0.text) (report_of plan) Done (record { text = carried.0.text; comes = carried.0.result; holds = carried.0.holds; is = refl })
-        before after left out_before out_after told_before told_after carried.0.saved carried.1 carried.2
-    of (Runs plan) carried = came_stored teller (Ok (Runs plan)) (files_of plan.folder carried.0.texts) (report_of_run plan) (answer_of_run plan) (may_run teller plan carried.0.texts carried.0.leaves)
-        before after left out_before out_after told_before told_after carried.0.saved carried.1 carried.2
-    of (Prints text) carried = record {
-      run = run_of (Writes text ∷ []) Done;
-      may = refl;
-      answers = refl;
-      put = same_world after before left out_after (option_map (λ printed. printed ++ text) out_before) told_after told_before carried.0 carried.1 carried.2;
-    }
-    of (Compares a b) carried = record {
-      run = run_of [] Done;
-      may = inl (carried.0, refl);
-      answers = refl;
-      put = same_world after before left out_after out_before told_after told_before carried.1 carried.2 carried.3;
-    }

@@ -31,10 +31,19 @@ use Rattle.tool_words.specs.declared.words.Asked.TheVariants.{Psql, Dump, Compar
 use Rattle.tool_words.specs.declared.words.ScriptSource.{ScriptSource}
 use Rattle.tool_words.specs.declared.words.ScriptSource.TheVariants.{File, Input}
 use Rattle.tool_words.specs.declared.words.DumpAsked.{DumpAsked}
-use Rattle.tool_words.specs.Words.{is_whole_script, asked_of, built, asked_by, words_asked}
+use Rattle.tool_words.specs.Words.{asked_of, built, asked_by, words_asked}
 use Rattle.schema_folders.specs.Naming.{boot}
 use Rattle.dump_ports.specs.declared.moment.Moment.{Moment}
 use Rattle.toc_entry.specs.declared.entry.Entry.{Entry}
+use Rattle.cat_rows.specs.declared.catalogue.Catalogue.{Catalogue}
+use Rattle.obj_graph.specs.declared.select.Select.{Select}
+use Rattle.dump_toc.specs.Toc.{Refusal, no_match, looping, too_many, toc}
+use Rattle.dump_files.specs.declared.stop.DumpStop.{DumpStop}
+use Rattle.dump_files.specs.declared.stop.DumpStop.TheVariants as stops
+use Rattle.dump_files.specs.Needed.{unready}
+use Rattle.dump_plans.specs.Choosing.{select_of}
+use Rattle.dump_plans.specs.Outcomes.{refusal_outcome, toc_told, ready_told}
+use Rattle.dump_plans.specs.Plans.{data_files, dumping_of}
 use Rattle.dump_schemas.specs.Toc.{toc_due}
 use Rattle.dump_schemas.specs.Scripts.{script_of as dumped_script}
 use Rattle.schema_folders.specs.Texts.{within, file_of}
@@ -46,8 +55,8 @@ use Rattle.cat_rows.specs.Catalogues.{rows_in}
 use Rattle.schema_folders.specs.Folder.{is_bare, schemas_of, opening_in, opening_of, or_unbuilt}
 use Rattle.tool_words.specs.Outcomes.{fault_outcome}
 use Rattle.exports.specs.Cells.{catalogue_with}
-use Rattle.exports.specs.Exports.{Exported, told, well_formed, have_rows, export_with, export_of}
-use Rattle.dump_tools.specs.Due.{Plan, script_limit, input_of, source_of, scripted, script_read, schemas_for, runs_as, plan_with, plan_for, text_due, psql_due, database, dump_row, counted, whole_due, dump_due, second_due, compare_due, asked_due, due}
+use Rattle.exports.specs.Exports.{Exported, formed_of, told, well_formed, have_rows, export_with, export_of}
+use Rattle.dump_tools.specs.Due.{Plan, script_limit, input_of, source_of, scripted, script_read, schemas_for, runs_as, plan_with, plan_for, text_due, psql_due, database, dump_row, counted, whole_schemas, printed_due, is_printed_script, catalogue_due, folder_due, dump_due, second_due, compare_due, asked_due, due}
 
 same : (A B : Type 0) (o : Outcome) → ◌≡◌ {A = Result B Outcome} (Err o) (Err Done) → ◌≡◌ {A = Result A Outcome} (Err o) (Err Done)
 same A B o e = ap Err (inner B o e)
@@ -175,18 +184,50 @@ counted_never : (script : Bytes) (toc : Result (List Entry) ℕ) → counted scr
 counted_never script (Ok entries) e = cc
 counted_never script (Err n) e = cc
 
-whole_never : (folder : Bytes) (moment : Moment) (tree : Tree) → whole_due folder moment tree ≡ Err Done → ⊥
-unfolding whole_due
-whole_never folder moment tree e =
-    bind_never (opening_of folder tree) _ (opening_never folder tree)
-    (λ rows. counted_never (dumped_script database boot moment (map dump_row rows)) (toc_due database boot (map dump_row rows))) e
+formed_of_never : (folder : Bytes) (tree : Tree) → formed_of folder tree ≡ Err Done → ⊥
+unfolding formed_of
+formed_of_never folder tree e =
+    bind_never (told (catalogue_of folder tree)) _ (told_never (catalogue_of folder tree))
+    (λ tables. bind_never (well_formed (catalogue_fault (catalogue_with tables))) _ (formed_never (catalogue_fault (catalogue_with tables))) (λ formed h. ok_never _ h)) e
+
+refusal_never : (refusal : Refusal) → ◌≡◌ {A = Result (List Entry) Outcome} (Err (refusal_outcome refusal)) (Err Done) → ⊥
+refusal_never (no_match fault) e = cc
+refusal_never (looping path) e = cc
+refusal_never (too_many count) e = cc
+
+toc_never : (r : Result (List Entry) Refusal) → toc_told r ≡ Err Done → ⊥
+toc_never (Ok entries) e = cc
+toc_never (Err refusal) e = refusal_never refusal e
+
+ready_never : {X : Type 0} (x : X) (found : Option DumpStop) → ready_told x found ≡ Err Done → ⊥
+ready_never x None e = cc
+ready_never x (Some (stops.Missing name)) e = cc
+ready_never x (Some (stops.TooLarge size)) e = cc
+ready_never x (Some stops.ReadFault) e = cc
+ready_never x (Some (stops.BadRows table first)) e = cc
+ready_never x (Some stops.WriteFault) e = cc
+ready_never x (Some stops.Memory) e = cc
+
+dumping_never : (folder : Bytes) (select : Select) (cat : Catalogue) (tree : Tree) → dumping_of folder select cat tree ≡ Err Done → ⊥
+unfolding dumping_of
+dumping_never folder select cat tree e =
+    bind_never (toc_told (toc cat select)) _ (toc_never (toc cat select)) (λ entries h. ready_never _ (unready tree (data_files folder cat entries)) h) e
+
+printed_never : (asked : DumpAsked) (moment : Moment) (cat : Catalogue) (tree : Tree) (schemas : Option (List SchemaRow)) → printed_due asked moment cat tree schemas ≡ Err Done → ⊥
+printed_never asked moment cat tree None e = bind_never (dumping_of asked.folder (select_of asked.choice) cat tree) _ (dumping_never asked.folder (select_of asked.choice) cat tree) (λ dump h. ok_never _ h) e
+printed_never asked moment cat tree (Some rows) e = counted_never (dumped_script database boot moment (map dump_row rows)) (toc_due database boot (map dump_row rows)) e
+
+folder_due_never : (asked : DumpAsked) (moment : Moment) (tree : Tree) → folder_due asked moment tree ≡ Err Done → ⊥
+unfolding folder_due catalogue_due
+folder_due_never asked moment tree e =
+    bind_never (formed_of asked.folder tree) _ (formed_of_never asked.folder tree) (λ cat h. printed_never asked moment cat tree (whole_schemas asked cat) h) e
 
 dump_never : (asked : DumpAsked) (moment : Moment) (tree : Tree) → dump_due asked moment tree ≡ Err Done → ⊥
 unfolding dump_due
-dump_never asked moment tree e = by (is_whole_script asked) e
+dump_never asked moment tree e = by (is_printed_script asked) e
   where
-    by : (b : Bool) → cond {A = Result Plan Outcome} b (whole_due asked.folder moment tree) (Err (OutOfProfile what.Unbuilt)) ≡ Err Done → ⊥
-    by true h = whole_never asked.folder moment tree h
+    by : (b : Bool) → cond {A = Result Plan Outcome} b (folder_due asked moment tree) (Err (OutOfProfile what.Unbuilt)) ≡ Err Done → ⊥
+    by true h = folder_due_never asked moment tree h
     by false h = cc
 
 second_never : (one : Exported) (second : Bytes) (tree : Tree) → second_due one second tree ≡ Err Done → ⊥

@@ -8,6 +8,7 @@ use Rattle.std.specs.Cmp.Lexicographic.{nat_list_cmp_total}
 use Rattle.dump_ports.specs.Tree.{Tree, text_at}
 use Rattle.cat_rows.specs.declared.table.SysTable.{SysTable}
 use Rattle.cat_model.specs.Values.{Bytes, bytes_cmp, Named}
+use Rattle.dump_plain.specs.Dumps.{BadRow}
 use Rattle.tool_words.specs.declared.outcome.Outcome.{Outcome}
 use Rattle.tool_words.specs.declared.words.Teller.{Teller}
 use Rattle.schema_folders.specs.Folder.{IsElsewhere, all_tables, table_written, table_files, marker_written, files_written}
@@ -15,8 +16,8 @@ use Rattle.saved_folders.specs.Files.{File}
 use Rattle.dump_tools.specs.Outputs.{World, Output, Stores, Writes, Tells, Takes, with_text, performed, all_performed, IsPart, IsCut, CutShort, stores}
 use Rattle.std.specs.List.{AllByRecursion}
 use Rattle.saved_folders.specs.Folders.{files_of}
-use Rattle.dump_tools.specs.Runs.{Run, IsCompared, MayBeRun, MayCome, MayRun}
-use Rattle.dump_tools.specs.Due.{Plan, Applies, Running, Runs, Prints, Compares, report_of, report_of_run}
+use Rattle.dump_tools.specs.Runs.{Run, IsCompared, dumped_by, MayBeRun, MayCome, MayRun}
+use Rattle.dump_tools.specs.Due.{Plan, Applies, Running, Runs, Prints, Dumps, Compares, report_of, report_of_run}
 use Rattle.dump_tools.specs.Stays.{IsOther, AreOthers, Keeps, IsSilent, AreSilent, TakesNone, AllTakeNone}
 use Rattle.dump_tools.proofs.Taking.{came}
 
@@ -187,11 +188,16 @@ compared_none : (teller : Teller) (a b : Named) (run : Run) → IsCompared telle
 compared_none teller a b run (inl h) = subst (λ (r : Run). AllTakeNone r.outputs) (sym h.1) tt
 compared_none teller a b run (inr h) = subst (λ (r : Run). AllTakeNone r.outputs) (sym h.2) (tt, tt)
 
+dumped_none : (text : Bytes) (bad : Option BadRow) (run : Run) → dumped_by text bad run → AllTakeNone run.outputs
+dumped_none text None run may = subst (λ (r : Run). AllTakeNone r.outputs) (sym may) (tt, tt)
+dumped_none text (Some bad) run may = subst (λ (r : Run). AllTakeNone r.outputs) (sym may.3) (tt, (tt, tt))
+
 pub later_none : (teller : Teller) (due : Result Plan Outcome) (run : Run) → MayCome teller due run → AllTakeNone run.outputs
 later_none teller (Err refusal) run may = subst (λ (r : Run). AllTakeNone r.outputs) (sym may) (tt, tt)
 later_none teller (Ok (Applies plan)) run may = subst (λ (r : Run). AllTakeNone r.outputs) (sym may.is) (stored_none (files_written plan.folder may.text) (report_of plan))
 later_none teller (Ok (Runs plan)) run may = run_none teller plan run may
 later_none teller (Ok (Prints text)) run may = subst (λ (r : Run). AllTakeNone r.outputs) (sym may) (tt, tt)
+later_none teller (Ok (Dumps dump)) run may = dumped_none dump.text dump.bad run may
 later_none teller (Ok (Compares a b)) run may = compared_none teller a b run may
 
 pub unread_none : (teller : Teller) (due : Result Plan Outcome) (run : Run) → MayRun None teller due run → AllTakeNone run.outputs

@@ -1,6 +1,6 @@
 -- What is due for the words of a command line, the files and standard input: the first refusal of its steps in their
 -- order, or a plan that is carried out. And what the files hold once it is.
-use Rattle.std.specs.Prelude.{◌≡◌, Bool, true, ℕ, ◌+◌, ◌≤◌, List, [], ◌++◌, length, map, Option, Some, None, option_map, Result, Ok, Err, ◌⊎◌, codes, nat_le, not, ◌&&◌, if◌then◌else◌}
+use Rattle.std.specs.Prelude.{◌≡◌, Bool, true, ℕ, ◌+◌, ◌≤◌, List, [], ◌++◌, length, map, Option, Some, None, option_map, Result, Ok, Err, ◌⊎◌, codes, nat_le, not, is_none, ◌&&◌, if◌then◌else◌}
 use Rattle.std.specs.List.{All, IsDistinct}
 use Rattle.std.specs.List.Sorted.{IsPermutation}
 use Rattle.cat_rows.specs.declared.table.SysTable.TheVariants.{PgNamespace}
@@ -32,7 +32,7 @@ use Rattle.tool_words.specs.declared.words.Asked.TheVariants.{Psql, Dump, Compar
 use Rattle.tool_words.specs.declared.words.ScriptSource.{ScriptSource}
 use Rattle.tool_words.specs.declared.words.ScriptSource.TheVariants.{File, Input}
 use Rattle.tool_words.specs.declared.words.DumpAsked.{DumpAsked}
-use Rattle.tool_words.specs.Words.{is_whole_script, words_asked}
+use Rattle.tool_words.specs.Words.{is_plain, is_whole_script, words_asked}
 use Rattle.script_runs.specs.Stopping.{ending, told}
 use Rattle.dump_ports.specs.declared.moment.Moment.{Moment}
 use Rattle.toc_entry.specs.declared.entry.Entry.{Entry}
@@ -41,16 +41,25 @@ use Rattle.dump_schemas.specs.declared.rows.DatabaseRow.{DatabaseRow}
 use Rattle.dump_schemas.specs.Toc.{toc_due}
 use Rattle.dump_schemas.specs.Scripts.{script_of as dumped_script}
 use Rattle.schema_folders.specs.Texts.{file_of}
-use Rattle.exports.specs.Exports.{Exported, export_of}
+use Rattle.exports.specs.Exports.{Exported, formed_of, export_of}
 use Rattle.schema_folders.specs.Statements.{are_taken}
 use Rattle.dump_tools.specs.declared.psql.Work.{Work}
 use Rattle.dump_tools.specs.declared.psql.Work.TheVariants as work
 use Rattle.dump_tools.specs.declared.psql.SchemaWork.{SchemaWork}
 use Rattle.dump_tools.specs.declared.psql.ScriptWork.{ScriptWork}
-use Rattle.schema_folders.specs.Folder.{opening_in, opening_of, cells_of_row, schemas_alone, Holds, folder_saved}
-use Rattle.tool_words.specs.Lines.{Appends}
+use Rattle.schema_folders.specs.Folder.{opening_in, cells_of_row, schemas_alone, Holds, folder_saved}
+use Rattle.tool_words.specs.Lines.{Appends, AppendsPart}
 use Rattle.schema_folders.specs.Naming.{boot, named}
-use Rattle.tool_words.specs.Messages.{Refusal, report}
+use Rattle.tool_words.specs.Messages.{Refusal, report, outcome_line}
+use Rattle.tool_words.specs.declared.words.Teller.TheVariants as teller
+use Rattle.command_line.specs.declared.options.Tool.TheVariants as tool
+use Rattle.toc_entry.specs.declared.head.Head.{Head}
+use Rattle.dump_schemas.specs.Scripts.{version}
+use Rattle.dump_plain.specs.Dumps.{BadRow, Output, plain_out}
+use Rattle.obj_graph.specs.declared.select.Select.{Select}
+use Rattle.dump_plans.specs.Choosing.{select_of}
+use Rattle.dump_plans.specs.Outcomes.{bad_row_outcome}
+use Rattle.dump_plans.specs.Plans.{Dumping, dumping_of}
 use Rattle.schema_folders.specs.Run.{catalogue_after, refusals, IsUsers}
 
 -- a script of schemas, to apply to a folder whose only objects they are
@@ -68,6 +77,11 @@ pub record Running : Type 0 where
   pub statements : List Located
   pub opening : Exported
 
+-- a dump, up to the first row that fails, if there is one
+pub record DumpText : Type 0 where
+  pub text : Bytes
+  pub bad : Option BadRow
+
 -- what a tool does once all is read
 pub data Plan : Type 0 where
   -- psql applies a script of schemas to a folder of schemas
@@ -76,6 +90,8 @@ pub data Plan : Type 0 where
   Runs : Running → Plan
   -- pg_dump prints a text
   Prints : Bytes → Plan
+  -- pg_dump prints a dump, up to a row that fails
+  Dumps : DumpText → Plan
   -- pg_catcmp compares two catalogues by names
   Compares : Named → Named → Plan
 
@@ -148,15 +164,48 @@ counted script (Err n) = Err (TooLarge Entries n)
 abbrev pub script_due : Moment → List SchemaRow → Result Plan Outcome
 script_due moment rows = counted (dumped_script database boot moment (map dump_row rows)) (toc_due database boot (map dump_row rows))
 
--- the folder is read
-unfoldable pub whole_due : Bytes → Moment → Tree → Result Plan Outcome
-whole_due folder moment tree = do
-  rows ← opening_of folder tree
-  script_due moment rows
+-- the head of a plain dump, of which the dump tells the two versions
+abbrev pub plain_head : Moment → Head
+plain_head moment = record { major = 1; minor = 15; revision = 0; format = 4; compression = 0; moment = moment; dbname = []; server = version; dumper = version }
 
--- pg_dump: the script of a whole folder is what is built of it
+-- what is put out of a dump
+abbrev pub text_of_dump : Output → DumpText
+text_of_dump out = record { text = out.text; bad = out.bad }
+
+unfoldable pub dump_text : Moment → Tree → Bool → Dumping → DumpText
+dump_text moment tree owners dump = text_of_dump (plain_out tree (plain_head moment) owners dump.entries dump.files)
+
+-- what is selected of a catalogue, with its owners or without them
+abbrev pub selected_due : Bytes → Select → Bool → Moment → Catalogue → Tree → Result Plan Outcome
+selected_due folder select owners moment cat tree = dumping_of folder select cat tree >>= λ dump. Ok (Dumps (dump_text moment tree owners dump))
+
+-- what the words choose of it
+abbrev pub chosen_due : DumpAsked → Moment → Catalogue → Tree → Result Plan Outcome
+chosen_due asked moment cat tree = selected_due asked.folder (select_of asked.choice) (not asked.choice.no_owner) moment cat tree
+
+-- the schemas of a catalogue, where they are its only objects and all of it is asked for
+abbrev pub whole_schemas : DumpAsked → Catalogue → Option (List SchemaRow)
+whole_schemas asked cat = if is_whole_script asked then result_ok (opening_in cat) else None
+
+abbrev pub printed_due : DumpAsked → Moment → Catalogue → Tree → Option (List SchemaRow) → Result Plan Outcome
+printed_due asked moment cat tree None = chosen_due asked moment cat tree
+printed_due asked moment cat tree (Some rows) = script_due moment rows
+
+-- a script is printed
+abbrev pub is_printed_script : DumpAsked → Bool
+is_printed_script asked = is_none asked.target && is_plain asked.format
+
+-- once the catalogue is read: the schemas, or what is chosen
+unfoldable pub catalogue_due : DumpAsked → Moment → Tree → Catalogue → Result Plan Outcome
+catalogue_due asked moment tree cat = printed_due asked moment cat tree (whole_schemas asked cat)
+
+-- the folder's catalogue is read, and no data file
+unfoldable pub folder_due : DumpAsked → Moment → Tree → Result Plan Outcome
+folder_due asked moment tree = formed_of asked.folder tree >>= catalogue_due asked moment tree
+
+-- pg_dump: a script that is printed is what is built of it
 unfoldable pub dump_due : DumpAsked → Moment → Tree → Result Plan Outcome
-dump_due asked moment tree = if is_whole_script asked then whole_due asked.folder moment tree else Err (OutOfProfile Unbuilt)
+dump_due asked moment tree = if is_printed_script asked then folder_due asked moment tree else Err (OutOfProfile Unbuilt)
 
 -- once the first is read: the second folder
 unfoldable pub second_due : Exported → Bytes → Tree → Result Plan Outcome
@@ -249,20 +298,39 @@ answer_of_run plan = stop_answer (ending plan.stop plan.boot plan.statements (ex
 
 -- an answer with which all was carried out
 abbrev pub IsFinal : Outcome → Type 0
-IsFinal Done = Unit {0}
-IsFinal (ScriptStopped stop) = Unit {0}
-IsFinal answer = ⊥
+IsFinal ReadFault = ⊥
+IsFinal WriteFault = ⊥
+IsFinal Memory = ⊥
+IsFinal answer = Unit {0}
+
+-- the answer once a dump is printed, up to a row that fails
+abbrev pub dump_answer : Option BadRow → Outcome
+dump_answer None = Done
+dump_answer (Some bad) = bad_row_outcome bad
 
 -- the answer once a plan is carried out
 abbrev pub answer_of : Plan → Outcome
 answer_of (Applies plan) = Done
 answer_of (Runs plan) = answer_of_run plan
 answer_of (Prints text) = Done
+answer_of (Dumps dump) = dump_answer dump.bad
 answer_of (Compares a b) = Done
 
+-- pg_dump's line of an answer
+abbrev pub dump_line : Outcome → List ℕ
+dump_line answer = outcome_line (teller.Tool tool.PgDump) answer
+
+-- a dump was printed; where a row fails some first part of what stands before it, and its line was told
+abbrev pub printed_by : Bytes → Option BadRow → Option (List ℕ) → Option (List ℕ) → Option (List ℕ) → Option (List ℕ) → Type 0
+printed_by text None out_before out_after told_before told_after = Appends text out_before out_after × (told_after ≡ told_before)
+printed_by text (Some bad) out_before out_after told_before told_after = AppendsPart text out_before out_after × Appends (dump_line (bad_row_outcome bad)) told_before told_after
+
+abbrev pub IsPrinted : DumpText → Option (List ℕ) → Option (List ℕ) → Option (List ℕ) → Option (List ℕ) → Type 0
+IsPrinted dump out_before out_after told_before told_after = printed_by dump.text dump.bad out_before out_after told_before told_after
+
 -- What stands of the files, of standard output and of standard error once a plan is carried out: a script was applied and
--- its report was written to standard error, or a text was written to standard output, or two catalogues were the same,
--- and nothing else changed.
+-- its report was written to standard error, or a text or a dump was written to standard output, or two catalogues were the
+-- same, and nothing else changed.
 abbrev pub IsCarriedOut : Plan → Option Tree → Option Tree → Option (List ℕ) → Option (List ℕ) → Option (List ℕ) → Option (List ℕ) → Type 0
 IsCarriedOut (Applies plan) before after out_before out_after told_before told_after =
     Applied plan before after × (out_after ≡ out_before) × Appends (report_of plan) told_before told_after
@@ -270,6 +338,8 @@ IsCarriedOut (Runs plan) before after out_before out_after told_before told_afte
     Ran plan before after × (out_after ≡ out_before) × Appends (report_of_run plan) told_before told_after
 IsCarriedOut (Prints text) before after out_before out_after told_before told_after =
     (after ≡ before) × Appends text out_before out_after × (told_after ≡ told_before)
+IsCarriedOut (Dumps dump) before after out_before out_after told_before told_after =
+    (after ≡ before) × IsPrinted dump out_before out_after told_before told_after
 IsCarriedOut (Compares a b) before after out_before out_after told_before told_after =
     (a ≡ b) × (after ≡ before) × (out_after ≡ out_before) × (told_after ≡ told_before)
 

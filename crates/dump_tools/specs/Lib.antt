@@ -3,3 +3,4 @@ pub mod Inputs
 pub mod Outputs
 pub mod Runs
 pub mod Stays
+pub mod Works

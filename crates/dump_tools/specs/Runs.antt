@@ -15,7 +15,9 @@ use Rattle.tool_words.specs.Words.{teller_of, reads_input}
 use Rattle.tool_words.specs.Messages.{outcome_line}
 use Rattle.cat_model.specs.declared.words.What.TheVariants.{Unbuilt}
 use Rattle.saved_folders.specs.Folders.{Texts, files_of}
-use Rattle.dump_tools.specs.Due.{Application, Running, Plan, Applies, Runs, Prints, Compares, Comes, Leaves, report_of, report_of_run, answer_of_run, due}
+use Rattle.dump_plain.specs.Dumps.{BadRow}
+use Rattle.dump_plans.specs.Outcomes.{bad_row_outcome}
+use Rattle.dump_tools.specs.Due.{Application, Running, Plan, Applies, Runs, Prints, DumpText, Dumps, Compares, dump_line, Comes, Leaves, report_of, report_of_run, answer_of_run, due}
 use Rattle.dump_tools.specs.Inputs.{where_read, IsTaken, HasTaken}
 use Rattle.dump_tools.specs.Outputs.{World, Output, Writes, Tells, Takes, all_performed, IsPart, CutShort, stores}
 
@@ -56,6 +58,14 @@ IsUnmadeAnswer answer = ⊥
 abbrev pub MayBeRun : Teller → Running → Run → Type 0
 MayBeRun teller plan run = IsRan plan run ⊎ ((answer : Outcome) × IsUnmadeAnswer answer × (run ≡ told_run teller answer))
 
+-- A dump is printed; where a row fails some first part of what stands before it, and its line is told.
+abbrev pub dumped_by : Bytes → Option BadRow → Run → Type 0
+dumped_by text None run = run ≡ run_of (Writes text ∷ []) Done
+dumped_by text (Some bad) run = (front : Bytes) × (rest : Bytes) × (text ≡ front ++ rest) × (run ≡ run_of (Writes front ∷ Tells (dump_line (bad_row_outcome bad)) ∷ []) (bad_row_outcome bad))
+
+abbrev pub IsDumped : DumpText → Run → Type 0
+IsDumped dump run = dumped_by dump.text dump.bad run
+
 -- Two catalogues are compared: they are the same, or the least key at which they differ is told.
 abbrev pub IsCompared : Teller → Named → Named → Run → Type 0
 IsCompared teller a b run = ((a ≡ b) × (run ≡ run_of [] Done)) ⊎ ((key : Key) × IsLeastDifference a b key × (run ≡ told_run teller (Differs key)))
@@ -66,6 +76,7 @@ MayCome teller (Err refusal) run = run ≡ told_run teller refusal
 MayCome teller (Ok (Applies plan)) run = IsApplied plan run
 MayCome teller (Ok (Runs plan)) run = MayBeRun teller plan run
 MayCome teller (Ok (Prints text)) run = run ≡ run_of (Writes text ∷ []) Done
+MayCome teller (Ok (Dumps dump)) run = IsDumped dump run
 MayCome teller (Ok (Compares a b)) run = IsCompared teller a b run
 
 -- What comes first of a run: it takes the input that it reads, or nothing where it reads none.

@@ -2,7 +2,9 @@
 #![tactic(auto)]
 
 mod dumping;
+mod dumps;
 pub mod laws;
+mod printing;
 mod psql;
 mod scripts;
 mod tools;

@@ -11,23 +11,23 @@ ghost use Rattle.tool_words.specs.Words.{is_input, reads_input};
 ghost use Rattle.tool_words.specs.Messages.{outcome_line};
 ghost use Rattle.schema_folders.specs.Statements.{are_taken};
 ghost use Rattle.openings.specs.Openings.{export_named};
-ghost use Rattle.dump_tools.specs.Due.{IsFinal, Prints, whole_due, dump_due, second_due, compare_due, IsUnequal, due, IsAnswerDue, WasDue, counts, NoneRose, Counted, CountsStep};
+ghost use Rattle.dump_tools.specs.Due.{IsFinal, IsCarriedOut, answer_of, dump_due, second_due, compare_due, IsUnequal, due, IsAnswerDue, WasDue, counts, NoneRose, Counted, CountsStep};
 ghost use Rattle.dump_tools.specs.Inputs.{where_read, TellsLeft};
 ghost use Rattle.dump_tools.specs.Outputs.{world};
-ghost use Rattle.dump_tools.specs.Runs.{read_by, StepTakes, HasCut, Ended, Answered};
+ghost use Rattle.dump_tools.specs.Works.{plan_of_work, IsReady, IsFew};
+ghost use Rattle.dump_tools.specs.Runs.{IsEarly, read_by, StepTakes, HasCut, Ended, Answered};
 
-use crate::dumping::dump_text;
+use crate::dumps::{DumpWork, dump_work};
+use crate::printing::print_dump;
 use crate::psql::psql;
-use cat_model::{Key, What};
+use cat_model::Key;
 use cat_same::{Verdict, compare_maps};
 use copy_text::Text;
 use dump_ports::{Failed, Files, Gate, Moment, Sink, Source};
 use openings::{Opening, read_opening};
-use schema_folders::read_folder;
 use std::alloc::{AllocError, Global};
 use tool_words::{
-    Asked, Difference, DumpAsked, Outcome, Teller, is_whole_script, read_asked, tell, teller_of,
-    write_bytes,
+    Asked, Difference, DumpAsked, Outcome, Teller, read_asked, tell, teller_of, write_bytes,
 };
 
 /// Writes a report, or a script, to its stream, and gives the answer.
@@ -53,62 +53,50 @@ pub(crate) fn write_report<S: Sink>(
     }
 }
 
-/// Prints the script of a folder of schemas.
-fn pg_dump<F: Files, O: Sink>(
+/// Prints what is to be printed of a dump.
+fn print_work<F: Files, O: Sink, E: Sink>(
     alloc: Global,
     files: &mut F,
     out: &mut O,
-    asked: &DumpAsked,
+    err: &mut E,
+    work: &DumpWork,
     moment: Moment,
 ) -> Result<Outcome, Outcome>
+    requires { IsFew work.now }
     ensures ends { IfOk result IsFinal }
-    ensures done { IfOk result (λ answer. (tree : Tree) (told : Option (List ℕ)) → F.tree files.old ≡ Some tree → WasDue (dump_due asked.now moment tree) answer (F.tree files.old) (F.tree files.new) (O.written out.old) (O.written out.new) told told) }
-    ensures refused { IfErr result (λ outcome. (tree : Tree) → F.tree files.old ≡ Some tree → IsDue outcome (dump_due asked.now moment tree)) }
-    ensures kept { F.tree files.new ≡ F.tree files.old }
-    ensures quiet { IfErr result (λ outcome. IsRefusal outcome → O.written out.new ≡ O.written out.old) }
-    ensures cut { OnErr result ((teller : Teller) (tree : Tree) (left told : Option (List ℕ)) → F.tree files.old ≡ Some tree → HasCut None teller (dump_due asked.now moment tree) (world (F.tree files.old) left (O.written out.old) told) (world (F.tree files.new) left (O.written out.new) told)) }
-    ensures counted { (inputs lines : ℕ) → CountsStep result (counts (F.read_faults files.old) inputs (F.write_faults files.old) (O.faults out.old) lines) (counts (F.read_faults files.new) inputs (F.write_faults files.new) (O.faults out.new) lines) }
+    ensures early { IfErr result IsEarly }
+    ensures answers { (tree : Tree) → F.tree files.old ≡ Some tree → IsReady tree work.now → IfOk result (λ answer. answer ≡ answer_of (plan_of_work moment tree work.now)) }
+    ensures ok { (tree : Tree) → F.tree files.old ≡ Some tree → IsReady tree work.now → OnOk result (IsCarriedOut (plan_of_work moment tree work.now) (F.tree files.old) (F.tree files.new) (O.written out.old) (O.written out.new) (E.written err.old) (E.written err.new)) }
+    ensures silent { IfErr result (λ outcome. IsTold outcome → E.written err.new ≡ E.written err.old) }
+    ensures cut { (tree : Tree) → F.tree files.old ≡ Some tree → IsReady tree work.now → OnErr result ((teller : Teller) (left : Option (List ℕ)) → HasCut None teller (Ok (plan_of_work moment tree work.now)) (world (F.tree files.old) left (O.written out.old) (E.written err.old)) (world (F.tree files.new) left (O.written out.new) (E.written err.new))) }
+    ensures counted { (inputs : ℕ) → CountsStep result (counts (F.read_faults files.old) inputs (F.write_faults files.old) (O.faults out.old) (E.faults err.old)) (counts (F.read_faults files.new) inputs (F.write_faults files.new) (O.faults out.new) (E.faults err.new)) }
 {
-    let text = read_asked_dump(alloc, files, asked, moment)?;
-    write_report(out, &text, Outcome::Done)
-}
-
-/// What is to be printed of a dump that is asked for.
-#[tactic(auto, unfolding(crate::specs::Due::dump_due))]
-fn read_asked_dump<F: Files>(
-    alloc: Global,
-    files: &mut F,
-    asked: &DumpAsked,
-    moment: Moment,
-) -> Result<Vec<u8>, Outcome>
-    ensures due { (tree : Tree) → F.tree files.old ≡ Some tree → Gives (λ text. Prints text.items) result (dump_due asked.now moment tree) }
-    ensures kept { F.tree files.new ≡ F.tree files.old }
-    ensures read_count { CountsRead result (F.read_faults files.old) (F.read_faults files.new) }
-    ensures write_count { F.write_faults files.new ≡ F.write_faults files.old }
-{
-    if is_whole_script(asked) {
-        read_dump(alloc, files, &asked.folder, moment)
-    } else {
-        Err(Outcome::OutOfProfile(What::Unbuilt))
+    match work {
+        DumpWork::Script(text) => write_report(out, text, Outcome::Done),
+        DumpWork::Rows(plan, owners) => print_dump(alloc, files, out, err, plan, *owners, moment),
     }
 }
 
-/// Reads a folder of schemas, and gives its script.
-#[tactic(auto, unfolding(crate::specs::Due::whole_due))]
-fn read_dump<F: Files>(
+/// Prints the dump of a folder.
+fn pg_dump<F: Files, O: Sink, E: Sink>(
     alloc: Global,
     files: &mut F,
-    folder: &Text,
+    out: &mut O,
+    err: &mut E,
+    asked: DumpAsked,
     moment: Moment,
-) -> Result<Vec<u8>, Outcome>
-    ensures due { (tree : Tree) → F.tree files.old ≡ Some tree → Gives (λ text. Prints text.items) result (whole_due folder.now moment tree) }
-    ensures kept { F.tree files.new ≡ F.tree files.old }
-    ensures read_count { CountsRead result (F.read_faults files.old) (F.read_faults files.new) }
-    ensures write_count { F.write_faults files.new ≡ F.write_faults files.old }
+) -> Result<Outcome, Outcome>
+    ensures ends { IfOk result IsFinal }
+    ensures done { IfOk result (λ answer. (tree : Tree) → F.tree files.old ≡ Some tree → WasDue (dump_due asked moment tree) answer (F.tree files.old) (F.tree files.new) (O.written out.old) (O.written out.new) (E.written err.old) (E.written err.new)) }
+    ensures refused { IfErr result (λ outcome. (tree : Tree) → F.tree files.old ≡ Some tree → IsDue outcome (dump_due asked moment tree)) }
+    ensures kept { IfErr result (λ outcome. (IsEarly outcome → ⊥) → F.tree files.new ≡ F.tree files.old) }
+    ensures quiet { IfErr result (λ outcome. (IsEarly outcome → ⊥) → O.written out.new ≡ O.written out.old) }
+    ensures silent { IfErr result (λ outcome. IsTold outcome → E.written err.new ≡ E.written err.old) }
+    ensures cut { OnErr result ((teller : Teller) (tree : Tree) (left : Option (List ℕ)) → F.tree files.old ≡ Some tree → HasCut None teller (dump_due asked moment tree) (world (F.tree files.old) left (O.written out.old) (E.written err.old)) (world (F.tree files.new) left (O.written out.new) (E.written err.new))) }
+    ensures counted { (inputs : ℕ) → CountsStep result (counts (F.read_faults files.old) inputs (F.write_faults files.old) (O.faults out.old) (E.faults err.old)) (counts (F.read_faults files.new) inputs (F.write_faults files.new) (O.faults out.new) (E.faults err.new)) }
 {
-    let schemas = read_folder(alloc, files, folder)?;
-    let text = dump_text(alloc, schemas, moment)?;
-    Ok(text)
+    let work = dump_work(alloc, files, asked, moment)?;
+    print_work(alloc, files, out, err, &work, moment)
 }
 
 /// Compares what two folders stand for by names, with the rows of their tables.
@@ -204,8 +192,8 @@ fn perform<F: Files, I: Source, O: Sink, E: Sink>(
     ensures ends { IfOk result IsFinal }
     ensures done { IfOk result (λ answer. (tree : Tree) (bytes : Bytes) → F.tree files.old ≡ Some tree → TellsLeft (reads_input words.now) (I.left input.old) bytes → WasDue (due words.now moment tree bytes) answer (F.tree files.old) (F.tree files.new) (O.written out.old) (O.written out.new) (E.written err.old) (E.written err.new)) }
     ensures refused { IfErr result (λ outcome. (tree : Tree) (bytes : Bytes) → F.tree files.old ≡ Some tree → TellsLeft (reads_input words.now) (I.left input.old) bytes → IsAnswerDue outcome (due words.now moment tree bytes)) }
-    ensures kept { IfErr result (λ outcome. IsRefusal outcome → F.tree files.new ≡ F.tree files.old) }
-    ensures quiet { IfErr result (λ outcome. IsRefusal outcome → O.written out.new ≡ O.written out.old) }
+    ensures kept { IfErr result (λ outcome. IsRefusal outcome → (IsEarly outcome → ⊥) → F.tree files.new ≡ F.tree files.old) }
+    ensures quiet { IfErr result (λ outcome. (IsEarly outcome → ⊥) → O.written out.new ≡ O.written out.old) }
     ensures unread { reads_input words.now ≡ false → input.new ≡ input.old }
     ensures taken { (bytes : Bytes) → TellsLeft (reads_input words.now) (I.left input.old) bytes → StepTakes result (read_by words.now bytes) (I.left input.old) (I.left input.new) }
     ensures cut { OnErr result ((teller : Teller) (tree : Tree) (bytes : Bytes) → F.tree files.old ≡ Some tree → TellsLeft (reads_input words.now) (I.left input.old) bytes → HasCut (read_by words.now bytes) teller (due words.now moment tree bytes) (world (F.tree files.old) (I.left input.old) (O.written out.old) (E.written err.old)) (world (F.tree files.new) (I.left input.new) (O.written out.new) (E.written err.new))) }
@@ -213,14 +201,14 @@ fn perform<F: Files, I: Source, O: Sink, E: Sink>(
     ensures counted { CountsStep result (counts (F.read_faults files.old) (I.faults input.old) (F.write_faults files.old) (O.faults out.old) (E.faults err.old)) (counts (F.read_faults files.new) (I.faults input.new) (F.write_faults files.new) (O.faults out.new) (E.faults err.new)) }
 {
     let asked = read_asked(alloc, words)?;
-    match &asked {
+    match asked {
         Asked::Psql {
             folder,
             script,
             stop,
-        } => psql(alloc, files, input, err, folder, script, *stop),
-        Asked::Dump(asked) => pg_dump(alloc, files, out, asked, moment),
-        Asked::Compare { first, second } => pg_catcmp(alloc, files, first, second),
+        } => psql(alloc, files, input, err, &folder, &script, stop),
+        Asked::Dump(asked) => pg_dump(alloc, files, out, err, asked, moment),
+        Asked::Compare { first, second } => pg_catcmp(alloc, files, &first, &second),
     }
 }
 

@@ -54,7 +54,7 @@ Usage: pgtools pg_dump [OPTION]... [FOLDER]
       --strict-names    each pattern has to hit
   -Z, --compress=0|none
 
-Built so far: the script of a whole folder of schemas, to standard output.
+Built so far: scripts, to standard output.
 ";
 
 const PG_RESTORE: &str = "pg_restore restores an archive into a folder, or shows it

@@ -9,3 +9,4 @@ pub mod ToolTrips
 pub mod Unified
 pub mod Bare
 pub mod Again
+mod Dumped

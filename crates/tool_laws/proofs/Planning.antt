@@ -1,5 +1,5 @@
 -- What psql has to do where a folder's only objects are schemas and the statements are all of schemas.
-use Rattle.std.proofs.Common.{◌≡◌, ℕ, Bool, true, false, cond, List, Option, Some, None, Result, Ok, Err, refl, sym, ap, subst, ◌∙◌}
+use Rattle.std.proofs.Common.{◌≡◌, ℕ, Bool, true, false, cond, not, ◌&&◌, List, Option, Some, None, Result, Ok, Err, refl, sym, ap, subst, ◌∙◌}
 use Rattle.std.specs.Result.{result_ok}
 use Rattle.dump_ports.specs.Tree.{Tree}
 use Rattle.cat_rows.specs.declared.catalogue.Catalogue.{Catalogue}

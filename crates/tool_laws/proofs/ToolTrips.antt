@@ -1,5 +1,5 @@
 -- What pg_dump prints of a folder, applied by psql to a fresh one.
-use Rattle.std.proofs.Common.{◌≡◌, ℕ, List, [], ◌++◌, length, drop, map, Option, Some, None, option_map, Result, Ok, Err, refl, sym, ap, subst, ◌∙◌}
+use Rattle.std.proofs.Common.{◌≡◌, ℕ, false, List, [], ◌++◌, length, drop, map, Option, Some, None, option_map, Result, Ok, Err, refl, sym, ap, subst, ◌∙◌}
 use Rattle.dump_ports.specs.Tree.{Tree}
 use Rattle.dump_ports.specs.declared.moment.Moment.{Moment}
 use Rattle.toc_entry.specs.declared.entry.Entry.{Entry}
@@ -12,7 +12,8 @@ use Rattle.tool_words.specs.declared.words.ScriptSource.{ScriptSource}
 use Rattle.tool_words.specs.Words.{is_input}
 use Rattle.tool_words.specs.declared.outcome.Outcome.{Outcome}
 use Rattle.tool_words.specs.Answers.{◌>>=◌}
-use Rattle.dump_tools.specs.Due.{Plan, Application, Applies, Prints, source_of, counted, script_due, whole_due, psql_due, database, dump_row, report_of}
+use Rattle.dump_tools.specs.Due.{Plan, Application, Applies, Prints, source_of, psql_due, database, dump_row, report_of}
+use Rattle.tool_laws.proofs.Dumped.{dumped}
 use Rattle.dump_tools.specs.Inputs.{where_read, HasTaken}
 use Rattle.dump_tools.specs.Outputs.{World, world, Output, all_performed}
 use Rattle.dump_tools.specs.Runs.{Run, run_of, IsApplied, MayCome, Begins, MayRun}
@@ -32,19 +33,9 @@ use Rattle.tool_laws.proofs.Planning.{planned}
 abbrev pub ScriptLaw : Type 0
 ScriptLaw = (moment : Moment) (rows : List SchemaRow) → CanBeMade rows → Remakes (dumped_script database boot moment (map dump_row rows)) rows
 
-printed : (script text : Bytes) (toc : Result (List Entry) ℕ) → counted script toc ≡ Ok (Prints text) → script ≡ text
-printed script text (Ok entries) e = cc
-printed script text (Err n) e = absurd cc
-
-dumped : (source : Bytes) (moment : Moment) (first : Tree) (rows : List SchemaRow) (text : Bytes) → opening_of source first ≡ Ok rows → whole_due source moment first ≡ Ok (Prints text) → dumped_script database boot moment (map dump_row rows) ≡ text
-unfolding whole_due
-dumped source moment first rows text opened e =
-    printed (dumped_script database boot moment (map dump_row rows)) text (toc_due database boot (map dump_row rows))
-    (ap (λ (r : Result (List SchemaRow) Outcome). r >>= script_due moment) (sym opened) ∙ e)
-
 remakes : ScriptLaw → (source : Bytes) (moment : Moment) (first : Tree) (rows : List SchemaRow) (target : Bytes) (script : ScriptSource) (second : Tree) (input : Bytes) → WereRead rows → (back : GoesBack source moment first rows target script second input) → Remakes back.text rows
 remakes law source moment first rows target script second input read back =
-    subst (λ (text : Bytes). Remakes text rows) (dumped source moment first rows back.text back.opened back.dumped)
+    subst (λ (text : Bytes). Remakes text rows) (dumped back.asked moment first rows back.text (subst (λ (folder : Bytes). opening_of folder first ≡ Ok rows) (sym back.of_source) back.opened) back.dumped)
     (law moment rows (record { names = read.named; distinct = read.schemas.names; users = read.schemas.users }))
 
 pub makes_same : ScriptLaw → OpenLaw → (source : Bytes) (moment : Moment) (first : Tree) (rows : List SchemaRow) (target : Bytes) (script : ScriptSource) (second : Tree) (input : Bytes) → GoesBack source moment first rows target script second input → MakesSame (psql_due target script false second input) rows

@@ -1,5 +1,5 @@
 -- What a script leaves: the schemas that were there and those that were made, in a folder that is an export.
-use Rattle.std.proofs.Common.{◌≡◌, ℕ, false, refl, ◌≤◌, List, [], ◌∷◌, ◌++◌, map, Ok, Result, subst, ap, ◌∙◌, arith}
+use Rattle.std.proofs.Common.{◌≡◌, ℕ, Bool, false, refl, ◌≤◌, List, [], ◌∷◌, ◌++◌, map, Ok, Result, subst, ap, ◌∙◌, arith}
 use Rattle.std.specs.FinMap.{nat_cmp-IsAntisymmetric}
 use Rattle.std.specs.declared.cmp.Ordering.{Ordering}
 use Rattle.std.specs.declared.cmp.Ordering.TheVariants.{Less, Equal, Greater}

@@ -14,9 +14,10 @@ use Rattle.schema_folders.specs.declared.schemas.SchemaRow.{SchemaRow}
 use Rattle.ddl_read.specs.declared.located.Located.{Located}
 use Rattle.tool_words.specs.declared.words.ScriptSource.{ScriptSource}
 use Rattle.tool_words.specs.declared.outcome.Outcome.{Outcome}
+use Rattle.tool_words.specs.declared.words.DumpAsked.{DumpAsked}
 use Rattle.tool_words.specs.Lines.{Appends}
 use Rattle.dump_tools.specs.Outputs.{World}
-use Rattle.dump_tools.specs.Due.{Plan, Application, Applies, Prints, source_of, whole_due}
+use Rattle.dump_tools.specs.Due.{Plan, Application, Applies, Prints, source_of, dump_due}
 use Rattle.dump_tools.specs.Inputs.{HasTaken}
 use Rattle.schema_folders.specs.Folder.{has_public, opening_of, schemas_alone, Holds}
 use Rattle.schema_folders.specs.Naming.{boot, named}
@@ -55,12 +56,14 @@ pub record Remakes (text : Bytes) (rows : List SchemaRow) : Type 0 where
 abbrev pub public_alone : ℕ → List SchemaRow
 public_alone oid = record { oid = oid; name = codes "public" } ∷ []
 
--- A dump and its way back. The folder source holds these rows. pg_dump prints the text, which is the script that psql is
+-- A dump and its way back. The folder source holds these rows. pg_dump of it prints the text, which is the script that psql is
 -- to apply, from a file or from standard input, to the folder target, whose one schema is public.
 pub record GoesBack (source : Bytes) (moment : Moment) (first : Tree) (rows : List SchemaRow) (target : Bytes) (script : ScriptSource) (second : Tree) (input : Bytes) : Type 0 where
   pub opened : opening_of source first ≡ Ok rows
+  pub asked : DumpAsked
+  pub of_source : asked.folder ≡ source
   pub text : Bytes
-  pub dumped : whole_due source moment first ≡ Ok (Prints text)
+  pub dumped : dump_due asked moment first ≡ Ok (Prints text)
   pub passed : source_of script second input ≡ Ok text
   pub oid : ℕ
   pub fresh : opening_of target second ≡ Ok (public_alone oid)

@@ -25,11 +25,13 @@ fn of_bytes(
     out: &mut Vec<u8>,
 ) -> Result<(), AllocError> {
     match block.kind {
+        Kind::List => list_cases::answer(alloc, text, out),
         Kind::Words => word_cases::words(alloc, text, out),
         Kind::Pattern => word_cases::pattern(alloc, text, out),
         Kind::Psql => tools::psql(alloc, &block.base, text, out),
         Kind::PgDump => tools::pg_dump(alloc, &block.base, text, out),
         Kind::Select => selecting::with_options(alloc, &block.base, text, out),
+        Kind::Dump => selecting::dump(alloc, &block.base, text, out),
         Kind::Script(shown) => running::script(alloc, &block.base, text, shown, out),
         _ => out.extend_from_slice(b"?"),
     }

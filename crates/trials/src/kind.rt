@@ -12,6 +12,8 @@ pub(crate) enum Kind {
     Text(TextKind),
     /// An archive, or a part of one.
     Archive(ArchiveKind),
+    /// An archive: the lists and scripts of its entries.
+    List,
     /// Words of a command line.
     Words,
     /// A pattern.
@@ -26,6 +28,8 @@ pub(crate) enum Kind {
     Named,
     /// Options of a dump: the objects that it chooses, in order.
     Select,
+    /// A word and the options of a dump: its entries, the list of them, or its script.
+    Dump,
     /// A script: what the engine makes of it.
     Script(Shown),
     /// A script: what psql answers and writes.
@@ -80,12 +84,14 @@ fn other_of(name: &str) -> Kind {
     match name {
         "archive" => Kind::Archive(ArchiveKind::Archive),
         "entry" => Kind::Archive(ArchiveKind::Entry),
+        "list" => Kind::List,
         "words" => Kind::Words,
         "pattern" => Kind::Pattern,
         "change" => Kind::Change,
         "same" => Kind::Same,
         "named" => Kind::Named,
         "select" => Kind::Select,
+        "dump" => Kind::Dump,
         "psql" => Kind::Psql,
         "pg_dump" => Kind::PgDump,
         "pg_catcmp" => Kind::PgCatcmp,

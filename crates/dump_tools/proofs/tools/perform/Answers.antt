@@ -30,19 +30,19 @@ returns-in-Psql-clause-cut g c =
     (cut teller tree bytes (g.O.Sink.written c.args.out.now) known (subst (λ b. TellsLeft b (g.I.Source.left c.args.input.now) bytes) reads tells)))
     c.psql.ensures.cut
 
--- pg_dump tells nothing
+-- pg_dump takes nothing off standard input
 pub returns-in-Dump-clause-cut : goal.returns-in-Dump-clause-cut
 returns-in-Dump-clause-cut g c =
     let reads = reads_asked c.args.words.now c.in_ok-asked.asked c.in_ok-asked.ensures.due ∙ ap asks_for_input c.in-Dump.is in
     on_err_weaker c.pg_dump.result (λ cut teller tree bytes known tells.
     cut_due teller _ _ _ _ _ _ (ap (λ b. where_read b bytes) reads)
     (due_asked c.args.words.now c.args.moment tree bytes c.in_ok-asked.asked c.in_ok-asked.ensures.due ∙ ap (λ (asked : Asked). asked_due asked c.args.moment tree bytes) c.in-Dump.is)
-    (cut teller tree (g.I.Source.left c.args.input.now) (g.E.Sink.written c.args.err.now) known))
+    (cut teller tree (g.I.Source.left c.args.input.now) known))
     c.pg_dump.ensures.cut
 
 -- pg_catcmp puts out nothing
-pub returns-clause-cut : goal.returns-clause-cut
-returns-clause-cut g c =
+pub returns-in-Compare-clause-cut : goal.returns-in-Compare-clause-cut
+returns-in-Compare-clause-cut g c =
     let reads = reads_asked c.args.words.now c.in_ok-asked.asked c.in_ok-asked.ensures.due ∙ ap asks_for_input c.in-Compare.is in
     always_err c.pg_catcmp.result (λ teller tree bytes known tells.
     cut_due teller _ None _ _ _ _ (ap (λ b. where_read b bytes) reads) refl (cut_kept teller _ _ _ _ _ _ c.pg_catcmp.ensures.kept))

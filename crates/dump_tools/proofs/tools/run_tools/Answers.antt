@@ -4,7 +4,7 @@ use Rattle.tool_words.specs.Words.{teller_of}
 use Rattle.dump_tools.specs.Due.{due}
 use Rattle.dump_tools.proofs.Counting.{counted_told, counted_untold, lines_risen}
 use Rattle.dump_tools.proofs.Refusing.{due_never}
-use Rattle.dump_tools.proofs.Putting.{ended}
+use Rattle.dump_tools.proofs.Carried.{ended}
 use Rattle.dump_tools.proofs.Taking.{begun, behind_ended}
 use Rattle.dump_tools.proofs.Telling.{as_answered, not_early, counted_final, told_answer, untold_answer, refuses, completed}
 use Rattle.dump_tools.proofs.tools.run_tools.Goals as goal
@@ -36,7 +36,7 @@ returns-in-Ok-tell_outcome-clause-answered g c = λ tree bytes known tells.
     rw c.in-Ok-tell_outcome.ensures.same (told_answer c.in-Err.outcome c.args.words.now c.args.moment tree bytes _ _ _ _ _ _ _ _
     (due_never c.args.words.now c.args.moment tree bytes) (c.in-Err.ensures.refused tree bytes known tells)
     (λ late. let is = refuses (due c.args.words.now c.args.moment tree bytes) c.in-Err.outcome (due_never c.args.words.now c.args.moment tree bytes) (c.in-Err.ensures.refused tree bytes known tells) late in
-    begun _ _ _ _ _ _ _ _ _ (c.in-Err.ensures.taken bytes tells late) (c.in-Err.ensures.kept is.0) (c.in-Err.ensures.quiet is.0) (c.in-Err.ensures.silent is.1))
+    begun _ _ _ _ _ _ _ _ _ (c.in-Err.ensures.taken bytes tells late) (c.in-Err.ensures.kept is.0 late) (c.in-Err.ensures.quiet late) (c.in-Err.ensures.silent is.1))
     (c.in-Err.ensures.cut (teller_of c.args.words.now) tree bytes known tells)
     (rw (c.teller_of-teller.ensures) at c.in-Ok-tell_outcome.ensures.ok))
 
@@ -47,7 +47,7 @@ returns-in-Ok-tell_outcome-clause-complete g c = λ tree bytes known tells none.
     (told_answer c.in-Err.outcome c.args.words.now c.args.moment tree bytes _ _ _ _ _ _ _ _
     (due_never c.args.words.now c.args.moment tree bytes) (c.in-Err.ensures.refused tree bytes known tells)
     (λ late. let is = refuses (due c.args.words.now c.args.moment tree bytes) c.in-Err.outcome (due_never c.args.words.now c.args.moment tree bytes) (c.in-Err.ensures.refused tree bytes known tells) late in
-    begun _ _ _ _ _ _ _ _ _ (c.in-Err.ensures.taken bytes tells late) (c.in-Err.ensures.kept is.0) (c.in-Err.ensures.quiet is.0) (c.in-Err.ensures.silent is.1))
+    begun _ _ _ _ _ _ _ _ _ (c.in-Err.ensures.taken bytes tells late) (c.in-Err.ensures.kept is.0 late) (c.in-Err.ensures.quiet late) (c.in-Err.ensures.silent is.1))
     (c.in-Err.ensures.cut (teller_of c.args.words.now) tree bytes known tells)
     (rw (c.teller_of-teller.ensures) at c.in-Ok-tell_outcome.ensures.ok)))
 
@@ -60,7 +60,7 @@ returns-in-Err-tell_outcome-clause-answered g c = λ tree bytes known tells.
     untold_answer c.in-Err.outcome c.args.words.now c.args.moment tree bytes _ _ _ _ _ _ _ _
     (due_never c.args.words.now c.args.moment tree bytes) (c.in-Err.ensures.refused tree bytes known tells)
     (λ late. let is = refuses (due c.args.words.now c.args.moment tree bytes) c.in-Err.outcome (due_never c.args.words.now c.args.moment tree bytes) (c.in-Err.ensures.refused tree bytes known tells) late in
-    begun _ _ _ _ _ _ _ _ _ (c.in-Err.ensures.taken bytes tells late) (c.in-Err.ensures.kept is.0) (c.in-Err.ensures.quiet is.0) (c.in-Err.ensures.silent is.1))
+    begun _ _ _ _ _ _ _ _ _ (c.in-Err.ensures.taken bytes tells late) (c.in-Err.ensures.kept is.0 late) (c.in-Err.ensures.quiet late) (c.in-Err.ensures.silent is.1))
     (c.in-Err.ensures.cut (teller_of c.args.words.now) tree bytes known tells)
     (rw (c.teller_of-teller.ensures) at c.in-Err-tell_outcome.ensures.err)
     (lines_risen c.in-Err.outcome _ _ _ _ _ _ _ c.in-Err.ensures.counted c.in-Err-tell_outcome.ensures.count)
@@ -72,7 +72,7 @@ returns-in-Err-tell_outcome-clause-complete g c = λ tree bytes known tells none
     (untold_answer c.in-Err.outcome c.args.words.now c.args.moment tree bytes _ _ _ _ _ _ _ _
     (due_never c.args.words.now c.args.moment tree bytes) (c.in-Err.ensures.refused tree bytes known tells)
     (λ late. let is = refuses (due c.args.words.now c.args.moment tree bytes) c.in-Err.outcome (due_never c.args.words.now c.args.moment tree bytes) (c.in-Err.ensures.refused tree bytes known tells) late in
-    begun _ _ _ _ _ _ _ _ _ (c.in-Err.ensures.taken bytes tells late) (c.in-Err.ensures.kept is.0) (c.in-Err.ensures.quiet is.0) (c.in-Err.ensures.silent is.1))
+    begun _ _ _ _ _ _ _ _ _ (c.in-Err.ensures.taken bytes tells late) (c.in-Err.ensures.kept is.0 late) (c.in-Err.ensures.quiet late) (c.in-Err.ensures.silent is.1))
     (c.in-Err.ensures.cut (teller_of c.args.words.now) tree bytes known tells)
     (rw (c.teller_of-teller.ensures) at c.in-Err-tell_outcome.ensures.err)
     (lines_risen c.in-Err.outcome _ _ _ _ _ _ _ c.in-Err.ensures.counted c.in-Err-tell_outcome.ensures.count))
