@@ -9,3 +9,4 @@ pub mod Taking
 pub mod Scripting
 mod Carried
 mod Printed
+pub mod CutOff

@@ -10,7 +10,7 @@ ghost use Rattle.tool_words.specs.Lines.{Appends, AppendsPart};
 ghost use Rattle.tool_words.specs.Words.{is_input, reads_input};
 ghost use Rattle.tool_words.specs.Messages.{outcome_line};
 ghost use Rattle.schema_folders.specs.Statements.{are_taken};
-ghost use Rattle.openings.specs.Openings.{export_named};
+ghost use Rattle.openings.specs.Openings.{export_named, opened_folder};
 ghost use Rattle.dump_tools.specs.Due.{IsFinal, IsCarriedOut, answer_of, dump_due, second_due, compare_due, IsUnequal, due, IsAnswerDue, WasDue, counts, NoneRose, Counted, CountsStep};
 ghost use Rattle.dump_tools.specs.Inputs.{where_read, TellsLeft};
 ghost use Rattle.dump_tools.specs.Outputs.{world};
@@ -25,6 +25,7 @@ use cat_same::{Verdict, compare_maps};
 use copy_text::Text;
 use dump_ports::{Failed, Files, Gate, Moment, Sink, Source};
 use openings::{Opening, read_opening};
+use same_folders::opens_alike;
 use std::alloc::{AllocError, Global};
 use tool_words::{
     Asked, Difference, DumpAsked, Outcome, Teller, read_asked, tell, teller_of, write_bytes,
@@ -115,7 +116,30 @@ fn pg_catcmp<F: Files>(
     ensures write_count { F.write_faults files.new ≡ F.write_faults files.old }
 {
     let one = read_opening(alloc, files, first)?;
-    compare_second(alloc, files, &one, second)
+    compare_with(alloc, files, first, &one, second)
+}
+
+/// Compares the second folder with what was read of the first. Where both hold the same texts nothing is read of the second
+/// but these, and they are the same.
+#[tactic(auto, unfolding(crate::specs::Due::second_due))]
+fn compare_with<F: Files>(
+    alloc: Global,
+    files: &mut F,
+    first: &Text,
+    one: &Opening,
+    second: &Text,
+) -> Result<Outcome, Outcome>
+    ensures ends { IfOk result IsFinal }
+    ensures done { IfOk result (λ answer. (tree : Tree) (printed told : Option (List ℕ)) → F.tree files.old ≡ Some tree → opened_folder first.now tree ≡ Ok one.now → WasDue (second_due one.now second.now tree) answer (F.tree files.old) (F.tree files.new) printed printed told told) }
+    ensures refused { IfErr result (λ outcome. (tree : Tree) → F.tree files.old ≡ Some tree → IsAnswerDue outcome (second_due one.now second.now tree)) }
+    ensures kept { F.tree files.new ≡ F.tree files.old }
+    ensures read_count { CountsRead result (F.read_faults files.old) (F.read_faults files.new) }
+    ensures write_count { F.write_faults files.new ≡ F.write_faults files.old }
+{
+    if opens_alike(alloc, files, first, one, second)? {
+        return Ok(Outcome::Done);
+    }
+    compare_second(alloc, files, one, second)
 }
 
 /// Reads the second folder and compares it with what was read of the first.
