@@ -1,2 +1,4 @@
 pub mod KeySteps
 pub mod FieldSteps
+pub mod CopiedLines
+pub mod LineKeys

@@ -18,6 +18,11 @@ abbrev pub FieldFits : Bool → Column → Option Bytes → Type 0
 FieldFits required column (Some text) = takes column.resolved text ≡ true
 FieldFits required column None = required ≡ false
 
+-- the line is a row
+pub record LineReads (line : Bytes) : Type 0 where
+  pub row : Row
+  pub reads : row_of line ≡ Ok row
+
 -- the line is a row with a field for each column, which takes it
 pub record LineFits (columns : List Column) (primary : List Bytes) (line : Bytes) : Type 0 where
   pub row : Row

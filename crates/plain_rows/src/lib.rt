@@ -6,6 +6,7 @@
 
 mod fitting;
 mod keys;
+pub mod laws;
 
 pub use fitting::rows_fit;
 pub use keys::{key_set, keys_are_among, keys_differ};
