@@ -1,5 +1,5 @@
 #!/usr/bin/env python3
-"""Measures psql and pg_catcmp on some 200 MB of rows, beside cp -r and cmp of the same files.
+"""Measures psql, pg_catcmp and pg_dump on some 200 MB of rows, beside cp -r and cmp of the same files.
 
     docs/measure.py PROGRAM FOLDER
 
@@ -37,13 +37,15 @@ def size(folder):
     return sum(os.path.getsize(os.path.join(at, f)) for at, _, fs in os.walk(folder) for f in fs)
 
 
-def run(label, words, prepare=None):
+def run(label, words, prepare=None, out=None):
     for _ in range(3):
         if prepare:
             prepare()
         pid = os.fork()
         start = time.time()
         if pid == 0:
+            if out:
+                os.dup2(os.open(out, os.O_WRONLY | os.O_CREAT | os.O_TRUNC), 1)
             os.execvp(words[0], words)
         _, status, usage = os.wait4(pid, 0)
         spent = usage.ru_utime + usage.ru_stime
@@ -68,6 +70,7 @@ def main(program, folder):
     print(f"folder: {size(at['made'])} bytes")
     run("cp -r", ["cp", "-r", at["made"], at["copy"]], lambda: fresh("copy"))
     run("pg_catcmp", [program, "pg_catcmp", at["made"], at["copy"]])
+    run("pg_dump", [program, "pg_dump", at["made"]], None, os.path.join(folder, "dump.sql"))
     run("cmp", ["sh", "-c", f"for f in {at['made']}/data/*; do cmp $f {at['copy']}/data/$(basename $f); done"])
 
 
