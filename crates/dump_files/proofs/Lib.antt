@@ -6,3 +6,4 @@ pub mod CutLemmas
 pub mod OutletLemmas
 pub mod RowsLemmas
 pub mod LawLemmas
+pub mod OwnLemmas

@@ -4,3 +4,4 @@ pub mod Stops
 pub mod Needed
 pub mod Outlets
 pub mod Examples
+pub mod Own

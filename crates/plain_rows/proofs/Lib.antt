@@ -2,3 +2,4 @@ pub mod KeySteps
 pub mod FieldSteps
 pub mod CopiedLines
 pub mod LineKeys
+pub mod Rising

@@ -1,7 +1,11 @@
 -- Lines of a text as rows of a table, and their keys in one column.
-use Rattle.std.specs.Prelude.{◌≡◌, ℕ, Bool, true, false, not, ◌&&◌, List, [], ◌∷◌, length, map, Option, Some, None, Result, Ok, Err}
+use Rattle.std.specs.Prelude.{◌≡◌, ◌⊎◌, ℕ, Bool, true, false, not, ◌&&◌, List, [], ◌∷◌, length, map, Option, Some, None, Result, Ok, Err}
 use Rattle.std.specs.List.{list_any}
 use Rattle.std.specs.Borrow.{Bor}
+use Rattle.std.specs.declared.cmp.Ordering.{Ordering}
+use Rattle.std.specs.declared.cmp.Ordering.TheVariants.{Less}
+use Rattle.std.specs.Ordering.{nat_cmp}
+use Rattle.std.specs.Cmp.Lexicographic.{slice_cmp}
 use Rattle.std.specs.HashSet.{HashSet, contains_by}
 use Rattle.copy_text.specs.declared.fault.CopyFault.{CopyFault}
 use Rattle.copy_text.specs.Lines.{data_lines}
@@ -17,11 +21,6 @@ use Rattle.row_keys.specs.ByPlaces.{field_at}
 abbrev pub FieldFits : Bool → Column → Option Bytes → Type 0
 FieldFits required column (Some text) = takes column.resolved text ≡ true
 FieldFits required column None = required ≡ false
-
--- the line is a row
-pub record LineReads (line : Bytes) : Type 0 where
-  pub row : Row
-  pub reads : row_of line ≡ Ok row
 
 -- the line is a row with a field for each column, which takes it
 pub record LineFits (columns : List Column) (primary : List Bytes) (line : Bytes) : Type 0 where
@@ -61,3 +60,14 @@ abbrev pub all_among : List (Option Bytes) → List (Option Bytes) → Bool
 all_among parents [] = true
 all_among parents (None ∷ more) = all_among parents more
 all_among parents (Some key ∷ more) = list_any (same_some key) parents && all_among parents more
+
+-- ---- keys that rise
+
+-- a shorter key comes first, and of two as long the lesser
+abbrev pub by_length : Bytes → Bytes → Ordering
+by_length a b = slice_cmp nat_cmp (length a ∷ a) (length b ∷ b)
+
+-- each of these keys is the last one or comes before it; where there is no last one there is none
+abbrev pub AreUpTo : Option (Bor (List ℕ)) → List Bytes → Type 0
+AreUpTo None known = (key : Bytes) → list_any (same_text key) known ≡ false
+AreUpTo (Some last) known = (key : Bytes) → list_any (same_text key) known ≡ true → (key ≡ last.now) ⊎ (by_length key last.now ≡ Less)

@@ -6,12 +6,14 @@ ghost use Rattle.copy_text.specs.Reading.{row_of};
 ghost use Rattle.cat_model.specs.Lexemes.{same_text};
 ghost use Rattle.field_values.specs.Labels.{AreLabels};
 ghost use Rattle.row_keys.specs.ByPlaces.{field_at};
-ghost use Rattle.plain_rows.specs.Lines.{line_key, line_keys, none_again, same_some, AreAmong, all_among};
+ghost use Rattle.std.specs.declared.cmp.Ordering.TheVariants.{Less};
+ghost use Rattle.plain_rows.specs.Lines.{line_key, line_keys, none_again, same_some, AreAmong, all_among, by_length, AreUpTo};
 
 use data_rows::split_line;
 use field_values::{ColumnValues, TableColumns};
 use row_fields::PlainRow;
 use std::alloc::{AllocError, Global};
+use std::cmp::Ordering;
 use std::collections::HashSet;
 
 fn column_at<'c, 'a>(columns: &'c [ColumnValues<'a>], place: usize) -> Option<&'c ColumnValues<'a>>
@@ -81,6 +83,76 @@ pub fn keys_differ(
             return Ok(false);
         };
         if !add_new(&mut seen, key)? {
+            return Ok(false);
+        }
+        rest = behind;
+    }
+    Ok(true)
+}
+
+// How two keys stand by their lengths, and of one length by their bytes.
+fn by_length(a: &[u8], b: &[u8]) -> Ordering
+    ensures { result ≡ by_length a.now b.now }
+{
+    match a.len().cmp(&b.len()) {
+        Ordering::Equal => a.cmp(b),
+        order => order,
+    }
+}
+
+// Takes in a key that stands behind the last one.
+fn rise_to<'t>(last: &mut Option<&'t [u8]>, key: &'t [u8]) -> bool
+    ensures new { IsTrue result → (known : List (List ℕ)) → AreUpTo last.old known → list_any (same_text key.now) known ≡ false }
+    ensures risen { IsTrue result → (known : List (List ℕ)) → AreUpTo last.old known → AreUpTo last.new (key.now ∷ known) }
+{
+    if !is_behind(*last, key) {
+        return false;
+    }
+    *last = Some(key);
+    true
+}
+
+// Whether a key stands behind the last one, if there is one.
+fn is_behind(last: Option<&[u8]>, key: &[u8]) -> bool
+    ensures { IsTrue result → IfSome last.entry (λ l. by_length l.now key.now ≡ Less) }
+{
+    match last {
+        Some(last) => matches!(by_length(last, key), Ordering::Less),
+        None => true,
+    }
+}
+
+// The same of a key that may be null; so that what is so of the keys behind it is so of it and them.
+fn rise<'t>(last: &mut Option<&'t [u8]>, key: Option<&'t [u8]>) -> bool
+    ensures { IsTrue result → (known : List (List ℕ)) (more : List (Option (List ℕ))) → AreUpTo last.old known
+        → (after : List (List ℕ)) × AreUpTo last.new after × (none_again after more ≡ true → none_again known (option_map (λ t. t.now) key.entry ∷ more) ≡ true) }
+{
+    match key {
+        Some(key) => rise_to(last, key),
+        None => true,
+    }
+}
+
+/// Whether the keys of the lines of a text, up to its end mark, rise in the column at this place, so that no two lines have one
+/// key: each is longer than those before it, or as long and greater byte by byte, as numbers of a sequence are. A null is no
+/// key. It says no of a text that has a line whose fields don't stand in it as they are. It takes no memory for the keys; the
+/// error is that there was none for a line's fields.
+pub fn keys_rise(
+    alloc: Global,
+    columns: &TableColumns,
+    place: usize,
+    text: &[u8],
+) -> Result<bool, AllocError>
+    ensures { IfOk result (λ rise. IsTrue rise → none_again [] (line_keys columns.now place text.now) ≡ true) }
+{
+    let mut plain = PlainRow::new(alloc);
+    let mut last = None;
+    let mut rest = text;
+    'lines: while let Some((line, behind)) = split_line(rest) {
+        let Some(key) = key_in(columns, place, &mut plain, line)? else {
+            return Ok(false);
+        };
+        if !rise(&mut last, key) {
             return Ok(false);
         }
         rest = behind;

@@ -16,7 +16,7 @@ ghost use Rattle.cat_model.specs.Tables.{orphan_of, repeated_after};
 ghost use Rattle.cat_model.specs.Trees.{class_of, outcome, seen};
 ghost use Rattle.row_keys.specs.ByPlaces.{key_at};
 ghost use Rattle.rows_fit.specs.KeyCauses.{linked, parent_cause, unique_cause};
-ghost use Rattle.plain_rows.specs.Lines.{LineFits, LineReads, all_among, line_keys, none_again};
+ghost use Rattle.plain_rows.specs.Lines.{LineFits, all_among, line_keys, none_again};
 
 /// A text is copied into a table that has no rows where each of its lines fits the table, no two rows have a key in common
 /// and each has its parents.
@@ -30,12 +30,12 @@ pub fn texts_that_fit_are_copied()
         → outcome (copy_rows q [] text) (seen named) ≡ Ok ((key.Rows q, Some (value.Rows (rows_held text))) ∷ []) }
 {}
 
-/// Keys of lines are those of the rows of a text whose lines all read: where none of them stands again, no two rows have
-/// one key in this column; where all are among those of another text, no row lacks a parent there.
+/// Keys of lines are those of the rows that a text holds: where none of them stands again, no two rows have one key in this
+/// column; where all are among those of another text, no row lacks a parent there. A line that is no row counts for nothing.
 pub fn keys_of_lines_are_those_of_rows()
-    ensures differ { (columns : List Column) (place : ℕ) (text : Bytes) → AllByRecursion LineReads (data_lines text)
+    ensures differ { (columns : List Column) (place : ℕ) (text : Bytes)
         → none_again [] (line_keys columns place text) ≡ true → repeated_after [] (map (key_at columns (Some place ∷ [])) (rows_held text)) ≡ None }
-    ensures among { (columns parent_columns : List Column) (place parent_place : ℕ) (text parent_text : Bytes) → AllByRecursion LineReads (data_lines text) → AllByRecursion LineReads (data_lines parent_text)
+    ensures among { (columns parent_columns : List Column) (place parent_place : ℕ) (text parent_text : Bytes)
         → all_among (line_keys parent_columns parent_place parent_text) (line_keys columns place text) ≡ true
         → orphan_of 1 (map (key_at parent_columns (Some parent_place ∷ [])) (rows_held parent_text)) (map (key_at columns (Some place ∷ [])) (rows_held text)) ≡ None }
 {}

@@ -1,6 +1,6 @@
 //! Texts of rows tried against a table without making their rows.
 //!
-//! Each test says yes where it is sure: that the lines fit the table, that keys differ, that keys are among others. It says
+//! Each test says yes where it is sure: that the lines fit the table, that keys differ or rise, that keys are among others. It says
 //! no of a line whose fields don't stand in it as they are, so that a no says nothing.
 #![tactic(auto)]
 
@@ -9,4 +9,4 @@ mod keys;
 pub mod laws;
 
 pub use fitting::rows_fit;
-pub use keys::{key_set, keys_are_among, keys_differ};
+pub use keys::{key_set, keys_are_among, keys_differ, keys_rise};

@@ -40,7 +40,7 @@ module _ (first second : Bytes) (tree : Tree) (one : Exported)
     (catalogue : catalogue_of second tree ≡ catalogue_of first tree)
     (bytes : bytes_of second tree ≡ bytes_of first tree)
     (rows : (used : ℕ) → data_of first used one.cat tree ≡ Ok one.rows → data_of second used one.cat tree ≡ Ok one.rows) where
-  export_alike : export_of first tree ≡ Ok one → export_of second tree ≡ Ok one
+  pub export_alike : export_of first tree ≡ Ok one → export_of second tree ≡ Ok one
   unfolding export_of
   export_alike read =
       let used = bytes_of first tree in
@@ -60,3 +60,9 @@ module _ (first second : Bytes) (tree : Tree) (one : Exported)
   opened_alike read =
       let parts = opening_parts (export_of first tree) one read in
       ap (λ (r : Result Exported Outcome). r >>= opened) (export_alike parts.0) ∙ parts.1
+
+-- an export whose rows meet their tables is an opening
+pub opened_one : (folder : Bytes) (tree : Tree) (export : Exported) → rows_fault export.cat export.rows ≡ None → export_of folder tree ≡ Ok export → opened_folder folder tree ≡ Ok export
+unfolding opened_folder
+opened_one folder tree export none read =
+    ap (λ (r : Result Exported Outcome). r >>= opened) read ∙ ap (λ (found : Option LoadFault). meet found >>= λ done. Ok export) none

@@ -3,4 +3,4 @@
 
 mod opening;
 
-pub use opening::opens_alike;
+pub use opening::{have_one_opening, opens_alike};

@@ -1,4 +1,7 @@
+use Rattle.std.proofs.Common.{◌≡◌, subst}
 use Rattle.std.proofs.lemmas.Result.{IfOk-weaker}
+use Rattle.exports.specs.Exports.{Exported}
+use Rattle.same_texts.specs.Alike.{HoldSame}
 use Rattle.same_folders.proofs.Alike.{opened_alike}
 use Rattle.same_folders.proofs.opening.opens_alike.Goals as goal
 
@@ -6,11 +9,13 @@ pub returns-clause-same : goal.returns-clause-same
 returns-clause-same g c =
     let laws = c.same_texts_are_read_alike.ensures in
     IfOk-weaker c.holds_texts.result _ _ (λ _ held same tree known read.
-    let all = held same tree known in
-    let cat = c.args.one.now.cat in
-    let rows = c.args.one.now.rows in
-    opened_alike c.args.first.now c.args.second.now tree c.args.one.now
-    (laws.catalogue c.args.first.now c.args.second.now tree cat rows all)
-    (laws.bytes c.args.first.now c.args.second.now tree cat rows all)
-    (λ used. laws.rows c.args.first.now c.args.second.now tree cat rows used all) read)
+    let first = c.args.first.now in
+    let second = c.args.second.now in
+    let one = c.args.one.now in
+    let is : c.export.result.now ≡ one = c.export.ensures.export in
+    let all = subst (λ (e : Exported). HoldSame first second tree e.cat e.rows) is (held same tree known) in
+    opened_alike first second tree one
+    (laws.catalogue first second tree one.cat one.rows all)
+    (laws.bytes first second tree one.cat one.rows all)
+    (λ used. laws.rows first second tree one.cat one.rows used all) read)
     c.holds_texts.ensures.same

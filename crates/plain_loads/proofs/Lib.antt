@@ -1,0 +1,2 @@
+mod Without
+mod Steps

@@ -1,0 +1,14 @@
+use Rattle.std.proofs.Common.{List, Some, map, sym, ap, ◌∙◌}
+use Rattle.std.specs.Map.Iter.{deref_pair}
+use Rattle.std.proofs.lemmas.Result.{IfOk-weaker}
+use Rattle.cat_model.specs.declared.key.Key.{Key}
+use Rattle.cat_model.specs.declared.value.Column.{Column}
+use Rattle.cat_model.specs.declared.value.Value.{Value}
+use Rattle.cat_model.specs.declared.value.Value.TheVariants as value
+use Rattle.plain_loads.proofs.meeting.columns_meet.Goals as goal
+
+pub returns : goal.returns
+returns c =
+    IfOk-weaker c.entries_meet.result _ _
+    (λ meet e yes there. e yes (there ∙ ap (λ (columns : List Column). Some (value.Table columns)) (sym c.in_ok-table.ensures)) (ap (map (deref_pair {K = Key} {X = Value})) c.deref.ensures.value ∙ c.in_ok-constraints.ensures) (ap (map (deref_pair {K = Key} {X = Value})) c.deref-2.ensures.value ∙ c.in_ok-indexes.ensures))
+    c.entries_meet.ensures

@@ -1,0 +1,21 @@
+use Rattle.std.proofs.Common.{◌≡◌, ℕ, List, subst, ap, ◌∙◌}
+use Rattle.std.specs.List.{AllByRecursion}
+use Rattle.std.proofs.lemmas.Result.{IfOk-weaker}
+use Rattle.cat_rows.specs.declared.catalogue.Catalogue.{Catalogue}
+use Rattle.cat_model.specs.Values.{Named}
+use Rattle.table_rows.specs.Tables.{table_oids}
+use Rattle.cat_load.specs.Loads.{rows_fault}
+use Rattle.plain_loads.specs.Meeting.{TableMeets}
+use Rattle.plain_loads.proofs.Without.{no_fault}
+use Rattle.plain_loads.proofs.meeting.named_meets.Goals as goal
+
+pub returns : goal.returns
+unfolding rows_fault
+returns c =
+    let cat = c.args.cat.now in
+    let texts = c.args.rows.now in
+    let oids : c.deref.result.now ≡ table_oids cat = c.deref.ensures.value ∙ c.in_ok-oids.ensures ∙ ap table_oids c.rows.ensures in
+    IfOk-weaker c.tables_meet.result _ _ (λ meets all yes other is.
+    no_fault cat texts other (table_oids cat)
+    (subst (λ (t : Named × Catalogue × List ℕ). AllByRecursion (TableMeets t.0 t.1 texts) t.2) (λ i. (is i, c.in_ok-book.ensures i, oids i)) (all yes)))
+    c.tables_meet.ensures

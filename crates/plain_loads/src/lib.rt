@@ -1,0 +1,11 @@
+//! Rows of tables that meet them, told from the texts of the tables without making their rows.
+//!
+//! A yes is sure: then `cat_load` finds no fault. A no says nothing.
+#![tactic(auto)]
+
+mod foreigns;
+mod meeting;
+mod parents;
+mod uniques;
+
+pub use meeting::rows_meet;
