@@ -1,0 +1,3 @@
+pub mod Having
+mod Numbering
+mod Labels

@@ -1,0 +1,5 @@
+pub mod Making
+pub mod Loops
+pub mod Entries
+pub mod Named
+pub mod Cluster

@@ -1,0 +1,4 @@
+pub mod Apart
+pub mod Seen
+pub mod Given
+mod Steps
