@@ -23,8 +23,9 @@ fn gathered(alloc: Global, pieces: Pieces<'_>) -> Result<Vec<u8>, AllocError>
     Ok(bytes)
 }
 
-// The rows of the entry with a dump id, where it has rows.
-fn rows_of(
+/// The rows of the entry of a custom archive with a dump id, all their pieces one behind another, where it has rows. The
+/// error says that there was no memory.
+pub fn custom_rows(
     alloc: Global,
     reader: &CustomReader<'_>,
     dump_id: u32,
@@ -47,7 +48,7 @@ fn put_entry(
 ) -> Result<(), AllocError>
     ensures { (custom : Custom) → Holds reader.now custom → OnOk result (out.new.items ≡ out.old.items ++ part owners entry.now (custom_rows custom entry.now.dump_id)) }
 {
-    let rows = rows_of(alloc, reader, entry.dump_id)?;
+    let rows = custom_rows(alloc, reader, entry.dump_id)?;
     put_part(alloc, entry, &rows, owners, out)
 }
 

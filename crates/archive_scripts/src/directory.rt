@@ -38,9 +38,13 @@ fn rows_len(rows: &Option<Vec<u8>>) -> u64
     }
 }
 
-// The rows of the entry with a dump id, and how many bytes were read with them.
+/// The rows of the entry of a directory archive with a dump id, where it has rows, and how many bytes of the archive were
+/// read with them; `used` were read before.
+///
+/// `Missing` names the file where it is absent, and `TooLarge` comes where the archive then has more than 268,435,456 bytes.
+/// `Failed` comes exactly where a call of the files failed. Nothing is written.
 #[tactic(auto, unfolding(crate::specs::Directories::rows_within))]
-fn rows_within<F: Files>(
+pub fn rows_within<F: Files>(
     alloc: Global,
     files: &mut F,
     reader: &DirReader,

@@ -1,5 +1,5 @@
 -- Blocks that are put out one after another.
-use Rattle.std.proofs.Common.{◌≡◌, ℕ, Bool, true, List, [], ◌∷◌, ◌++◌, Option, Some, None, refl, sym, ap, ◌∙◌, append_assoc, append-nil, inl}
+use Rattle.std.proofs.Common.{◌≡◌, ℕ, Bool, true, false, List, [], ◌∷◌, ◌++◌, map, Option, Some, None, refl, sym, ap, ◌∙◌, append_assoc, append-nil, inl}
 use Rattle.dump_ports.specs.Tree.{Tree, bytes_at}
 use Rattle.data_rows.specs.declared.fault.RowsFault.{RowsFault}
 use Rattle.toc_entry.specs.declared.entry.Entry.{Entry}
@@ -8,6 +8,7 @@ use Rattle.toc_layout.specs.Heads.{head_seen}
 use Rattle.fmt_custom.specs.Blocks.{piece}
 use Rattle.fmt_custom.specs.Stored.{block_by, open_block}
 use Rattle.fmt_custom.specs.Writing.{front_text}
+use Rattle.archive_entries.specs.Extras.{unplaced}
 use Rattle.dump_files.specs.declared.file.DataFile.{DataFile}
 use Rattle.dump_files.specs.declared.stop.DumpStop.{DumpStop}
 use Rattle.dump_files.specs.declared.stop.DumpStop.TheVariants.{Missing, TooLarge, ReadFault, BadRows, WriteFault, Memory}
@@ -18,7 +19,7 @@ use Rattle.dump_files.proofs.OutletLemmas.{cut_more, cut_all}
 use Rattle.dump_plain.specs.Dumps.{Output, of_text, after, file_rows}
 use Rattle.dump_plain.specs.Stops.{IsDumpStop, Goes}
 use Rattle.dump_archives.specs.Pieces.{pieces_of}
-use Rattle.dump_archives.specs.Customs.{block_then_by, block_then, with_block, blocks_out, custom_out}
+use Rattle.dump_archives.specs.Customs.{block_then_by, block_then, with_block, blocks_out, custom_out, first_front, unplaced_out}
 
 pub blocks-nil : (tree : Tree) (needed : List DataFile) → blocks_out tree [] needed ≡ of_text []
 unfolding blocks_out
@@ -31,6 +32,22 @@ blocks-cons tree e es needed = refl
 pub custom-is : (tree : Tree) (head : Head) (entries : List Entry) (needed : List DataFile) → custom_out tree head entries needed ≡ after (front_text (head_seen head) entries) 0 (blocks_out tree entries needed)
 unfolding custom_out
 custom-is tree head entries needed = refl
+
+with_same : (tree : Tree) (id : ℕ) (has : Bool) (needed : List DataFile) (more other : List DataFile → Output) → ((left : List DataFile) → more left ≡ other left) → with_block tree id has needed more ≡ with_block tree id has needed other
+with_same tree id false needed more other h = h needed
+with_same tree id true [] more other h = h []
+with_same tree id true (file ∷ needed) more other h = ap (block_then id file.table (file_rows tree file)) (h needed)
+
+-- blocks don't go by what entries tell of their places
+unplaced_blocks : (tree : Tree) (es : List Entry) (needed : List DataFile) → blocks_out tree (map unplaced es) needed ≡ blocks_out tree es needed
+unplaced_blocks tree [] needed = refl
+unplaced_blocks tree (e ∷ es) needed =
+    blocks-cons tree (unplaced e) (map unplaced es) needed
+    ∙ with_same tree e.dump_id e.has_rows needed (blocks_out tree (map unplaced es)) (blocks_out tree es) (unplaced_blocks tree es)
+    ∙ sym (blocks-cons tree e es needed)
+
+pub unplaced-is : (tree : Tree) (head : Head) (entries : List Entry) (needed : List DataFile) → unplaced_out tree head entries needed ≡ after (first_front head entries) 0 (blocks_out tree entries needed)
+unplaced-is tree head entries needed = custom-is tree head (map unplaced entries) needed ∙ ap (after (first_front head entries) 0) (unplaced_blocks tree entries needed)
 
 block_then-ok : (id table : ℕ) (s : Spelled) (more : Output) → s.fault ≡ None → block_then id table s more ≡ after (block_by true id (pieces_of s.text)) s.rows more
 unfolding block_then

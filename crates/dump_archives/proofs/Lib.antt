@@ -1,3 +1,5 @@
 pub mod PieceLemmas
 pub mod PackingLemmas
 pub mod BlockLemmas
+pub mod GrowingLemmas
+pub mod PlaceLemmas

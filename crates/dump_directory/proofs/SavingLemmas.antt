@@ -1,9 +1,10 @@
 -- Files of a directory that are written one after another.
-use Rattle.std.proofs.Common.{◌≡◌, ◌≢◌, ℕ, ◌+◌, Bool, true, List, [], ◌∷◌, ◌++◌, codes, Option, Some, None, refl, sym, ap, subst, ◌∙◌, append_assoc, append-nil, inl, arith}
+use Rattle.std.proofs.Common.{◌≡◌, ◌≢◌, ℕ, ◌+◌, Bool, true, List, [], ◌∷◌, ◌++◌, map, Option, Some, None, refl, sym, ap, subst, ◌∙◌, append_assoc, append-nil, inl, arith}
 use Rattle.dump_ports.specs.Tree.{Tree, bytes_at}
 use Rattle.data_rows.specs.declared.fault.RowsFault.{RowsFault}
 use Rattle.toc_entry.specs.declared.entry.Entry.{Entry}
 use Rattle.toc_entry.specs.declared.head.Head.{Head}
+use Rattle.archive_entries.specs.Extras.{filed}
 use Rattle.fmt_directory.specs.Directories.{toc_name, rows_name}
 use Rattle.dump_files.specs.declared.file.DataFile.{DataFile}
 use Rattle.dump_files.specs.declared.stop.DumpStop.{DumpStop}
@@ -26,7 +27,7 @@ pub data-cons : (tree : Tree) (folder : List ℕ) (e : Entry) (es : List Entry) 
 unfolding data_out
 data-cons tree folder e es needed = refl
 
-pub directory-is : (tree : Tree) (folder : List ℕ) (head : Head) (entries : List Entry) (needed : List DataFile) → directory_out tree folder head entries needed ≡ after (one_file (toc_name folder) (toc_dat head entries)) 0 (data_out tree folder entries needed)
+pub directory-is : (tree : Tree) (folder : List ℕ) (head : Head) (entries : List Entry) (needed : List DataFile) → directory_out tree folder head entries needed ≡ after (one_file (toc_name folder) (toc_dat head (map filed entries))) 0 (data_out tree folder entries needed)
 unfolding directory_out
 directory-is tree folder head entries needed = refl
 
@@ -73,9 +74,12 @@ after-after files more rows others w =
     let many : rows + (others + w.rows) ≡ rows + others + w.rows = omega arith in
     rw (many, ← append_assoc files more w.files) refl
 
--- a name that stands below the folder is none that doesn't
-pub below_apart : (folder name other rest : List ℕ) → name ≡ folder ++ (codes "/" ++ rest) → IsBeyond folder other → name ≢ other
-below_apart folder name other rest below beyond same = beyond rest (sym same ∙ below)
+-- a file that may be written is none that a name beyond tells
+toc_apart : (folder other : List ℕ) → IsBeyond folder other → toc_name folder ≢ other
+toc_apart folder other beyond same = beyond.0 (sym same)
+
+pub rows_apart : (folder name other : List ℕ) (id : ℕ) → name ≡ rows_name folder id → IsBeyond folder other → name ≢ other
+rows_apart folder name other id is beyond same = beyond.1 id (sym same ∙ is)
 
 module _ (folder : List ℕ) (due : Folder) (before now : Outside) (rows : ℕ) (still : Folder) (saves : Saves folder due before now rows still) where
   pub saves_as : (count : ℕ) (other : Folder) → rows ≡ count → still ≡ other → Saves folder due before now count other
@@ -84,12 +88,12 @@ module _ (folder : List ℕ) (due : Folder) (before now : Outside) (rows : ℕ) 
   pub saves_holds : (name text : List ℕ) → IsBeyond folder name → Holds before.tree name text → Holds now.tree name text
   saves_holds name text beyond h = subst (λ (o : Outside). Holds o.tree name text) (sym saves.is) (saved_holds saves.done name text before (saves.apart name beyond) h)
 
-  pub saves_on : (name text rest : List ℕ) (count : ℕ) (more : Folder) (now' : Outside) → name ≡ folder ++ (codes "/" ++ rest) → still ≡ after (one_file name text) count more → now' ≡ outputs (Some name) text now → Saves folder due before now' (rows + count) more
-  saves_on name text rest count more now' below e n = record {
+  pub saves_on : (name text : List ℕ) (count : ℕ) (more : Folder) (now' : Outside) → ((other : List ℕ) → IsBeyond folder other → name ≢ other) → still ≡ after (one_file name text) count more → now' ≡ outputs (Some name) text now → Saves folder due before now' (rows + count) more
+  saves_on name text count more now' away e n = record {
     done = saves.done ++ one_file name text;
     is = n ∙ ap (outputs (Some name) text) saves.is ∙ sym (saved-append saves.done (one_file name text) before);
     same = saves.same ∙ ap (after saves.done rows) e ∙ after-after saves.done (one_file name text) rows count more;
-    apart = λ other beyond. apart-append saves.done (one_file name text) other (saves.apart other beyond) (below_apart folder name other rest below beyond, tt);
+    apart = λ other beyond. apart-append saves.done (one_file name text) other (saves.apart other beyond) (away other beyond, tt);
   }
 
   split : due.files ≡ saves.done ++ still.files
@@ -115,6 +119,14 @@ module _ (folder : List ℕ) (due : Folder) (before now : Outside) (rows : ℕ) 
   pub saves_stop : (tree : Tree) (needed : List DataFile) (stop : DumpStop) → IsDumpStop tree needed (told still) stop → IsDumpStop tree needed (told due) stop
   saves_stop tree needed stop p = stop_as tree needed needed (told due) (told still) stop (λ l. l) (ap (λ (w : Folder). w.bad) saves.same) p
 
+not_begun : (files : List Written) (o : Outside) → IsPart files o o
+not_begun [] o = refl
+not_begun (x ∷ xs) o = inl refl
+
+-- nothing was written
+pub untouched : (files : List Written) (o : Outside) → PartSaved files o o
+untouched files o = record { whole = []; later = files; split = refl; part = not_begun files o }
+
 -- all files are whole
 pub saves_end : (folder : List ℕ) (due : Folder) (before now : Outside) (rows : ℕ) → Saves folder due before now rows no_file → (due.bad ≡ None) × (rows ≡ due.rows) × (now ≡ saved due.files before)
 saves_end folder due before now rows saves = (
@@ -128,12 +140,12 @@ saves_end folder due before now rows saves = (
 pub toc_part : (name text : List ℕ) (due more : Folder) (before now : Outside) → due ≡ after (one_file name text) 0 more → IsBegun (Some name) text before now → PartSaved due.files before now
 toc_part name text due more before now e p = record { whole = []; later = one_file name text ++ more.files; split = ap (λ (w : Folder). w.files) e; part = p }
 
-pub toc_saves : (folder rest name text : List ℕ) (due more : Folder) (before now : Outside) → name ≡ folder ++ (codes "/" ++ rest) → due ≡ after (one_file name text) 0 more → now ≡ outputs (Some name) text before → Saves folder due before now 0 more
-toc_saves folder rest name text due more before now below e n = record {
-  done = one_file name text;
+pub toc_saves : (folder text : List ℕ) (due more : Folder) (before now : Outside) → due ≡ after (one_file (toc_name folder) text) 0 more → now ≡ outputs (Some (toc_name folder)) text before → Saves folder due before now 0 more
+toc_saves folder text due more before now e n = record {
+  done = one_file (toc_name folder) text;
   is = n;
   same = e;
-  apart = λ other beyond. (below_apart folder name other rest below beyond, tt);
+  apart = λ other beyond. (toc_apart folder other beyond, tt);
 }
 
 -- ---- the file of an entry
@@ -142,10 +154,10 @@ module _ (tree : Tree) (folder : List ℕ) (id : ℕ) (has_rows : Bool) (has : h
   opened : with_file tree folder id has_rows needed more ≡ rows_then (rows_name folder id) file.table (file_rows tree file) (more others)
   opened = ap (λ (b : Bool). with_file tree folder id b needed more) has ∙ ap (λ (l : List DataFile). with_file tree folder id true l more) cut
 
-  pub entry_ok : (due : Folder) (before now now' : Outside) (rows count : ℕ) (name rest : List ℕ) → Saves folder due before now rows (with_file tree folder id has_rows needed more) → name ≡ rows_name folder id → rows_name folder id ≡ folder ++ (codes "/" ++ rest)
+  pub entry_ok : (due : Folder) (before now now' : Outside) (rows count : ℕ) (name : List ℕ) → Saves folder due before now rows (with_file tree folder id has_rows needed more) → name ≡ rows_name folder id
       → ((file_rows tree file).fault ≡ None) × (count ≡ (file_rows tree file).rows) × (now' ≡ outputs (Some name) (file_rows tree file).text now) → Saves folder due before now' (rows + count) (more others)
-  entry_ok due before now now' rows count name rest saves n below p =
-      saves_on folder due before now rows (with_file tree folder id has_rows needed more) saves (rows_name folder id) (file_rows tree file).text rest count (more others) now' below
+  entry_ok due before now now' rows count name saves n p =
+      saves_on folder due before now rows (with_file tree folder id has_rows needed more) saves (rows_name folder id) (file_rows tree file).text count (more others) now' (λ other beyond. rows_apart folder (rows_name folder id) other id refl beyond)
       (opened ∙ rows_then-ok (rows_name folder id) file.table (file_rows tree file) (more others) p.0 ∙ ap (λ (k : ℕ). after (one_file (rows_name folder id) (file_rows tree file).text) k (more others)) (sym p.1))
       (p.2 ∙ ap (λ (x : List ℕ). outputs (Some x) (file_rows tree file).text now) n)
 

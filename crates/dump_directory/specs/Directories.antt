@@ -1,12 +1,13 @@
 -- What a dump in the directory format writes: `toc.dat`, and then a file for each entry with rows, of which the rows come from
 -- the next of the data files. A row that fails ends it on its way.
-use Rattle.std.specs.Prelude.{◌≡◌, ◌≢◌, ℕ, ◌+◌, Bool, true, false, List, [], ◌∷◌, ◌++◌, Option, Some, None}
+use Rattle.std.specs.Prelude.{◌≡◌, ◌≢◌, ℕ, ◌+◌, Bool, true, false, List, [], ◌∷◌, ◌++◌, map, Option, Some, None}
 use Rattle.dump_ports.specs.Tree.{Tree}
 use Rattle.data_rows.specs.declared.fault.RowsFault.{RowsFault}
 use Rattle.toc_entry.specs.declared.entry.Entry.{Entry}
 use Rattle.toc_entry.specs.declared.head.Head.{Head}
 use Rattle.toc_layout.specs.Heads.{head_seen, head as head_part}
 use Rattle.toc_table.specs.Writing.{toc_text}
+use Rattle.archive_entries.specs.Extras.{filed}
 use Rattle.fmt_directory.specs.Directories.{toc_name, rows_name}
 use Rattle.dump_files.specs.declared.file.DataFile.{DataFile}
 use Rattle.dump_files.specs.Spelled.{Spelled}
@@ -52,9 +53,9 @@ data_out tree folder (e ∷ es) needed = with_file tree folder e.dump_id e.has_r
 abbrev pub toc_dat : Head → List Entry → List ℕ
 toc_dat head entries = head_part.write (head_seen head) ++ toc_text entries
 
--- the whole dump
+-- the whole dump, with entries that tell the files of their rows
 unfoldable pub directory_out : Tree → List ℕ → Head → List Entry → List DataFile → Folder
-directory_out tree folder head entries needed = after (one_file (toc_name folder) (toc_dat head entries)) 0 (data_out tree folder entries needed)
+directory_out tree folder head entries needed = after (one_file (toc_name folder) (toc_dat head (map filed entries))) 0 (data_out tree folder entries needed)
 
 -- what is told of a row that fails
 abbrev pub told : Folder → Output
@@ -66,7 +67,7 @@ abbrev pub AllApart : List Written → List ℕ → Type 0
 AllApart [] name = Unit {0}
 AllApart (file ∷ files) name = (file.name ≢ name) × AllApart files name
 
--- What was due is these files with so many rows, which are whole and stand below the folder, and then what is due still.
+-- What was due is these files with so many rows, which are whole and of the folder, and then what is due still.
 pub record Saves (folder : List ℕ) (due : Folder) (before now : Outside) (rows : ℕ) (still : Folder) : Type 0 where
   pub done : List Written
   pub is : now ≡ saved done before

@@ -1,5 +1,6 @@
 -- Files that are written one after another, and what stands where the writing ended on its way.
-use Rattle.std.specs.Prelude.{◌≡◌, ◌≢◌, ℕ, List, [], ◌∷◌, ◌++◌, Some, codes}
+use Rattle.std.specs.Prelude.{◌≡◌, ◌≢◌, ℕ, List, [], ◌∷◌, ◌++◌, Some}
+use Rattle.fmt_directory.specs.Directories.{toc_name, rows_name}
 use Rattle.dump_files.specs.declared.file.DataFile.{DataFile}
 use Rattle.dump_files.specs.Outlets.{Outside, outputs, IsBegun}
 
@@ -24,9 +25,9 @@ pub record PartSaved (files : List Written) (before after : Outside) : Type 0 wh
   pub split : files ≡ whole ++ later
   pub part : IsPart later (saved whole before) after
 
--- a name doesn't stand below a folder
+-- a name is none of the files that a dump into a folder may have
 abbrev pub IsBeyond : List ℕ → List ℕ → Type 0
-IsBeyond folder name = (rest : List ℕ) → name ≢ folder ++ (codes "/" ++ rest)
+IsBeyond folder name = (name ≢ toc_name folder) × ((id : ℕ) → name ≢ rows_name folder id)
 
 abbrev pub AreBeyond : List ℕ → List DataFile → Type 0
 AreBeyond folder [] = Unit {0}

@@ -1,8 +1,9 @@
 //! Writing a dump in the directory format.
-ghost use Rattle.std.specs.Prelude.{◌≡◌, ◌+◌, ◌*◌, ◌≤◌, ◌<◌, ◌^◌, ◌++◌, ℕ, [], List, All, length, None, Some, OnOk, OnErr, IfOk, IfErr};
+ghost use Rattle.std.specs.Prelude.{◌≡◌, ◌+◌, ◌*◌, ◌≤◌, ℕ, List, length, map, None, Some, OnOk, OnErr, IfOk, IfErr};
 ghost use Rattle.dump_ports.specs.Tree.{Tree};
 ghost use Rattle.toc_layout.specs.Heads.{head_seen};
-ghost use Rattle.toc_layout.specs.Writable.{HeadCanBeWritten, EntryCanBeWritten};
+ghost use Rattle.archive_entries.specs.Extras.{filed};
+ghost use Rattle.archive_entries.specs.Fits.{CanBeArchived};
 ghost use Rattle.fmt_directory.specs.Directories.{toc_name, rows_name};
 ghost use Rattle.dump_files.specs.declared.file.DataFile.{DataFile};
 ghost use Rattle.dump_files.specs.Stops.{CountsRead, CountsWrite, IsOfPutting, IsLate, most};
@@ -12,18 +13,23 @@ ghost use Rattle.dump_directory.specs.Files.{AreBeyond, PartSaved, saved};
 ghost use Rattle.dump_directory.specs.Directories.{Folder, no_file, toc_dat, with_file, data_out, directory_out, told, Saves, IsLeft};
 
 use crate::whole::{put_file, put_text};
+use archive_entries::{can_be_archived, write_filed};
 use copy_text::Text;
 use dump_files::{DataFile, DumpStop};
 use dump_ports::{Files, Sink};
-use fmt_directory::{dir_toc, rows_path, toc_path};
+use fmt_directory::{rows_path, toc_path};
 use std::alloc::Global;
 use toc_entry::{Entry, Head};
 
-/// Writes a dump in the directory format into a folder: `toc.dat` with the head and the entries as they are, and then for each
-/// entry with rows a file with those of the next data file. Says how many rows are in it.
+/// Writes a dump in the directory format into a folder: `toc.dat` with the head and the entries, and then for each entry with
+/// rows a file with those of the next data file. Says how many rows are in it.
+///
+/// Each entry with rows tells the name of its file, `<dump_id>.dat`. What an entry itself says of the place of its rows isn't
+/// looked at. `out` stays as it was.
 ///
 /// Each data file is read once, a piece at a time. After an error some of the files are whole, the next one is in part or as it
-/// was, and the later ones are untouched. <https://www.postgresql.org/docs/16/app-pgdump.html>
+/// was, and the later ones are untouched. Nothing is written, and `Memory` is told, of a head and entries of which no archive
+/// can be made. <https://www.postgresql.org/docs/16/app-pgdump.html>
 pub fn directory_dump<F: Files, O: Sink>(
     alloc: Global,
     files: &mut F,
@@ -33,19 +39,20 @@ pub fn directory_dump<F: Files, O: Sink>(
     entries: &[Entry],
     needed: &[DataFile],
 ) -> Result<u64, DumpStop>
-    requires few { length needed.now ≤ 200000 }
-    requires head { HeadCanBeWritten (head_seen head.now) }
-    requires count { length entries.now < 2 ^ 32 }
-    requires each { All EntryCanBeWritten entries.now }
+    requires { length needed.now ≤ 200000 }
     ensures ok { (tree : Tree) → F.tree files.old ≡ Some tree → AreBeyond folder.now needed.now → let due = directory_out tree folder.now head.now entries.now needed.now in
         IfOk result (λ rows. (due.bad ≡ None) × (rows ≡ due.rows) × (outside (F.tree files.new) (O.written out.new) ≡ saved due.files (outside (F.tree files.old) (O.written out.old)))) }
     ensures err { (tree : Tree) → F.tree files.old ≡ Some tree → AreBeyond folder.now needed.now → let due = directory_out tree folder.now head.now entries.now needed.now in
         IfErr result (λ stop. IsDumpStop tree needed.now (told due) stop × PartSaved due.files (outside (F.tree files.old) (O.written out.old)) (outside (F.tree files.new) (O.written out.new))) }
+    ensures archive { OnOk result (CanBeArchived (head_seen head.now) entries.now) }
     ensures putting { IfErr result IsOfPutting }
     ensures read_count { CountsRead result (F.read_faults files.old) (F.read_faults files.new) }
     ensures write_count { CountsWrite result (F.write_faults files.old) (F.write_faults files.new) }
     ensures out_count { O.faults out.new ≡ O.faults out.old }
 {
+    if !can_be_archived(head, entries) {
+        return Err(DumpStop::Memory);
+    }
     put_toc(alloc, files, out, folder, head, entries)?;
     let rows = put_data(alloc, files, out, folder, entries, needed)?;
     Ok(rows)
@@ -60,18 +67,16 @@ fn put_toc<F: Files, O: Sink>(
     head: &Head,
     entries: &[Entry],
 ) -> Result<(), DumpStop>
-    requires head { HeadCanBeWritten (head_seen head.now) }
-    requires count { length entries.now < 2 ^ 32 }
-    requires each { All EntryCanBeWritten entries.now }
-    ensures ok { OnOk result (outside (F.tree files.new) (O.written out.new) ≡ outputs (Some (toc_name folder.now)) (toc_dat head.now entries.now) (outside (F.tree files.old) (O.written out.old))) }
-    ensures err { OnErr result (IsBegun (Some (toc_name folder.now)) (toc_dat head.now entries.now) (outside (F.tree files.old) (O.written out.old)) (outside (F.tree files.new) (O.written out.new))) }
+    requires { CanBeArchived (head_seen head.now) entries.now }
+    ensures ok { OnOk result (outside (F.tree files.new) (O.written out.new) ≡ outputs (Some (toc_name folder.now)) (toc_dat head.now (map filed entries.now)) (outside (F.tree files.old) (O.written out.old))) }
+    ensures err { OnErr result (IsBegun (Some (toc_name folder.now)) (toc_dat head.now (map filed entries.now)) (outside (F.tree files.old) (O.written out.old)) (outside (F.tree files.new) (O.written out.new))) }
     ensures late { IfErr result IsLate }
     ensures read_count { F.read_faults files.new ≡ F.read_faults files.old }
     ensures write_count { CountsWrite result (F.write_faults files.old) (F.write_faults files.new) }
     ensures out_count { O.faults out.new ≡ O.faults out.old }
 {
     let mut text = Vec::new(alloc);
-    dir_toc(head, entries, &mut text)?;
+    write_filed(alloc, head, entries, &mut text)?;
     let name = toc_path(alloc, folder.as_str())?;
     put_text(files, out, name, &text)?;
     Ok(())

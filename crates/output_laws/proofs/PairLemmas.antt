@@ -1,5 +1,5 @@
 -- What dumps write, entry by entry.
-use Rattle.std.proofs.Common.{◌≡◌, ℕ, Bool, true, false, List, [], ◌∷◌, ◌++◌, Option, Some, None, option_map, codes, if◌then◌else◌, refl, sym, ap, ◌∙◌, append_assoc, append-nil}
+use Rattle.std.proofs.Common.{◌≡◌, ℕ, Bool, true, false, List, [], ◌∷◌, ◌++◌, Option, Some, None, map, length, option_map, codes, if◌then◌else◌, refl, sym, ap, ◌∙◌, append_assoc, append-nil}
 use Rattle.std.specs.Global.{Vec}
 use Rattle.dump_ports.specs.Tree.{Tree}
 use Rattle.data_rows.specs.declared.fault.RowsFault.{RowsFault}
@@ -16,9 +16,11 @@ use Rattle.dump_files.specs.declared.file.DataFile.{DataFile}
 use Rattle.dump_plain.specs.Dumps.{Output, of_text, after, file_rows, with_rows, parts_out, plain_out}
 use Rattle.dump_plain.proofs.GoingLemmas.{rows_then-ok, parts-nil, parts-cons, plain-is}
 use Rattle.dump_archives.specs.Pieces.{pieces_of}
-use Rattle.dump_archives.specs.Customs.{block_then_by, block_then, with_block, blocks_out, custom_out}
-use Rattle.dump_archives.proofs.BlockLemmas.{blocks-nil, blocks-cons, custom-is}
-use Rattle.output_laws.specs.Pairs.{HasText, HaveTexts, HasPieces, HavePieces}
+use Rattle.archive_entries.specs.Extras.{unplaced, placed, told_by, told}
+use Rattle.dump_archives.specs.Customs.{block_then_by, block_then, with_block, blocks_out, custom_out, first_front, unplaced_out, places_from, custom_written}
+use Rattle.dump_archives.proofs.BlockLemmas.{blocks-nil, blocks-cons, custom-is, unplaced-is}
+use Rattle.dump_archives.proofs.PlaceLemmas.{custom_front-is}
+use Rattle.output_laws.specs.Pairs.{HasText, HaveTexts, HasPieces, HavePieces, written_entries}
 
 -- ---- the data of a table
 
@@ -45,7 +47,7 @@ part_data owners e rows is =
     ∙ ap (λ (d : List ℕ). part_by owners e d rows) is
     ∙ ap (λ (o : List ℕ). (title (about owners e) ++ (text_or_none e.copy_stmt ++ text_or_none rows)) ++ o) (owner_none owners e is)
 
-part_rows : (owners : Bool) (e : Entry) (rows : List ℕ) → e.desc ≡ codes "TABLE DATA" → part owners e (Some rows) ≡ part owners e None ++ rows
+pub part_rows : (owners : Bool) (e : Entry) (rows : List ℕ) → e.desc ≡ codes "TABLE DATA" → part owners e (Some rows) ≡ part owners e None ++ rows
 part_rows owners e rows is =
     part_data owners e (Some rows) is ∙ joined (title (about owners e)) (text_or_none e.copy_stmt) rows ∙ ap (λ (l : List ℕ). l ++ rows) (sym (part_data owners e None is))
 
@@ -130,7 +132,7 @@ says_blocks tree (e ∷ es) needed (s ∷ ss) h =
           ap (λ (o : Output). o.text) opened ∙ ap (λ (ps : List (List ℕ)). block_by true e.dump_id ps ++ (blocks_out tree es others).text) (sym p.1) ∙ ap (λ (l : List ℕ). block_by true e.dump_id s.pieces ++ l) again.1,
         )
 
-same_entries : (tree : Tree) (entries : List Entry) (needed : List DataFile) (stored : List Stored) → HavePieces tree entries needed stored → entries ≡ entries_of stored
+pub same_entries : (tree : Tree) (entries : List Entry) (needed : List DataFile) (stored : List Stored) → HavePieces tree entries needed stored → entries ≡ entries_of stored
 same_entries tree [] needed [] h = refl
 same_entries tree [] needed (s ∷ ss) h = absurd h
 same_entries tree (e ∷ es) needed [] h = absurd h
@@ -147,4 +149,55 @@ says_archive tree head entries needed stored h =
       ap (λ (o : Output). o.bad) (custom-is tree head entries needed) ∙ inner.0,
       ap (λ (o : Output). o.text) (custom-is tree head entries needed) ∙ ap (λ (l : List ℕ). front_text (head_seen head) entries ++ l) inner.1
           ∙ ap (λ (es : List Entry). front_text (head_seen head) es ++ blocks_text stored) (same_entries tree entries needed stored h),
+    )
+
+-- ---- what is written in the end
+
+-- blocks are those of entries whatever these tell of their places
+with_same : (tree : Tree) (id : ℕ) (has : Bool) (needed : List DataFile) (more other : List DataFile → Output) → ((left : List DataFile) → more left ≡ other left) → with_block tree id has needed more ≡ with_block tree id has needed other
+with_same tree id false needed more other h = h needed
+with_same tree id true [] more other h = h []
+with_same tree id true (file ∷ needed) more other h = ap (block_then id file.table (file_rows tree file)) (h needed)
+
+same_blocks : (tree : Tree) (e f : Entry) (es fs : List Entry) (needed : List DataFile) → e.dump_id ≡ f.dump_id → e.has_rows ≡ f.has_rows → ((left : List DataFile) → blocks_out tree es left ≡ blocks_out tree fs left) → blocks_out tree (e ∷ es) needed ≡ blocks_out tree (f ∷ fs) needed
+same_blocks tree e f es fs needed id has h =
+    blocks-cons tree e es needed
+    ∙ ap (λ (i : ℕ). with_block tree i e.has_rows needed (blocks_out tree es)) id
+    ∙ ap (λ (b : Bool). with_block tree f.dump_id b needed (blocks_out tree es)) has
+    ∙ with_same tree f.dump_id f.has_rows needed (blocks_out tree es) (blocks_out tree fs) h
+    ∙ sym (blocks-cons tree f fs needed)
+
+unplaced_blocks : (tree : Tree) (es : List Entry) (needed : List DataFile) → blocks_out tree (map unplaced es) needed ≡ blocks_out tree es needed
+unplaced_blocks tree [] needed = refl
+unplaced_blocks tree (e ∷ es) needed = same_blocks tree (unplaced e) e (map unplaced es) es needed refl refl (unplaced_blocks tree es)
+
+told_blocks_by : (tree : Tree) (e : Entry) (es : List Entry) (has : Bool) (places : List ℕ) (needed : List DataFile) → ((ps : List ℕ) (left : List DataFile) → blocks_out tree (told es ps) left ≡ blocks_out tree es left)
+    → blocks_out tree (told_by e has places (told es)) needed ≡ blocks_out tree (e ∷ es) needed
+told_blocks_by tree e es false places needed h = same_blocks tree (unplaced e) e (told es places) es needed refl refl (h places)
+told_blocks_by tree e es true [] needed h = same_blocks tree (unplaced e) e (told es []) es needed refl refl (h [])
+told_blocks_by tree e es true (at ∷ places) needed h = same_blocks tree (placed at e) e (told es places) es needed refl refl (h places)
+
+told_blocks : (tree : Tree) (es : List Entry) (places : List ℕ) (needed : List DataFile) → blocks_out tree (told es places) needed ≡ blocks_out tree es needed
+unfolding told
+told_blocks tree [] places needed = refl
+told_blocks tree (e ∷ es) places needed = told_blocks_by tree e es e.has_rows places needed (told_blocks tree es)
+
+pub written_blocks : (tree : Tree) (target : Option (List ℕ)) (head : Head) (entries : List Entry) (needed : List DataFile) → blocks_out tree (written_entries tree target head entries needed) needed ≡ blocks_out tree entries needed
+written_blocks tree None head entries needed = unplaced_blocks tree entries needed
+written_blocks tree (Some name) head entries needed = told_blocks tree entries (places_from tree (length (first_front head entries)) entries needed) needed
+
+written-is : (tree : Tree) (target : Option (List ℕ)) (head : Head) (entries : List Entry) (needed : List DataFile) → custom_written tree target head entries needed ≡ front_text (head_seen head) (written_entries tree target head entries needed) ++ (blocks_out tree entries needed).text
+written-is tree None head entries needed = ap (λ (o : Output). o.text) (unplaced-is tree head entries needed)
+written-is tree (Some name) head entries needed = ap (λ (l : List ℕ). l ++ (blocks_out tree entries needed).text) (custom_front-is tree head entries needed)
+
+pub says_written : (tree : Tree) (target : Option (List ℕ)) (head : Head) (entries : List Entry) (needed : List DataFile) (stored : List Stored) → HavePieces tree (written_entries tree target head entries needed) needed stored
+    → ((unplaced_out tree head entries needed).bad ≡ None) × (custom_written tree target head entries needed ≡ custom_text (head_seen head) stored)
+says_written tree target head entries needed stored h =
+    let written = written_entries tree target head entries needed in
+    let inner = says_blocks tree written needed stored h in (
+      ap (λ (o : Output). o.bad) (unplaced-is tree head entries needed ∙ ap (after (first_front head entries) 0) (sym (written_blocks tree target head entries needed))) ∙ inner.0,
+      written-is tree target head entries needed
+          ∙ ap (λ (o : Output). front_text (head_seen head) written ++ o.text) (sym (written_blocks tree target head entries needed))
+          ∙ ap (λ (l : List ℕ). front_text (head_seen head) written ++ l) inner.1
+          ∙ ap (λ (es : List Entry). front_text (head_seen head) es ++ blocks_text stored) (same_entries tree written needed stored h),
     )

@@ -1,12 +1,15 @@
 -- Entries beside the rows' texts that a dump puts out for them.
-use Rattle.std.specs.Prelude.{◌≡◌, ℕ, Bool, true, false, List, [], ◌∷◌, Option, Some, None, option_map, codes}
+use Rattle.std.specs.Prelude.{◌≡◌, ℕ, Bool, true, false, List, [], ◌∷◌, map, Option, Some, None, option_map, codes}
 use Rattle.std.specs.Global.{Vec}
 use Rattle.dump_ports.specs.Tree.{Tree}
 use Rattle.toc_entry.specs.declared.entry.Entry.{Entry}
+use Rattle.toc_entry.specs.declared.head.Head.{Head}
+use Rattle.archive_entries.specs.Extras.{unplaced}
 use Rattle.fmt_custom.specs.Stored.{Stored}
 use Rattle.dump_files.specs.declared.file.DataFile.{DataFile}
 use Rattle.dump_plain.specs.Dumps.{file_rows}
 use Rattle.dump_archives.specs.Pieces.{pieces_of}
+use Rattle.dump_archives.specs.Customs.{placed_entries}
 
 -- an entry with rows is the data of a table, none of its rows fails, and these are their texts; one without rows has none
 abbrev pub HasText : Tree → Entry → Bool → List DataFile → Option (List ℕ) → (List DataFile → Type 0) → Type 0
@@ -32,3 +35,9 @@ HavePieces tree [] needed [] = Unit {0}
 HavePieces tree [] needed (s ∷ ss) = ⊥
 HavePieces tree (e ∷ es) needed [] = ⊥
 HavePieces tree (e ∷ es) needed (s ∷ ss) = (s.entry ≡ e) × HasPieces tree e.has_rows needed s.pieces (λ others. HavePieces tree es others ss)
+
+-- the entries of a dump in the custom format, as they are told in the end: to standard output without places, in a file with
+-- the places of their blocks
+abbrev pub written_entries : Tree → Option (List ℕ) → Head → List Entry → List DataFile → List Entry
+written_entries tree None head entries needed = map unplaced entries
+written_entries tree (Some name) head entries needed = placed_entries tree head entries needed

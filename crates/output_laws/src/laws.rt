@@ -9,8 +9,8 @@ ghost use Rattle.fmt_text.specs.Script.{script};
 ghost use Rattle.fmt_custom.specs.Stored.{Stored, custom_text};
 ghost use Rattle.dump_files.specs.declared.file.DataFile.{DataFile};
 ghost use Rattle.dump_plain.specs.Dumps.{plain_out};
-ghost use Rattle.dump_archives.specs.Customs.{custom_out};
-ghost use Rattle.output_laws.specs.Pairs.{HaveTexts, HavePieces};
+ghost use Rattle.dump_archives.specs.Customs.{custom_out, unplaced_out, custom_written};
+ghost use Rattle.output_laws.specs.Pairs.{HaveTexts, HavePieces, written_entries};
 
 /// A plain dump is the script of its entries with the texts of their rows, where no row fails: so it is what is written of an
 /// archive that holds these.
@@ -23,4 +23,11 @@ pub fn a_plain_dump_is_a_script()
 pub fn a_custom_dump_is_an_archive()
     ensures { (tree : Tree) (head : Head) (entries : List Entry) (needed : List DataFile) (stored : List Stored) → HavePieces tree entries needed stored
         → ((custom_out tree head entries needed).bad ≡ None) × ((custom_out tree head entries needed).text ≡ custom_text (head_seen head) stored) }
+{}
+
+/// What a dump in the custom format writes in the end is such an archive: to standard output of entries that tell no place, and
+/// in a file of those that tell the places of their blocks.
+pub fn a_written_dump_is_an_archive()
+    ensures { (tree : Tree) (target : Option (List ℕ)) (head : Head) (entries : List Entry) (needed : List DataFile) (stored : List Stored) → HavePieces tree (written_entries tree target head entries needed) needed stored
+        → ((unplaced_out tree head entries needed).bad ≡ None) × (custom_written tree target head entries needed ≡ custom_text (head_seen head) stored) }
 {}

@@ -20,8 +20,8 @@ use fmt_custom::CustomReader;
 use list_files::list_of;
 use std::alloc::{AllocError, Global};
 
-// The archive that these bytes are.
-fn read_custom<'a>(alloc: Global, bytes: &'a [u8]) -> Result<CustomReader<'a>, TextFault>
+/// The custom archive that these bytes are, all of them. The errors are the first fault of the bytes, and want of memory.
+pub fn read_custom<'a>(alloc: Global, bytes: &'a [u8]) -> Result<CustomReader<'a>, TextFault>
     ensures held { GivesCustom (in_archive (custom_in bytes.now)) result }
     ensures uncounted { IfErr result IsCallFree }
 {

@@ -58,8 +58,8 @@ pub fn toc_size<F: Files>(
     size_of(files, path.as_str())
 }
 
-// How many bytes the table of contents of a folder has.
-fn used_by<F: Files>(alloc: Global, files: &mut F, folder: &Text) -> Result<u64, TextFault>
+/// How many bytes the table of contents of a folder has; none where it isn't there.
+pub fn toc_len<F: Files>(alloc: Global, files: &mut F, folder: &Text) -> Result<u64, TextFault>
     ensures due { (tree : Tree) → F.tree files.old ≡ Some tree → IfOk result (λ n. n ≡ toc_len folder.now tree) }
     ensures free { IfErr result IsFree }
     ensures kept { F.tree files.new ≡ F.tree files.old }
@@ -72,8 +72,8 @@ fn used_by<F: Files>(alloc: Global, files: &mut F, folder: &Text) -> Result<u64,
     }
 }
 
-// The archive in a folder.
-fn read_directory<F: Files>(
+/// The directory archive in a folder: its file `toc.dat`, all of it.
+pub fn read_directory<F: Files>(
     alloc: Global,
     files: &mut F,
     folder: &Text,
@@ -171,6 +171,6 @@ pub fn folder_text<F: Files>(
     ensures write_count { F.write_faults files.new ≡ F.write_faults files.old }
 {
     let reader = read_directory(alloc, files, folder)?;
-    let used = used_by(alloc, files, folder)?;
+    let used = toc_len(alloc, files, folder)?;
     text_of(alloc, files, &reader, used, list, options, wish)
 }

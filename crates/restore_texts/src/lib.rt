@@ -9,6 +9,8 @@ mod files;
 mod whole;
 
 pub use asked::{ArchiveFormat, Wish};
-pub use custom::custom_text;
+pub use custom::{custom_text, read_custom};
+pub use directory::{read_directory, toc_len};
 pub use fault::{TextFault, TextLimit};
-pub use whole::archive_text;
+pub use files::{read_file, read_places};
+pub use whole::{archive_text, is_directory};

@@ -15,8 +15,8 @@ use dump_ports::Files;
 use entry_choices::Options;
 use std::alloc::Global;
 
-// Whether a path is a directory archive.
-fn is_directory<F: Files>(
+/// Whether a path is a directory archive: the format that is asked for says so, else that a file `toc.dat` is in it.
+pub fn is_directory<F: Files>(
     alloc: Global,
     files: &mut F,
     path: &Text,

@@ -1,0 +1,2 @@
+pub mod ExtraLemmas
+pub mod FitLemmas
