@@ -1,3 +1,4 @@
 pub mod Lists
 pub mod Rows
+pub mod Dummies
 pub mod Objects

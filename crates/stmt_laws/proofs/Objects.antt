@@ -1,5 +1,5 @@
 -- The statements of objects, kind by kind.
-use Rattle.std.proofs.Common.{◌≡◌, ℕ, ◌&&◌, false, List, map, Option, Some, None, refl, inl, inr}
+use Rattle.std.proofs.Common.{◌≡◌, ℕ, ◌&&◌, List, map, Option, Some, None, refl, inl, inr}
 use Rattle.std.specs.Prelude.{ℤ}
 use Rattle.std.specs.List.{AllByRecursion, filter}
 use Rattle.std.specs.Option.{option_and_then, option_map}
@@ -44,13 +44,14 @@ use Rattle.dump_rows.specs.Rows.{columns_of, labels_of, table_checks, domain_che
 use Rattle.dump_stmts.specs.Paths.{joined, path_of, is_public}
 use Rattle.dump_stmts.specs.Types.{check_text, check_def, check_defs, domain_over, domain_stmt, type_in, type_stmt}
 use Rattle.dump_stmts.specs.Tables.{unless_standing, inline_default, typed_column, column_def, table_at, table_stmt, set_default, default_in, default_stmt}
-use Rattle.dump_stmts.specs.Views.{view_of, view_stmt, replaced_by, rule_stmt}
+use Rattle.dump_stmts.specs.Views.{dummy_body, view_of, view_stmt, dummy_stmt, replaced_by, rule_stmt}
 use Rattle.dump_stmts.specs.Sequences.{of_kind, sequence_in, sequence_stmt, value_of, value_stmt, owned, owned_in, owned_stmt}
 use Rattle.dump_stmts.specs.Keys.{added_to, added, constraint_stmt, index_by, index_stmt}
 use Rattle.dump_stmts.specs.Stmts.{schema_stmt, stmt_of_kind, stmt_of}
-use Rattle.stmt_laws.specs.Named.{HoldsCells, IsNamed, is_dummy}
+use Rattle.stmt_laws.specs.Named.{HoldsCells, IsNamed}
 use Rattle.stmt_laws.proofs.Lists.{Known, known_so, so_known, known_then, known_map, found_has, kept_have, numbered_have, ordered_have, chosen_have, seen_have}
 use Rattle.stmt_laws.proofs.Rows.{IsOf, All, rows_hold, class_path_known}
+use Rattle.stmt_laws.proofs.Dummies.{nulls_are}
 
 -- ---- what texts say
 
@@ -198,6 +199,11 @@ rule_can cat o g = by (rewrite_of cat o.id.oid)
     by None = tt
     by (Some row) = known_then IsPath IsWritable (replaced_by row) (path_of o) g.path (λ q path. known_map IsExpressionText IsWritable (stmt.ReplaceView q) (view_body row.viewdef) (known_so IsExpressionText (view_body row.viewdef) (g.laws.views row.viewdef)) (λ body is. (path, is)))
 
+dummy_can : (cat : Catalogue) (o : Obj) → Given cat o → Known IsWritable (dummy_stmt cat o)
+unfolding dummy_stmt
+dummy_can cat o g =
+    known_map IsPath IsWritable (λ q. stmt.CreateView q (dummy_body cat o.id.oid)) (path_of o) g.path (λ q path. (path, nulls_are g.laws.types (columns_of cat o.id.oid) (columns_hold cat g.holds o.id.oid)))
+
 -- ---- sequences
 
 sequence_found : (cat : Catalogue) → HoldsCells cat → (oid : ℕ) → Known (IsOf table.PgSequence sequence_cells) (sequence_of cat oid)
@@ -262,29 +268,29 @@ index_can cat o g = by (index_of cat o.id.oid)
 
 -- ---- all kinds
 
-pub kind_can : (cat : Catalogue) (standing : List ℕ) (o : Obj) → Given cat o → Known IsName o.name → (k : ObjKind) → is_dummy k ≡ false → Known IsWritable (stmt_of_kind cat standing o k)
-kind_can cat standing o g name kind.Schema e = schema_can o.name name
-kind_can cat standing o g name kind.UserType e = type_can cat o g
-kind_can cat standing o g name kind.Table e = table_can cat standing o g
-kind_can cat standing o g name kind.View e = view_can cat o g
-kind_can cat standing o g name kind.Dummy e = absurd cc
-kind_can cat standing o g name kind.Sequence e = sequence_can cat o g
-kind_can cat standing o g name kind.Default e = default_can cat o g
-kind_can cat standing o g name kind.PreData e = tt
-kind_can cat standing o g name kind.TableData e = tt
-kind_can cat standing o g name kind.SeqValue e = value_can cat o g
-kind_can cat standing o g name kind.PostData e = tt
-kind_can cat standing o g name kind.Constraint e = constraint_can cat o g
-kind_can cat standing o g name kind.Index e = index_can cat o g
-kind_can cat standing o g name kind.Rule e = rule_can cat o g
-kind_can cat standing o g name kind.Foreign e = constraint_can cat o g
+pub kind_can : (cat : Catalogue) (standing : List ℕ) (o : Obj) → Given cat o → Known IsName o.name → (k : ObjKind) → Known IsWritable (stmt_of_kind cat standing o k)
+kind_can cat standing o g name kind.Schema = schema_can o.name name
+kind_can cat standing o g name kind.UserType = type_can cat o g
+kind_can cat standing o g name kind.Table = table_can cat standing o g
+kind_can cat standing o g name kind.View = view_can cat o g
+kind_can cat standing o g name kind.Dummy = dummy_can cat o g
+kind_can cat standing o g name kind.Sequence = sequence_can cat o g
+kind_can cat standing o g name kind.Default = default_can cat o g
+kind_can cat standing o g name kind.PreData = tt
+kind_can cat standing o g name kind.TableData = tt
+kind_can cat standing o g name kind.SeqValue = value_can cat o g
+kind_can cat standing o g name kind.PostData = tt
+kind_can cat standing o g name kind.Constraint = constraint_can cat o g
+kind_can cat standing o g name kind.Index = index_can cat o g
+kind_can cat standing o g name kind.Rule = rule_can cat o g
+kind_can cat standing o g name kind.Foreign = constraint_can cat o g
 
 pub given : (laws : TextLaws) (cat : Catalogue) (o : Obj) → HoldsCells cat → IsNamed o → Given cat o
 given laws cat o holds named = record { laws = laws; holds = holds; path = path_so o.schema o.name (known_so IsName o.schema named.0) (known_so IsName o.name named.1) }
 
-pub own_can : (laws : TextLaws) (cat : Catalogue) (standing : List ℕ) (o : Obj) (s : Stmt) → HoldsCells cat → IsNamed o → is_dummy o.kind ≡ false → stmt_of cat standing o ≡ Some s → IsWritable s
+pub own_can : (laws : TextLaws) (cat : Catalogue) (standing : List ℕ) (o : Obj) (s : Stmt) → HoldsCells cat → IsNamed o → stmt_of cat standing o ≡ Some s → IsWritable s
 unfolding stmt_of
-own_can laws cat standing o s holds named e is = so_known IsWritable (stmt_of cat standing o) s (kind_can cat standing o (given laws cat o holds named) (known_so IsName o.name named.1) o.kind e) is
+own_can laws cat standing o s holds named is = so_known IsWritable (stmt_of cat standing o) s (kind_can cat standing o (given laws cat o holds named) (known_so IsName o.name named.1) o.kind) is
 
 pub column_can : (laws : TextLaws) (cat : Catalogue) (o : Obj) (s : Stmt) → HoldsCells cat → IsNamed o → owned_stmt cat o ≡ Some s → IsWritable s
 column_can laws cat o s holds named is = so_known IsWritable (owned_stmt cat o) s (owned_can cat o (given laws cat o holds named)) is

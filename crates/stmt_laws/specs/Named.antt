@@ -1,5 +1,4 @@
 -- Catalogues whose rows tables hold, and objects whose names are names.
-use Rattle.std.specs.Prelude.{Bool, true, false}
 use Rattle.std.specs.Option.{ForSome}
 use Rattle.copy_text.specs.Texts.{IsName}
 use Rattle.cat_rows.specs.declared.catalogue.Catalogue.{Catalogue}
@@ -7,8 +6,6 @@ use Rattle.cat_rows.specs.declared.table.SysTable.{SysTable}
 use Rattle.cat_rows.specs.Catalogues.{rows_in}
 use Rattle.cat_rows.specs.Writing.{AreRowsOf}
 use Rattle.graph_parts.specs.declared.object.Obj.{Obj}
-use Rattle.graph_parts.specs.declared.object.ObjKind.{ObjKind}
-use Rattle.graph_parts.specs.declared.object.ObjKind.TheVariants as kind
 
 -- each table's rows can be written for it, as those that were read can
 abbrev pub HoldsCells : Catalogue → Type 0
@@ -17,7 +14,3 @@ HoldsCells cat = (table : SysTable) → AreRowsOf table (rows_in table cat)
 -- an object's name and that of its schema, where it has them
 abbrev pub IsNamed : Obj → Type 0
 IsNamed o = ForSome o.schema IsName × ForSome o.name IsName
-
-abbrev pub is_dummy : ObjKind → Bool
-is_dummy kind.Dummy = true
-is_dummy other = false

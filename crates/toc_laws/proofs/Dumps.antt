@@ -1,5 +1,5 @@
 -- The entries of a dump are stated, draft by draft.
-use Rattle.std.proofs.Common.{◌≡◌, ℕ, ◌+◌, true, false, List, [], ◌∷◌, ◌++◌, Option, Some, None, refl, sym, ap, subst, ◌∙◌, inl, inr, codes}
+use Rattle.std.proofs.Common.{◌≡◌, ℕ, ◌+◌, true, false, List, [], ◌∷◌, ◌++◌, Option, Some, None, refl, sym, subst, ◌∙◌, inl, inr, codes}
 use Rattle.std.specs.Prelude.{Bool, is_some, filter_map, if◌then◌else◌}
 use Rattle.std.specs.List.{AllByRecursion, enumerate_from, slice_index_or}
 use Rattle.std.specs.Option.{ForSome, option_and_then, option_map, option_to_list}
@@ -32,7 +32,6 @@ use Rattle.dump_grants.specs.Stmts.{grant_stmts, texts}
 use Rattle.dump_stmts.specs.Paths.{path_of, written}
 use Rattle.dump_stmts.specs.Stmts.{stmt_of_kind, defn_of}
 use Rattle.dump_stmts.specs.Sequences.{owned_stmt}
-use Rattle.dump_stmts.specs.Views.{dummy_body, dummy_stmt}
 use Rattle.dump_toc.specs.declared.draft.Draft.{Draft}
 use Rattle.dump_toc.specs.Owners.{owner_of}
 use Rattle.dump_toc.specs.Tags.{tag_of, desc_of, comment_tag, grants_tag}
@@ -45,7 +44,7 @@ use Rattle.dump_toc.specs.Numbers.{first_ids, entry_of, entries_from}
 use Rattle.dump_toc.specs.Session.{pre_data, database_entry, current_database, session_entries}
 use Rattle.dump_toc.specs.Toc.{standing_of, comment_drafts, drafts_at, taken_at, places_of, object_drafts, counts_of, granted_at, grants_of, drafts_of, toc_of}
 use Rattle.script_laws.specs.Scripts.{AllEntries, rows_of, IsStated}
-use Rattle.stmt_laws.specs.Named.{HoldsCells, is_dummy}
+use Rattle.stmt_laws.specs.Named.{HoldsCells}
 use Rattle.stmt_laws.proofs.Lists.{Known, known_so, known_map, found_has, seen_have, chosen_have}
 use Rattle.stmt_laws.proofs.Rows.{IsOf, rows_hold}
 use Rattle.stmt_laws.proofs.Objects.{TextLaws, given, kind_can, owned_can}
@@ -94,7 +93,7 @@ owned_ready law cat order o needs place holds schema tag can other = tt
 
 -- ---- grants
 
-object_known : (o : Obj) → Known IsName o.name → Known IsPath (path_of o) → (k : ObjKind) → Known IsObject (granted_as o k)
+pub object_known : (o : Obj) → Known IsName o.name → Known IsPath (path_of o) → (k : ObjKind) → Known IsObject (granted_as o k)
 object_known o name path kind.Schema = known_map IsName IsObject granted.Schema o.name name (λ n is. is)
 object_known o name path kind.UserType = known_map IsPath IsObject granted.Type (path_of o) path (λ q is. is)
 object_known o name path kind.Table = known_map IsPath IsObject granted.Table (path_of o) path (λ q is. is)
@@ -109,7 +108,7 @@ grants_ready law cat holds o schema place what is None can = tt
 grants_ready law cat holds o schema place what is (Some ss) can =
     beside_ready cat holds o schema (codes "ACL") (grants_tag what) (texts ss) 1 (place ∷ []) refl refl (grants_text what is) ss (texts_lay law ss (can ss refl))
 
-abbrev draft_by : Catalogue → Obj → ℕ → Option (Option (List AclItem)) → Option Bytes → Option Granted → Option Draft
+abbrev pub draft_by : Catalogue → Obj → ℕ → Option (Option (List AclItem)) → Option Bytes → Option Granted → Option Draft
 draft_by cat o place acl owner what = option_and_then (λ acl. option_and_then (λ owner. option_and_then (granted_draft cat o place owner acl) what) owner) acl
 
 -- a statement for grants can be written
@@ -120,7 +119,7 @@ mapped_kind : {A : Type 0} (f : A → Granted) (kind : GrantKind) → ((x : A) �
 mapped_kind f kind h None what e = absurd cc
 mapped_kind f kind h (Some x) what e = let same : f x ≡ what = cc e in subst (λ (w : Granted). kind_on w ≡ kind) same (h x)
 
-kind_same : (o : Obj) (k : ObjKind) (what : Granted) → granted_as o k ≡ Some what → kind_on what ≡ grant_kind k
+pub kind_same : (o : Obj) (k : ObjKind) (what : Granted) → granted_as o k ≡ Some what → kind_on what ≡ grant_kind k
 kind_same o kind.Schema what e = mapped_kind granted.Schema (grant_kind kind.Schema) (λ n. refl) o.name what e
 kind_same o kind.UserType what e = mapped_kind granted.Type (grant_kind kind.UserType) (λ q. refl) (path_of o) what e
 kind_same o kind.Table what e = mapped_kind granted.Table (grant_kind kind.Table) (λ q. refl) (path_of o) what e
@@ -129,7 +128,7 @@ kind_same o kind.Dummy what e = mapped_kind granted.Table (grant_kind kind.Dummy
 kind_same o kind.Sequence what e = mapped_kind granted.Sequence (grant_kind kind.Sequence) (λ q. refl) (path_of o) what e
 kind_same o other what e = absurd cc
 
-stmts_can : GrantLaw → (kind : GrantKind) (what : Granted) (owner : Bytes) (acl : Option (List AclItem)) → IsObject what → IsRoleName owner → kind_on what ≡ kind → ForSome acl (λ items. AllByRecursion (IsItem (kind_on what)) items) → ForSome (grant_stmts kind what owner acl) AllWritable
+pub stmts_can : GrantLaw → (kind : GrantKind) (what : Granted) (owner : Bytes) (acl : Option (List AclItem)) → IsObject what → IsRoleName owner → kind_on what ≡ kind → ForSome acl (λ items. AllByRecursion (IsItem (kind_on what)) items) → ForSome (grant_stmts kind what owner acl) AllWritable
 unfolding grant_stmts
 stmts_can law kind what owner None is role same items = λ ss e. absurd cc
 stmts_can law kind what owner (Some list) is role same items = λ ss e.
@@ -150,13 +149,10 @@ pub record Laws : Type 0 where
   pub text : TextLaws
   pub grants : GrantLaw
 
-pub stmt_known : (laws : Laws) (cat : Catalogue) (standing : List ℕ) (o : Obj) → HoldsCells cat → IsDumpable cat o → (k : ObjKind) → o.kind ≡ k → Known IsWritable (stmt_of_kind cat standing o k)
-unfolding dummy_stmt
-stmt_known laws cat standing o holds d kind.Dummy e =
-    known_map IsPath IsWritable (λ q. stmt.CreateView q (dummy_body cat o.id.oid)) (path_of o) (given laws.text cat o holds d.named).path (λ q path. (path, d.body (ap is_dummy e)))
-stmt_known laws cat standing o holds d other e = kind_can cat standing o (given laws.text cat o holds d.named) (known_so IsName o.name d.named.1) other refl
+pub stmt_known : (laws : Laws) (cat : Catalogue) (standing : List ℕ) (o : Obj) → HoldsCells cat → IsDumpable cat o → Known IsWritable (stmt_of_kind cat standing o o.kind)
+stmt_known laws cat standing o holds d = kind_can cat standing o (given laws.text cat o holds d.named) (known_so IsName o.name d.named.1) o.kind
 
-has_copy : (cat : Catalogue) (o : Obj) (k : ObjKind) → is_data k ≡ true → is_some (copy_of_kind cat o k) ≡ true
+pub has_copy : (cat : Catalogue) (o : Obj) (k : ObjKind) → is_data k ≡ true → is_some (copy_of_kind cat o k) ≡ true
 has_copy cat o kind.TableData e = refl
 has_copy cat o other e = absurd cc
 
@@ -170,7 +166,7 @@ object_ready laws cat standing o needs holds d rows has =
       desc = desc_text cat o;
       namespace = names_text o.schema (known_so IsName o.schema d.named.0);
       owner = owner_text cat holds o;
-      lays = λ e. object_says laws.spelled cat standing o rows o.kind (stmt_known laws cat standing o holds d o.kind refl) of_rows;
+      lays = λ e. object_says laws.spelled cat standing o rows o.kind (stmt_known laws cat standing o holds d) of_rows;
     }
 
 -- ---- all drafts
@@ -217,7 +213,7 @@ granted_ready laws cat select place holds d = elim (cases_Bool (is_in_sections s
   | inr isnt ↦ rw isnt tt
 ]
 
-placed_have : {A : Type 0} (P : A → Type 0) (n : ℕ) (xs : List A) → AllByRecursion P xs → AllByRecursion (λ (p : ℕ × A). P p.1) (enumerate_from n xs)
+pub placed_have : {A : Type 0} (P : A → Type 0) (n : ℕ) (xs : List A) → AllByRecursion P xs → AllByRecursion (λ (p : ℕ × A). P p.1) (enumerate_from n xs)
 placed_have P n [] all = tt
 placed_have P n (x ∷ xs) all = (all.0, placed_have P (n + 1) xs all.1)
 

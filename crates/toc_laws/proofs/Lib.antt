@@ -1,5 +1,5 @@
-mod Names
-mod Remarks
-mod Bodies
-mod Dumps
-mod Statements
+pub mod Names
+pub mod Remarks
+pub mod Bodies
+pub mod Dumps
+pub mod Statements

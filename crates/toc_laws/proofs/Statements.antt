@@ -52,7 +52,7 @@ says_so law owners e rows ss other lays =
     let r = law (body e rows) ss lays in
     rw other (ap (λ (x : List Stmt). x ++ owner_statements owners e) (ap found_in r.1 ∙ r.2))
 
-nobody : (r : Option Bytes) → given_to None r ≡ []
+pub nobody : (r : Option Bytes) → given_to None r ≡ []
 nobody None = refl
 nobody (Some role) = refl
 
@@ -79,7 +79,7 @@ pub object_says_so : LaidLaw → (laws : Laws) (cat : Catalogue) (standing : Lis
 unfolding object_draft body desc_of defn_of stmt_of
 object_says_so law laws cat standing o needs ids id owners rows holds d e =
     says_so law owners (entry_of ids id (object_draft cat standing o needs)) rows (option_to_list (stmt_of cat standing o)) (kind_plain cat o o.kind)
-    (object_lays laws.spelled cat standing o rows o.kind (stmt_known laws cat standing o holds d o.kind refl) e)
+    (object_lays laws.spelled cat standing o rows o.kind (stmt_known laws cat standing o holds d) e)
 
 data_body : (cat : Catalogue) (standing : List ℕ) (o : Obj) (rows : Option Bytes) (ss : List Stmt) (k : ObjKind) → is_data k ≡ true → Lays (copy_of cat o ++ text_or_none rows) ss → Lays (object_body cat standing o k rows) ss
 data_body cat standing o rows ss kind.TableData is lays = lays

@@ -5,14 +5,12 @@ use Rattle.std.specs.Option.{ForSome}
 use Rattle.cat_rows.specs.declared.catalogue.Catalogue.{Catalogue}
 use Rattle.cat_model.specs.declared.object.QName.{QName}
 use Rattle.cat_model.specs.Values.{Bytes}
-use Rattle.ddl_laws.specs.Respelling.{IsExpressionText}
 use Rattle.ddl_lines.specs.CopyRows.{AreRows}
 use Rattle.graph_parts.specs.declared.object.Obj.{Obj}
 use Rattle.graph_parts.specs.declared.object.ObjKind.{ObjKind}
 use Rattle.graph_parts.specs.declared.object.ObjKind.TheVariants as kind
 use Rattle.dep_sort.specs.Ordering.{Sorted}
 use Rattle.dump_stmts.specs.Paths.{path_of}
-use Rattle.dump_stmts.specs.Views.{dummy_body}
 use Rattle.dump_toc.specs.Owners.{owner_of}
 use Rattle.dump_toc.specs.Rights.{granted_as, acl_of}
 use Rattle.grant_laws.specs.Items.{kind_on, IsRoleName, IsItem}
@@ -20,7 +18,7 @@ use Rattle.acl_text.specs.declared.list.AclItem.{AclItem}
 use Rattle.cat_names.specs.declared.rights.GrantKind.{GrantKind}
 use Rattle.toc_entry.specs.declared.entry.Entry.{Entry}
 use Rattle.script_laws.specs.Scripts.{AllEntries, rows_of}
-use Rattle.stmt_laws.specs.Named.{HoldsCells, IsNamed, is_dummy}
+use Rattle.stmt_laws.specs.Named.{HoldsCells, IsNamed}
 
 abbrev pub is_data : ObjKind → Bool
 is_data kind.TableData = true
@@ -31,11 +29,10 @@ abbrev pub AreRights : GrantKind → Option (Option (List AclItem)) → Type 0
 AreRights kind acl = ForSome acl (λ list. ForSome list (λ items. AllByRecursion (IsItem kind) items))
 
 -- An object's names are names, the rows that it is are those of a path, its owner is a role and the rights on it are such as its
--- kind has, as in any well-formed catalogue; and the body of a dummy view, which isn't shown to be an expression, is one.
+-- kind has, as in any well-formed catalogue.
 pub record IsDumpable (cat : Catalogue) (o : Obj) : Type 0 where
   pub named : IsNamed o
   pub path : is_data o.kind ≡ true → (q : QName) × (path_of o ≡ Some q)
-  pub body : is_dummy o.kind ≡ true → IsExpressionText (dummy_body cat o.id.oid)
   pub owner : ForSome (owner_of cat o) IsRoleName
   pub rights : ForSome (granted_as o o.kind) (λ what. AreRights (kind_on what) (acl_of cat o o.kind))
 

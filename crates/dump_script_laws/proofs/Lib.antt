@@ -1,0 +1,9 @@
+pub mod Lists
+pub mod Rights
+pub mod Objects
+pub mod Links
+pub mod Orders
+pub mod Owners
+pub mod Said
+pub mod Behind
+pub mod Whole
