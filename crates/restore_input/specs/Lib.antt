@@ -1,0 +1,4 @@
+pub mod Inputs
+pub mod Answers
+pub mod Steps
+pub mod Laws

@@ -1,0 +1,4 @@
+pub mod Finding
+pub mod Lessening
+pub mod Histories
+pub mod Taking
