@@ -2,12 +2,32 @@
 use Rattle.std.proofs.Common.{◌≡◌, Option, Ok, ap, subst, ◌∙◌, Result, inl, inr}
 use Rattle.dump_ports.specs.Tree.{Tree}
 use Rattle.cat_model.specs.Values.{Bytes, Named}
-use Rattle.exports.specs.Exports.{Exported}
-use Rattle.openings.specs.Openings.{opened_folder, export_named}
+use Rattle.exports.specs.Exports.{Exported, export_of}
+use Rattle.openings.specs.Openings.{opened, opened_folder, export_named}
 use Rattle.tool_words.specs.declared.outcome.Outcome.{Outcome}
-use Rattle.tool_words.specs.declared.outcome.Outcome.TheVariants.{Done, Usage, ReadFault, WriteFault, Missing, BadExport, BadScript, OutOfProfile, TooLarge, Differs, ScriptStopped, Loop, NoMatch, Memory}
-use Rattle.tool_words.specs.Answers.{◌>>=◌}
+use Rattle.tool_words.specs.declared.outcome.Outcome.TheVariants.{Done, Usage, ReadFault, WriteFault, Missing, BadExport, BadScript, OutOfProfile, TooLarge, Differs, ScriptStopped, BadArchive, BadList, BadDefn, WithErrors, RestoreStopped, Loop, NoMatch, Memory}
+use Rattle.tool_words.specs.Answers.{◌>>=◌, IsDue}
+use Rattle.tool_words.proofs.Dues.{due_map}
 use Rattle.dump_tools.specs.Due.{Plan, Compares, second_due, compare_due, IsCarriedOut, WasDue, IsUnequal, IsAnswerDue}
+
+-- the export of the first folder was read
+pub export_read : (first second : Bytes) (tree : Tree) (export : Exported) → export_of first tree ≡ Ok export → compare_due first second tree ≡ (opened export >>= λ one. second_due one second tree)
+unfolding compare_due opened_folder
+export_read first second tree export e = ap (λ (r : Result Exported Outcome). (r >>= opened) >>= λ one. second_due one second tree) e
+
+pub export_opened : (first : Bytes) (tree : Tree) (export one : Exported) → export_of first tree ≡ Ok export → opened export ≡ Ok one → opened_folder first tree ≡ Ok one
+unfolding opened_folder
+export_opened first tree export one e is = ap (λ (r : Result Exported Outcome). r >>= opened) e ∙ is
+
+-- it wasn't, or it isn't an opening
+pub export_unread : (outcome : Outcome) (first second : Bytes) (tree : Tree) → IsDue outcome (export_of first tree) → IsDue outcome (compare_due first second tree)
+unfolding compare_due opened_folder
+export_unread outcome first second tree due =
+    due_map outcome (export_of first tree) (compare_due first second tree) (λ o e. ap (λ (r : Result Exported Outcome). (r >>= opened) >>= λ one. second_due one second tree) e) due
+
+pub export_refused : (outcome : Outcome) (first second : Bytes) (tree : Tree) (export : Exported) → export_of first tree ≡ Ok export → IsDue outcome (opened export) → IsDue outcome (compare_due first second tree)
+export_refused outcome first second tree export read due =
+    due_map outcome (opened export) (compare_due first second tree) (λ o e. export_read first second tree export read ∙ ap (λ (r : Result Exported Outcome). r >>= λ one. second_due one second tree) e) due
 
 -- the second folder was read
 pub second_read : (one : Exported) (second : Bytes) (tree : Tree) (other : Exported) → opened_folder second tree ≡ Ok other → second_due one second tree ≡ Ok (Compares (export_named one) (export_named other))
@@ -41,6 +61,11 @@ unequal_due (OutOfProfile what) a b due e u = elim u [ ]
 unequal_due (TooLarge what most) a b due e u = elim u [ ]
 unequal_due (Differs key) a b due e u = inr (inl (record { a = a; b = b; is_due = e; least = u }))
 unequal_due (ScriptStopped stop) a b due e u = elim u [ ]
+unequal_due (BadArchive fault) a b due e u = elim u [ ]
+unequal_due (BadList fault) a b due e u = elim u [ ]
+unequal_due (BadDefn entry fault) a b due e u = elim u [ ]
+unequal_due (WithErrors errors) a b due e u = elim u [ ]
+unequal_due (RestoreStopped stop) a b due e u = elim u [ ]
 unequal_due (Loop path) a b due e u = elim u [ ]
 unequal_due (NoMatch pattern) a b due e u = elim u [ ]
 unequal_due Memory a b due e u = inl tt

@@ -2,7 +2,7 @@
 use Rattle.std.proofs.Common.{◌≡◌, ℕ, ◌≤◌, Result, Ok, Err, IfErr, refl, subst, ◌⊎◌, inl, inr, arith}
 use Rattle.dump_ports.specs.Faults.{HasRisen, HasNotRisen}
 use Rattle.tool_words.specs.declared.outcome.Outcome.{Outcome}
-use Rattle.tool_words.specs.declared.outcome.Outcome.TheVariants.{Done, Usage, ReadFault, WriteFault, Missing, BadExport, BadScript, OutOfProfile, TooLarge, Differs, ScriptStopped, Loop, NoMatch, Memory}
+use Rattle.tool_words.specs.declared.outcome.Outcome.TheVariants.{Done, Usage, ReadFault, WriteFault, Missing, BadExport, BadScript, OutOfProfile, TooLarge, Differs, ScriptStopped, BadArchive, BadList, BadDefn, WithErrors, RestoreStopped, Loop, NoMatch, Memory}
 use Rattle.tool_words.specs.Answers.{CountsRead}
 use Rattle.dump_tools.specs.Due.{Counts, counts, NoneRose, NoneFell, Counted, CountsStep, CountsWrites, IsUnread}
 
@@ -22,6 +22,11 @@ counted_reading X (OutOfProfile what) r r' i i' w w' p p' l l' c e a d b = alike
 counted_reading X (TooLarge what most) r r' i i' w w' p p' l l' c e a d b = alike r r' i i' w w' p p' l l' c e a d b
 counted_reading X (Differs key) r r' i i' w w' p p' l l' c e a d b = alike r r' i i' w w' p p' l l' c e a d b
 counted_reading X (ScriptStopped stop) r r' i i' w w' p p' l l' c e a d b = alike r r' i i' w w' p p' l l' c e a d b
+counted_reading X (BadArchive fault) r r' i i' w w' p p' l l' c e a d b = alike r r' i i' w w' p p' l l' c e a d b
+counted_reading X (BadList fault) r r' i i' w w' p p' l l' c e a d b = alike r r' i i' w w' p p' l l' c e a d b
+counted_reading X (BadDefn entry fault) r r' i i' w w' p p' l l' c e a d b = alike r r' i i' w w' p p' l l' c e a d b
+counted_reading X (WithErrors errors) r r' i i' w w' p p' l l' c e a d b = alike r r' i i' w w' p p' l l' c e a d b
+counted_reading X (RestoreStopped stop) r r' i i' w w' p p' l l' c e a d b = alike r r' i i' w w' p p' l l' c e a d b
 counted_reading X (Loop path) r r' i i' w w' p p' l l' c e a d b = alike r r' i i' w w' p p' l l' c e a d b
 counted_reading X (NoMatch pattern) r r' i i' w w' p p' l l' c e a d b = alike r r' i i' w w' p p' l l' c e a d b
 counted_reading X Memory r r' i i' w w' p p' l l' c e a d b = alike r r' i i' w w' p p' l l' c e a d b
@@ -39,6 +44,11 @@ counted_input X (OutOfProfile what) r r' i i' w w' p p' l l' e c a d b = alike r
 counted_input X (TooLarge what most) r r' i i' w w' p p' l l' e c a d b = alike r r' i i' w w' p p' l l' e c a d b
 counted_input X (Differs key) r r' i i' w w' p p' l l' e c a d b = alike r r' i i' w w' p p' l l' e c a d b
 counted_input X (ScriptStopped stop) r r' i i' w w' p p' l l' e c a d b = alike r r' i i' w w' p p' l l' e c a d b
+counted_input X (BadArchive fault) r r' i i' w w' p p' l l' e c a d b = alike r r' i i' w w' p p' l l' e c a d b
+counted_input X (BadList fault) r r' i i' w w' p p' l l' e c a d b = alike r r' i i' w w' p p' l l' e c a d b
+counted_input X (BadDefn entry fault) r r' i i' w w' p p' l l' e c a d b = alike r r' i i' w w' p p' l l' e c a d b
+counted_input X (WithErrors errors) r r' i i' w w' p p' l l' e c a d b = alike r r' i i' w w' p p' l l' e c a d b
+counted_input X (RestoreStopped stop) r r' i i' w w' p p' l l' e c a d b = alike r r' i i' w w' p p' l l' e c a d b
 counted_input X (Loop path) r r' i i' w w' p p' l l' e c a d b = alike r r' i i' w w' p p' l l' e c a d b
 counted_input X (NoMatch pattern) r r' i i' w w' p p' l l' e c a d b = alike r r' i i' w w' p p' l l' e c a d b
 counted_input X Memory r r' i i' w w' p p' l l' e c a d b = alike r r' i i' w w' p p' l l' e c a d b
@@ -60,6 +70,11 @@ counted_writing X (OutOfProfile what) r r' i w w' p l l' late e c = alike r r' i
 counted_writing X (TooLarge what most) r r' i w w' p l l' late e c = alike r r' i i w w' p p l l' e refl c.0 refl c.1
 counted_writing X (Differs key) r r' i w w' p l l' late e c = alike r r' i i w w' p p l l' e refl c.0 refl c.1
 counted_writing X (ScriptStopped stop) r r' i w w' p l l' late e c = alike r r' i i w w' p p l l' e refl c.0 refl c.1
+counted_writing X (BadArchive fault) r r' i w w' p l l' late e c = alike r r' i i w w' p p l l' e refl c.0 refl c.1
+counted_writing X (BadList fault) r r' i w w' p l l' late e c = alike r r' i i w w' p p l l' e refl c.0 refl c.1
+counted_writing X (BadDefn entry fault) r r' i w w' p l l' late e c = alike r r' i i w w' p p l l' e refl c.0 refl c.1
+counted_writing X (WithErrors errors) r r' i w w' p l l' late e c = alike r r' i i w w' p p l l' e refl c.0 refl c.1
+counted_writing X (RestoreStopped stop) r r' i w w' p l l' late e c = alike r r' i i w w' p p l l' e refl c.0 refl c.1
 counted_writing X (Loop path) r r' i w w' p l l' late e c = alike r r' i i w w' p p l l' e refl c.0 refl c.1
 counted_writing X (NoMatch pattern) r r' i w w' p l l' late e c = alike r r' i i w w' p p l l' e refl c.0 refl c.1
 counted_writing X Memory r r' i w w' p l l' late e c = alike r r' i i w w' p p l l' e refl c.0 refl c.1
@@ -90,6 +105,11 @@ fell (OutOfProfile what) a b c = rw c (record { reads = omega arith; inputs = om
 fell (TooLarge what most) a b c = rw c (record { reads = omega arith; inputs = omega arith; writes = omega arith; prints = omega arith; lines = omega arith })
 fell (Differs key) a b c = rw c (record { reads = omega arith; inputs = omega arith; writes = omega arith; prints = omega arith; lines = omega arith })
 fell (ScriptStopped stop) a b c = rw c (record { reads = omega arith; inputs = omega arith; writes = omega arith; prints = omega arith; lines = omega arith })
+fell (BadArchive fault) a b c = rw c (record { reads = omega arith; inputs = omega arith; writes = omega arith; prints = omega arith; lines = omega arith })
+fell (BadList fault) a b c = rw c (record { reads = omega arith; inputs = omega arith; writes = omega arith; prints = omega arith; lines = omega arith })
+fell (BadDefn entry fault) a b c = rw c (record { reads = omega arith; inputs = omega arith; writes = omega arith; prints = omega arith; lines = omega arith })
+fell (WithErrors errors) a b c = rw c (record { reads = omega arith; inputs = omega arith; writes = omega arith; prints = omega arith; lines = omega arith })
+fell (RestoreStopped stop) a b c = rw c (record { reads = omega arith; inputs = omega arith; writes = omega arith; prints = omega arith; lines = omega arith })
 fell (Loop path) a b c = rw c (record { reads = omega arith; inputs = omega arith; writes = omega arith; prints = omega arith; lines = omega arith })
 fell (NoMatch pattern) a b c = rw c (record { reads = omega arith; inputs = omega arith; writes = omega arith; prints = omega arith; lines = omega arith })
 fell Memory a b c = rw c (record { reads = omega arith; inputs = omega arith; writes = omega arith; prints = omega arith; lines = omega arith })

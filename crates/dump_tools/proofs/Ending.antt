@@ -14,7 +14,7 @@ use Rattle.saved_folders.specs.Exports.{WithTexts}
 use Rattle.script_runs.specs.Stopping.{ending}
 use Rattle.script_runs.specs.Writing.{IsUnwritten, StandFor}
 use Rattle.tool_words.specs.declared.outcome.Outcome.{Outcome}
-use Rattle.tool_words.specs.declared.outcome.Outcome.TheVariants.{Done, Usage, ReadFault, WriteFault, Missing, BadExport, BadScript, OutOfProfile, TooLarge, Differs, ScriptStopped, Loop, NoMatch, Memory}
+use Rattle.tool_words.specs.declared.outcome.Outcome.TheVariants.{Done, Usage, ReadFault, WriteFault, Missing, BadExport, BadScript, OutOfProfile, TooLarge, Differs, ScriptStopped, BadArchive, BadList, BadDefn, WithErrors, RestoreStopped, Loop, NoMatch, Memory}
 use Rattle.tool_words.specs.Answers.{IsDue}
 use Rattle.dump_tools.specs.Runs.{IsEarly}
 use Rattle.dump_tools.specs.Due.{Application, Comes, Applied, Running, Runs, Leaves, IsAnswerDue}
@@ -62,6 +62,11 @@ unmade_due (OutOfProfile what) plan h = inr (inr (h, (plan, refl)))
 unmade_due (TooLarge what most) plan h = inr (inr (plan, refl))
 unmade_due (Differs key) plan h = elim h [ ]
 unmade_due (ScriptStopped stop) plan h = elim h [ ]
+unmade_due (BadArchive fault) plan h = elim h [ ]
+unmade_due (BadList fault) plan h = elim h [ ]
+unmade_due (BadDefn entry fault) plan h = elim h [ ]
+unmade_due (WithErrors errors) plan h = elim h [ ]
+unmade_due (RestoreStopped stop) plan h = elim h [ ]
 unmade_due (Loop path) plan h = elim h [ ]
 unmade_due (NoMatch pattern) plan h = elim h [ ]
 unmade_due Memory plan h = inl tt
@@ -99,6 +104,11 @@ early_due (OutOfProfile what) due e = elim e [ ]
 early_due (TooLarge what most) due e = elim e [ ]
 early_due (Differs key) due e = elim e [ ]
 early_due (ScriptStopped stop) due e = elim e [ ]
+early_due (BadArchive fault) due e = elim e [ ]
+early_due (BadList fault) due e = elim e [ ]
+early_due (BadDefn entry fault) due e = elim e [ ]
+early_due (WithErrors errors) due e = elim e [ ]
+early_due (RestoreStopped stop) due e = elim e [ ]
 early_due (Loop path) due e = elim e [ ]
 early_due (NoMatch pattern) due e = elim e [ ]
 early_due Memory due e = tt

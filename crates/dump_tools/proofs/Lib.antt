@@ -9,4 +9,6 @@ pub mod Taking
 pub mod Scripting
 mod Carried
 mod Printed
+pub mod Pieces
+pub mod Archives
 pub mod CutOff

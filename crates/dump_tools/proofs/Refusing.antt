@@ -19,7 +19,7 @@ use Rattle.ddl_read.specs.declared.located.Located.{Located}
 use Rattle.ddl_read.specs.Reading.{statements_of}
 use Rattle.schema_folders.specs.declared.schemas.SchemaRow.{SchemaRow}
 use Rattle.tool_words.specs.declared.outcome.Limit.{Limit}
-use Rattle.tool_words.specs.declared.outcome.Limit.TheVariants.{Script}
+use Rattle.tool_words.specs.declared.outcome.Limit.TheVariants.{Script, Archive as ArchiveLimit}
 use Rattle.tool_words.specs.declared.outcome.Outcome.{Outcome}
 use Rattle.tool_words.specs.declared.outcome.Outcome.TheVariants.{Done, OutOfProfile, TooLarge}
 use Rattle.tool_words.specs.Answers.{◌>>=◌}
@@ -27,10 +27,16 @@ use Rattle.command_line.specs.declared.command.Command.{Command}
 use Rattle.command_line.specs.declared.usage.UsageFault.{UsageFault}
 use Rattle.command_line.specs.Usage.{command_from}
 use Rattle.tool_words.specs.declared.words.Asked.{Asked}
-use Rattle.tool_words.specs.declared.words.Asked.TheVariants.{Psql, Dump, Compare}
+use Rattle.tool_words.specs.declared.words.Asked.TheVariants.{Psql, Dump, Archive, Compare}
 use Rattle.tool_words.specs.declared.words.ScriptSource.{ScriptSource}
 use Rattle.tool_words.specs.declared.words.ScriptSource.TheVariants.{File, Input}
 use Rattle.tool_words.specs.declared.words.DumpAsked.{DumpAsked}
+use Rattle.tool_words.specs.declared.words.ArchiveAsked.{ArchiveAsked}
+use Rattle.command_line.specs.declared.command.RestoreWords.{RestoreWords}
+use Rattle.restore_texts.specs.Texts.{custom_due, archive_due}
+use Rattle.restore_words.specs.Words.{options_of, format_of}
+use Rattle.restore_outcomes.specs.Texts.{wish_of, path_text, input_text}
+use Rattle.restore_outcomes.proofs.Passing.{told_never as archive_never}
 use Rattle.tool_words.specs.Words.{asked_of, built, asked_by, words_asked}
 use Rattle.schema_folders.specs.Naming.{boot}
 use Rattle.dump_ports.specs.declared.moment.Moment.{Moment}
@@ -56,7 +62,7 @@ use Rattle.schema_folders.specs.Folder.{is_bare, schemas_of, opening_in, opening
 use Rattle.tool_words.specs.Outcomes.{fault_outcome}
 use Rattle.exports.specs.Cells.{catalogue_with}
 use Rattle.exports.specs.Exports.{Exported, formed_of, told, well_formed, have_rows, export_with, export_of}
-use Rattle.dump_tools.specs.Due.{Plan, script_limit, input_of, source_of, scripted, script_read, schemas_for, runs_as, plan_with, plan_for, text_due, psql_due, database, dump_row, counted, whole_schemas, printed_due, is_printed_script, catalogue_due, folder_due, dump_due, second_due, compare_due, asked_due, due}
+use Rattle.dump_tools.specs.Due.{Plan, script_limit, input_of, source_of, scripted, script_read, schemas_for, runs_as, plan_with, plan_for, text_due, psql_due, database, dump_row, counted, whole_schemas, printed_due, is_printed_script, catalogue_due, folder_due, dump_due, text_of_input, text_of_archive, restore_due, second_due, compare_due, asked_due, due}
 
 same : (A B : Type 0) (o : Outcome) → ◌≡◌ {A = Result B Outcome} (Err o) (Err Done) → ◌≡◌ {A = Result A Outcome} (Err o) (Err Done)
 same A B o e = ap Err (inner B o e)
@@ -230,6 +236,29 @@ dump_never asked moment tree e = by (is_printed_script asked) e
     by true h = folder_due_never asked moment tree h
     by false h = cc
 
+path_never : (words : RestoreWords) (path : Bytes) (tree : Tree) → path_text words path tree ≡ Err Done → ⊥
+unfolding path_text
+path_never words path tree e = archive_never (archive_due (wish_of words) (options_of words) words.use_list (format_of words.format) tree path) e
+
+bytes_never : (words : RestoreWords) (bytes : Bytes) (tree : Tree) → input_text words bytes tree ≡ Err Done → ⊥
+unfolding input_text
+bytes_never words bytes tree e = archive_never (custom_due (wish_of words) (options_of words) words.use_list tree bytes) e
+
+input_text_never : (words : RestoreWords) (tree : Tree) (input : Bytes) → text_of_input words tree input ≡ Err Done → ⊥
+unfolding text_of_input
+input_text_never words tree input e =
+    bind_never (input_of ArchiveLimit script_limit input) (λ bytes. input_text words bytes tree) (input_never ArchiveLimit script_limit input) (λ bytes h. bytes_never words bytes tree h) e
+
+archive_text_never : (archive : Option Bytes) (words : RestoreWords) (tree : Tree) (input : Bytes) → text_of_archive archive words tree input ≡ Err Done → ⊥
+unfolding text_of_archive
+archive_text_never (Some path) words tree input e = path_never words path tree e
+archive_text_never None words tree input e = input_text_never words tree input e
+
+restore_never : (asked : ArchiveAsked) (tree : Tree) (input : Bytes) → restore_due asked tree input ≡ Err Done → ⊥
+unfolding restore_due
+restore_never asked tree input e =
+    bind_never (text_of_archive asked.archive asked.words tree input) _ (archive_text_never asked.archive asked.words tree input) (λ text h. ok_never _ h) e
+
 second_never : (one : Exported) (second : Bytes) (tree : Tree) → second_due one second tree ≡ Err Done → ⊥
 unfolding second_due
 second_never one second tree e = bind_never (opened_folder second tree) _ (folder_never second tree) (λ other h. ok_never _ h) e
@@ -242,6 +271,7 @@ compare_never first second tree e =
 asked_never : (asked : Asked) (moment : Moment) (tree : Tree) (input : Bytes) → asked_due asked moment tree input ≡ Err Done → ⊥
 asked_never (Psql folder script stop) moment tree input e = psql_never folder script stop tree input e
 asked_never (Dump asked) moment tree input e = dump_never asked moment tree e
+asked_never (Archive asked) moment tree input e = restore_never asked tree input e
 asked_never (Compare first second) moment tree input e = compare_never first second tree e
 
 built_never : (asked : Option Asked) → built asked ≡ Err Done → ⊥

@@ -7,7 +7,7 @@ use Rattle.cat_model.specs.Values.{Bytes}
 use Rattle.tool_words.specs.declared.outcome.Limit.{Limit}
 use Rattle.tool_words.specs.declared.outcome.Limit.TheVariants.{Script}
 use Rattle.tool_words.specs.declared.outcome.Outcome.{Outcome}
-use Rattle.tool_words.specs.declared.outcome.Outcome.TheVariants.{Done, Usage, ReadFault, WriteFault, Missing, BadExport, BadScript, OutOfProfile, TooLarge, Differs, ScriptStopped, Loop, NoMatch, Memory}
+use Rattle.tool_words.specs.declared.outcome.Outcome.TheVariants.{Done, Usage, ReadFault, WriteFault, Missing, BadExport, BadScript, OutOfProfile, TooLarge, Differs, ScriptStopped, BadArchive, BadList, BadDefn, WithErrors, RestoreStopped, Loop, NoMatch, Memory}
 use Rattle.tool_words.specs.declared.words.Asked.{Asked}
 use Rattle.tool_words.specs.declared.words.ScriptSource.{ScriptSource}
 use Rattle.tool_words.specs.declared.words.ScriptSource.TheVariants.{File, Input}
@@ -34,11 +34,11 @@ front_left : (n : ℕ) (input : Bytes) (before after : Option Bytes) → before 
 front_left n input before after e f = left_then (length (take n input)) input before after e (f ∙ ap Some (sym (drop_front n input)))
 
 -- all of the input was taken
-whole_taken : (input : Bytes) (before after : Option Bytes) → before ≡ Some input → after ≡ Some (drop (length input) input) → HasTaken (Some input) before after
+pub whole_taken : (input : Bytes) (before after : Option Bytes) → before ≡ Some input → after ≡ Some (drop (length input) input) → HasTaken (Some input) before after
 whole_taken input before after e f = (input, all_taken input, left_then (length input) input before after e f)
 
 -- some first part was
-part_taken : (input : Bytes) (before after : Option Bytes) → before ≡ Some input → (n : ℕ) × (after ≡ Some (drop n input)) → TakesPart (Some input) before after
+pub part_taken : (input : Bytes) (before after : Option Bytes) → before ≡ Some input → (n : ℕ) × (after ≡ Some (drop n input)) → TakesPart (Some input) before after
 part_taken input before after e h = (take h.0 input, drop h.0 input, sym (take-append-drop h.0 input), front_left h.0 input before after e h.1)
 
 -- a refusal that is due
@@ -54,6 +54,11 @@ is_due (OutOfProfile what) due late d = d
 is_due (TooLarge what n) due late d = d
 is_due (Differs key) due late d = d
 is_due (ScriptStopped stop) due late d = d
+is_due (BadArchive fault) due late d = d
+is_due (BadList fault) due late d = d
+is_due (BadDefn entry fault) due late d = d
+is_due (WithErrors errors) due late d = d
+is_due (RestoreStopped stop) due late d = d
 is_due (Loop path) due late d = d
 is_due (NoMatch pattern) due late d = d
 is_due Memory due late d = elim (late tt) [ ]
@@ -68,26 +73,31 @@ too_long outcome what limit input e h =
     let both : ◌≡◌ {A = Result Bytes Outcome} (Ok input) (Err outcome) = sym (within what limit input h) ∙ e in
     cc
 
-refused_taken : (outcome : Outcome) (input : Bytes) (before after : Option Bytes) → before ≡ Some input → IsDue outcome (input_of Script script_limit input) → (n : ℕ) × (after ≡ Some (drop n input)) → (IsEarly outcome → ⊥) → HasTaken (Some input) before after
-refused_taken outcome input before after e d h late = (
+pub refused_taken : (outcome : Outcome) (what : Limit) (input : Bytes) (before after : Option Bytes) → before ≡ Some input → IsDue outcome (input_of what script_limit input) → (n : ℕ) × (after ≡ Some (drop n input)) → (IsEarly outcome → ⊥) → HasTaken (Some input) before after
+refused_taken outcome what input before after e d h late = (
   take h.0 input,
   record {
     rest = drop h.0 input;
     split = sym (take-append-drop h.0 input);
-    whole = λ short. elim (too_long outcome Script script_limit input (is_due outcome (input_of Script script_limit input) late d) short) [ ];
+    whole = λ short. elim (too_long outcome what script_limit input (is_due outcome (input_of what script_limit input) late d) short) [ ];
   },
   front_left h.0 input before after e h.1,
 )
 
 -- the same of all that reading standard input tells
+pub step_taken : {X : Type 0} (view : X → Bytes) (r : Result X Outcome) (what : Limit) (input : Bytes) (before after : Option Bytes) → before ≡ Some input → Gives view r (input_of what script_limit input)
+    → IfOk r (λ text. (bytes : Bytes) → before ≡ Some bytes → after ≡ Some (drop (length bytes) bytes))
+    → (n : ℕ) × (after ≡ Some (drop n input)) → StepTakes r (Some input) before after
+step_taken view (Ok text) what input before after e due whole part = whole_taken input before after e (whole input e)
+step_taken view (Err outcome) what input before after e due whole part = λ late. refused_taken outcome what input before after e due part late
+
 pub input_taken : {X : Type 0} (view : X → Bytes) (r : Result X Outcome) (script : ScriptSource) (before after : Option Bytes) → script ≡ Input
     → ((bytes : Bytes) → before ≡ Some bytes → Gives view r (input_of Script script_limit bytes))
     → IfOk r (λ text. (bytes : Bytes) → before ≡ Some bytes → after ≡ Some (drop (length bytes) bytes))
     → ((bytes : Bytes) → before ≡ Some bytes → (n : ℕ) × (after ≡ Some (drop n bytes)))
     → (input : Bytes) → TellsLeft (is_input script) before input → StepTakes r (where_read (is_input script) input) before after
 input_taken view r (File name) before after is due whole part input tells = absurd cc
-input_taken view (Ok text) Input before after is due whole part input tells = whole_taken input before after (tells refl) (whole input (tells refl))
-input_taken view (Err outcome) Input before after is due whole part input tells = λ late. refused_taken outcome input before after (tells refl) (due input (tells refl)) (part input (tells refl)) late
+input_taken view r Input before after is due whole part input tells = step_taken view r Script input before after (tells refl) (due input (tells refl)) whole (part input (tells refl))
 
 pub input_part : (script : ScriptSource) (before after : Option Bytes) → script ≡ Input
     → ((bytes : Bytes) → before ≡ Some bytes → (n : ℕ) × (after ≡ Some (drop n bytes)))

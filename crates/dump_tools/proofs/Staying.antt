@@ -13,13 +13,15 @@ use Rattle.tool_words.specs.declared.outcome.Outcome.{Outcome}
 use Rattle.tool_words.specs.declared.words.Teller.{Teller}
 use Rattle.schema_folders.specs.Folder.{IsElsewhere, all_tables, table_written, table_files, marker_written, files_written}
 use Rattle.saved_folders.specs.Files.{File}
-use Rattle.dump_tools.specs.Outputs.{World, Output, Stores, Writes, Tells, Takes, with_text, performed, all_performed, IsPart, IsCut, CutShort, stores}
+use Rattle.dump_tools.specs.Outputs.{World, Output, Stores, Writes, Tells, Takes, with_text, performed, all_performed, IsPart, IsCut, CutShort, stores, Piece}
 use Rattle.std.specs.List.{AllByRecursion}
 use Rattle.saved_folders.specs.Folders.{files_of}
-use Rattle.dump_tools.specs.Runs.{Run, IsCompared, dumped_by, MayBeRun, MayCome, MayRun}
-use Rattle.dump_tools.specs.Due.{Plan, Applies, Running, Runs, Prints, Dumps, Compares, report_of, report_of_run}
+use Rattle.dump_tools.specs.Runs.{Run, IsCompared, dumped_by, put_by, MayBeRun, MayCome, MayRun}
+use Rattle.dump_tools.specs.Due.{Plan, Applies, Running, Runs, Prints, Dumps, Puts, Compares, dump_line, report_of, report_of_run}
 use Rattle.dump_tools.specs.Stays.{IsOther, AreOthers, Keeps, IsSilent, AreSilent, TakesNone, AllTakeNone}
+use Rattle.dump_plans.specs.Outcomes.{bad_row_outcome}
 use Rattle.dump_tools.proofs.Taking.{came}
+use Rattle.dump_tools.proofs.Pieces.{pieces_none, all_none}
 
 not_tied : (a b : Bytes) (o : Ordering) → bytes_cmp a b ≡ o → a ≢ b → is_eq o ≡ false
 not_tied a b Less e n = refl
@@ -192,12 +194,17 @@ dumped_none : (text : Bytes) (bad : Option BadRow) (run : Run) → dumped_by tex
 dumped_none text None run may = subst (λ (r : Run). AllTakeNone r.outputs) (sym may) (tt, tt)
 dumped_none text (Some bad) run may = subst (λ (r : Run). AllTakeNone r.outputs) (sym may.3) (tt, (tt, tt))
 
+put_none : (pieces : List Piece) (bad : Option BadRow) (run : Run) → put_by pieces bad run → AllTakeNone run.outputs
+put_none pieces None run may = subst (λ (r : Run). AllTakeNone r.outputs) (sym may) (all_none pieces)
+put_none pieces (Some bad) run may = subst (λ (r : Run). AllTakeNone r.outputs) (sym may.2) (pieces_none may.0 (Tells (dump_line (bad_row_outcome bad)) ∷ []) (tt, tt))
+
 pub later_none : (teller : Teller) (due : Result Plan Outcome) (run : Run) → MayCome teller due run → AllTakeNone run.outputs
 later_none teller (Err refusal) run may = subst (λ (r : Run). AllTakeNone r.outputs) (sym may) (tt, tt)
 later_none teller (Ok (Applies plan)) run may = subst (λ (r : Run). AllTakeNone r.outputs) (sym may.is) (stored_none (files_written plan.folder may.text) (report_of plan))
 later_none teller (Ok (Runs plan)) run may = run_none teller plan run may
 later_none teller (Ok (Prints text)) run may = subst (λ (r : Run). AllTakeNone r.outputs) (sym may) (tt, tt)
 later_none teller (Ok (Dumps dump)) run may = dumped_none dump.text dump.bad run may
+later_none teller (Ok (Puts plan)) run may = put_none plan.pieces plan.bad run may
 later_none teller (Ok (Compares a b)) run may = compared_none teller a b run may
 
 pub unread_none : (teller : Teller) (due : Result Plan Outcome) (run : Run) → MayRun None teller due run → AllTakeNone run.outputs

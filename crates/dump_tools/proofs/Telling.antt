@@ -5,7 +5,7 @@ use Rattle.dump_ports.specs.Faults.{HasRisen}
 use Rattle.dump_ports.specs.declared.moment.Moment.{Moment}
 use Rattle.cat_model.specs.Values.{Bytes}
 use Rattle.tool_words.specs.declared.outcome.Outcome.{Outcome}
-use Rattle.tool_words.specs.declared.outcome.Outcome.TheVariants.{Done, Usage, ReadFault, WriteFault, Missing, BadExport, BadScript, OutOfProfile, TooLarge, Differs, ScriptStopped, Loop, NoMatch, Memory}
+use Rattle.tool_words.specs.declared.outcome.Outcome.TheVariants.{Done, Usage, ReadFault, WriteFault, Missing, BadExport, BadScript, OutOfProfile, TooLarge, Differs, ScriptStopped, BadArchive, BadList, BadDefn, WithErrors, RestoreStopped, Loop, NoMatch, Memory}
 use Rattle.tool_words.specs.declared.words.Teller.{Teller}
 use Rattle.tool_words.specs.Words.{teller_of}
 use Rattle.tool_words.specs.Answers.{IsRefusal, IsTold}
@@ -35,6 +35,11 @@ may_differ teller d (OutOfProfile what, h) = elim h [ ]
 may_differ teller d (TooLarge what most, h) = elim h [ ]
 may_differ teller d (Differs key, h) = subst (λ r. MayCome teller r (told_run teller (Differs key))) (sym h.is_due) (inr (key, h.least, refl))
 may_differ teller d (ScriptStopped stop, h) = elim h [ ]
+may_differ teller d (BadArchive fault, h) = elim h [ ]
+may_differ teller d (BadList fault, h) = elim h [ ]
+may_differ teller d (BadDefn entry fault, h) = elim h [ ]
+may_differ teller d (WithErrors errors, h) = elim h [ ]
+may_differ teller d (RestoreStopped stop, h) = elim h [ ]
 may_differ teller d (Loop path, h) = elim h [ ]
 may_differ teller d (NoMatch pattern, h) = elim h [ ]
 may_differ teller d (Memory, h) = elim h [ ]
@@ -55,6 +60,11 @@ may_stop teller d (OutOfProfile what, h) = may_be_unmade teller d (OutOfProfile 
 may_stop teller d (TooLarge what most, h) = may_be_unmade teller d (TooLarge what most) tt h
 may_stop teller d (Differs key, h) = elim h [ ]
 may_stop teller d (ScriptStopped stop, h) = elim h [ ]
+may_stop teller d (BadArchive fault, h) = elim h [ ]
+may_stop teller d (BadList fault, h) = elim h [ ]
+may_stop teller d (BadDefn entry fault, h) = elim h [ ]
+may_stop teller d (WithErrors errors, h) = elim h [ ]
+may_stop teller d (RestoreStopped stop, h) = elim h [ ]
 may_stop teller d (Loop path, h) = elim h [ ]
 may_stop teller d (NoMatch pattern, h) = elim h [ ]
 may_stop teller d (Memory, h) = elim h [ ]
@@ -74,6 +84,11 @@ may_tell teller d (OutOfProfile what) n (inl e) = inr (may_refuse teller d (OutO
 may_tell teller d (TooLarge what most) n (inl e) = inr (may_refuse teller d (TooLarge what most) e)
 may_tell teller d (Differs key) n (inl e) = inr (may_refuse teller d (Differs key) e)
 may_tell teller d (ScriptStopped stop) n (inl e) = inr (may_refuse teller d (ScriptStopped stop) e)
+may_tell teller d (BadArchive fault) n (inl e) = inr (may_refuse teller d (BadArchive fault) e)
+may_tell teller d (BadList fault) n (inl e) = inr (may_refuse teller d (BadList fault) e)
+may_tell teller d (BadDefn entry fault) n (inl e) = inr (may_refuse teller d (BadDefn entry fault) e)
+may_tell teller d (WithErrors errors) n (inl e) = inr (may_refuse teller d (WithErrors errors) e)
+may_tell teller d (RestoreStopped stop) n (inl e) = inr (may_refuse teller d (RestoreStopped stop) e)
 may_tell teller d (Loop path) n (inl e) = inr (may_refuse teller d (Loop path) e)
 may_tell teller d (NoMatch pattern) n (inl e) = inr (may_refuse teller d (NoMatch pattern) e)
 may_tell teller d Memory n (inl e) = inl tt
@@ -93,6 +108,11 @@ refuses d (OutOfProfile what) n h late = (tt, tt)
 refuses d (TooLarge what most) n h late = (tt, tt)
 refuses d (Differs key) n h late = (tt, tt)
 refuses d (ScriptStopped stop) n h late = (tt, tt)
+refuses d (BadArchive fault) n h late = (tt, tt)
+refuses d (BadList fault) n h late = (tt, tt)
+refuses d (BadDefn entry fault) n h late = (tt, tt)
+refuses d (WithErrors errors) n h late = (tt, tt)
+refuses d (RestoreStopped stop) n h late = (tt, tt)
 refuses d (Loop path) n h late = (tt, tt)
 refuses d (NoMatch pattern) n h late = (tt, tt)
 refuses d Memory n h late = elim (late tt) [ ]
@@ -113,6 +133,11 @@ as_answered (OutOfProfile what) words moment tree input before after lines lines
 as_answered (TooLarge what most) words moment tree input before after lines lines_after e w = w (λ h. h)
 as_answered (Differs key) words moment tree input before after lines lines_after e w = w (λ h. h)
 as_answered (ScriptStopped stop) words moment tree input before after lines lines_after e w = w (λ h. h)
+as_answered (BadArchive fault) words moment tree input before after lines lines_after e w = w (λ h. h)
+as_answered (BadList fault) words moment tree input before after lines lines_after e w = w (λ h. h)
+as_answered (BadDefn entry fault) words moment tree input before after lines lines_after e w = w (λ h. h)
+as_answered (WithErrors errors) words moment tree input before after lines lines_after e w = w (λ h. h)
+as_answered (RestoreStopped stop) words moment tree input before after lines lines_after e w = w (λ h. h)
 as_answered (Loop path) words moment tree input before after lines lines_after e w = w (λ h. h)
 as_answered (NoMatch pattern) words moment tree input before after lines lines_after e w = w (λ h. h)
 as_answered Memory words moment tree input before after lines lines_after e w = e tt
@@ -193,6 +218,11 @@ untold_answer answer words moment tree input before files left printed told told
     is_early (TooLarge what most) = inr (λ h. h)
     is_early (Differs key) = inr (λ h. h)
     is_early (ScriptStopped stop) = inr (λ h. h)
+    is_early (BadArchive fault) = inr (λ h. h)
+    is_early (BadList fault) = inr (λ h. h)
+    is_early (BadDefn entry fault) = inr (λ h. h)
+    is_early (WithErrors errors) = inr (λ h. h)
+    is_early (RestoreStopped stop) = inr (λ h. h)
     is_early (Loop path) = inr (λ h. h)
     is_early (NoMatch pattern) = inr (λ h. h)
     is_early Memory = inl tt
@@ -210,6 +240,11 @@ not_early (OutOfProfile what) f h = h
 not_early (TooLarge what most) f h = h
 not_early (Differs key) f h = h
 not_early (ScriptStopped stop) f h = h
+not_early (BadArchive fault) f h = h
+not_early (BadList fault) f h = h
+not_early (BadDefn entry fault) f h = h
+not_early (WithErrors errors) f h = h
+not_early (RestoreStopped stop) f h = h
 not_early (Loop path) f h = h
 not_early (NoMatch pattern) f h = h
 not_early Memory f h = f
@@ -227,6 +262,11 @@ counted_final (OutOfProfile what) a b f e = e
 counted_final (TooLarge what most) a b f e = e
 counted_final (Differs key) a b f e = e
 counted_final (ScriptStopped stop) a b f e = e
+counted_final (BadArchive fault) a b f e = e
+counted_final (BadList fault) a b f e = e
+counted_final (BadDefn entry fault) a b f e = e
+counted_final (WithErrors errors) a b f e = e
+counted_final (RestoreStopped stop) a b f e = e
 counted_final (Loop path) a b f e = e
 counted_final (NoMatch pattern) a b f e = e
 counted_final Memory a b f e = e
@@ -244,6 +284,11 @@ completed (OutOfProfile what) words moment tree input before after lines lines_a
 completed (TooLarge what most) words moment tree input before after lines lines_after a b none c h = inl h
 completed (Differs key) words moment tree input before after lines lines_after a b none c h = inl h
 completed (ScriptStopped stop) words moment tree input before after lines lines_after a b none c h = inl h
+completed (BadArchive fault) words moment tree input before after lines lines_after a b none c h = inl h
+completed (BadList fault) words moment tree input before after lines lines_after a b none c h = inl h
+completed (BadDefn entry fault) words moment tree input before after lines lines_after a b none c h = inl h
+completed (WithErrors errors) words moment tree input before after lines lines_after a b none c h = inl h
+completed (RestoreStopped stop) words moment tree input before after lines lines_after a b none c h = inl h
 completed (Loop path) words moment tree input before after lines lines_after a b none c h = inl h
 completed (NoMatch pattern) words moment tree input before after lines lines_after a b none c h = inl h
 completed Memory words moment tree input before after lines lines_after a b none c h = inr refl

@@ -1,6 +1,6 @@
 -- What is due for the words of a command line, the files and standard input: the first refusal of its steps in their
 -- order, or a plan that is carried out. And what the files hold once it is.
-use Rattle.std.specs.Prelude.{◌≡◌, Bool, true, ℕ, ◌+◌, ◌≤◌, List, [], ◌++◌, length, map, Option, Some, None, option_map, Result, Ok, Err, ◌⊎◌, codes, nat_le, not, is_none, ◌&&◌, if◌then◌else◌}
+use Rattle.std.specs.Prelude.{◌≡◌, Bool, true, ℕ, ◌+◌, ◌≤◌, List, [], ◌∷◌, ◌++◌, length, map, Option, Some, None, option_map, Result, Ok, Err, ◌⊎◌, codes, nat_le, not, is_none, ◌&&◌, if◌then◌else◌}
 use Rattle.std.specs.List.{All, IsDistinct}
 use Rattle.std.specs.List.Sorted.{IsPermutation}
 use Rattle.cat_rows.specs.declared.table.SysTable.TheVariants.{PgNamespace}
@@ -23,15 +23,19 @@ use Rattle.cat_same.specs.Verdicts.{IsLeastDifference}
 use Rattle.schema_folders.specs.declared.schemas.SchemaRow.{SchemaRow}
 use Rattle.ddl_read.specs.declared.located.Located.{Located}
 use Rattle.tool_words.specs.declared.outcome.Limit.{Limit}
-use Rattle.tool_words.specs.declared.outcome.Limit.TheVariants.{Script, Entries}
+use Rattle.tool_words.specs.declared.outcome.Limit.TheVariants.{Script, Entries, Archive as ArchiveLimit}
 use Rattle.tool_words.specs.declared.outcome.Outcome.{Outcome}
 use Rattle.tool_words.specs.declared.outcome.Outcome.TheVariants.{Done, ReadFault, WriteFault, BadScript, OutOfProfile, TooLarge, Differs, ScriptStopped, Memory}
 use Rattle.tool_words.specs.Answers.{◌>>=◌, IsDue}
 use Rattle.tool_words.specs.declared.words.Asked.{Asked}
-use Rattle.tool_words.specs.declared.words.Asked.TheVariants.{Psql, Dump, Compare}
+use Rattle.tool_words.specs.declared.words.Asked.TheVariants.{Psql, Dump, Archive, Compare}
 use Rattle.tool_words.specs.declared.words.ScriptSource.{ScriptSource}
 use Rattle.tool_words.specs.declared.words.ScriptSource.TheVariants.{File, Input}
 use Rattle.tool_words.specs.declared.words.DumpAsked.{DumpAsked}
+use Rattle.tool_words.specs.declared.words.ArchiveAsked.{ArchiveAsked}
+use Rattle.command_line.specs.declared.command.RestoreWords.{RestoreWords}
+use Rattle.restore_outcomes.specs.Texts.{path_text, input_text}
+use Rattle.dump_tools.specs.Outputs.{Output, Tells, world, all_performed, Piece, place_of, puts, IsFront}
 use Rattle.tool_words.specs.Words.{is_plain, is_whole_script, words_asked}
 use Rattle.script_runs.specs.Stopping.{ending, told}
 use Rattle.dump_ports.specs.declared.moment.Moment.{Moment}
@@ -55,7 +59,9 @@ use Rattle.tool_words.specs.declared.words.Teller.TheVariants as teller
 use Rattle.command_line.specs.declared.options.Tool.TheVariants as tool
 use Rattle.toc_entry.specs.declared.head.Head.{Head}
 use Rattle.dump_schemas.specs.Scripts.{version}
-use Rattle.dump_plain.specs.Dumps.{BadRow, Output, plain_out}
+use Rattle.dump_files.specs.declared.stop.DumpStop.{DumpStop}
+use Rattle.dump_files.specs.declared.stop.DumpStop.TheVariants as stops
+use Rattle.dump_plain.specs.Dumps.{BadRow, Output as DumpOutput, plain_out}
 use Rattle.obj_graph.specs.declared.select.Select.{Select}
 use Rattle.dump_plans.specs.Choosing.{select_of}
 use Rattle.dump_plans.specs.Outcomes.{bad_row_outcome}
@@ -82,6 +88,11 @@ pub record DumpText : Type 0 where
   pub text : Bytes
   pub bad : Option BadRow
 
+-- texts that are put out one after another, up to the first row that fails, if there is one
+pub record Putting : Type 0 where
+  pub pieces : List Piece
+  pub bad : Option BadRow
+
 -- what a tool does once all is read
 pub data Plan : Type 0 where
   -- psql applies a script of schemas to a folder of schemas
@@ -92,6 +103,8 @@ pub data Plan : Type 0 where
   Prints : Bytes → Plan
   -- pg_dump prints a dump, up to a row that fails
   Dumps : DumpText → Plan
+  -- pg_restore puts the list or the script of an archive where it is asked for
+  Puts : Putting → Plan
   -- pg_catcmp compares two catalogues by names
   Compares : Named → Named → Plan
 
@@ -169,7 +182,7 @@ abbrev pub plain_head : Moment → Head
 plain_head moment = record { major = 1; minor = 15; revision = 0; format = 4; compression = 0; moment = moment; dbname = []; server = version; dumper = version }
 
 -- what is put out of a dump
-abbrev pub text_of_dump : Output → DumpText
+abbrev pub text_of_dump : DumpOutput → DumpText
 text_of_dump out = record { text = out.text; bad = out.bad }
 
 unfoldable pub dump_text : Moment → Tree → Bool → Dumping → DumpText
@@ -207,6 +220,23 @@ folder_due asked moment tree = formed_of asked.folder tree >>= catalogue_due ask
 unfoldable pub dump_due : DumpAsked → Moment → Tree → Result Plan Outcome
 dump_due asked moment tree = if is_printed_script asked then folder_due asked moment tree else Err (OutOfProfile Unbuilt)
 
+-- a text that is put where it is asked for
+abbrev pub one_piece : Option Bytes → Bytes → Putting
+one_piece target text = record { pieces = record { place = place_of target; text = text } ∷ []; bad = None }
+
+-- what is written of the archive that all of standard input is
+unfoldable pub text_of_input : RestoreWords → Tree → Bytes → Result Bytes Outcome
+text_of_input words tree input = input_of ArchiveLimit script_limit input >>= λ bytes. input_text words bytes tree
+
+-- and of an archive wherever it is
+unfoldable pub text_of_archive : Option Bytes → RestoreWords → Tree → Bytes → Result Bytes Outcome
+text_of_archive (Some path) words tree input = path_text words path tree
+text_of_archive None words tree input = text_of_input words tree input
+
+-- pg_restore, where no folder is restored into: the archive is read, whole, and what is asked for is put where it goes
+unfoldable pub restore_due : ArchiveAsked → Tree → Bytes → Result Plan Outcome
+restore_due asked tree input = text_of_archive asked.archive asked.words tree input >>= λ text. Ok (Puts (one_piece asked.target text))
+
 -- once the first is read: the second folder
 unfoldable pub second_due : Exported → Bytes → Tree → Result Plan Outcome
 second_due one second tree = do
@@ -222,6 +252,7 @@ compare_due first second tree = do
 abbrev pub asked_due : Asked → Moment → Tree → Bytes → Result Plan Outcome
 asked_due (Psql folder script stop) moment tree input = psql_due folder script stop tree input
 asked_due (Dump asked) moment tree input = dump_due asked moment tree
+asked_due (Archive asked) moment tree input = restore_due asked tree input
 asked_due (Compare first second) moment tree input = compare_due first second tree
 
 -- what is due for the words, the moment, the files and standard input
@@ -314,6 +345,7 @@ answer_of (Applies plan) = Done
 answer_of (Runs plan) = answer_of_run plan
 answer_of (Prints text) = Done
 answer_of (Dumps dump) = dump_answer dump.bad
+answer_of (Puts plan) = dump_answer plan.bad
 answer_of (Compares a b) = Done
 
 -- pg_dump's line of an answer
@@ -328,9 +360,19 @@ printed_by text (Some bad) out_before out_after told_before told_after = Appends
 abbrev pub IsPrinted : DumpText → Option (List ℕ) → Option (List ℕ) → Option (List ℕ) → Option (List ℕ) → Type 0
 IsPrinted dump out_before out_after told_before told_after = printed_by dump.text dump.bad out_before out_after told_before told_after
 
+-- outputs were put out, one after another, and nothing else has changed, whatever is left of standard input
+abbrev pub WerePut : List Output → Option Tree → Option Tree → Option (List ℕ) → Option (List ℕ) → Option (List ℕ) → Option (List ℕ) → Type 0
+WerePut outputs before after out_before out_after told_before told_after = (left : Option Bytes) → world after left out_after told_after ≡ all_performed outputs (world before left out_before told_before)
+
+-- texts were put out; where a row fails some first part of them, and its line was told
+abbrev pub were_put_by : List Piece → Option BadRow → Option Tree → Option Tree → Option (List ℕ) → Option (List ℕ) → Option (List ℕ) → Option (List ℕ) → Type 0
+were_put_by pieces None before after out_before out_after told_before told_after = WerePut (map puts pieces) before after out_before out_after told_before told_after
+were_put_by pieces (Some bad) before after out_before out_after told_before told_after =
+    (front : List Piece) × IsFront pieces front × WerePut (map puts front ++ Tells (dump_line (bad_row_outcome bad)) ∷ []) before after out_before out_after told_before told_after
+
 -- What stands of the files, of standard output and of standard error once a plan is carried out: a script was applied and
--- its report was written to standard error, or a text or a dump was written to standard output, or two catalogues were the
--- same, and nothing else changed.
+-- its report was written to standard error, or a text or a dump was written to standard output, or texts were put where
+-- they were asked for, or two catalogues were the same, and nothing else changed.
 abbrev pub IsCarriedOut : Plan → Option Tree → Option Tree → Option (List ℕ) → Option (List ℕ) → Option (List ℕ) → Option (List ℕ) → Type 0
 IsCarriedOut (Applies plan) before after out_before out_after told_before told_after =
     Applied plan before after × (out_after ≡ out_before) × Appends (report_of plan) told_before told_after
@@ -340,6 +382,8 @@ IsCarriedOut (Prints text) before after out_before out_after told_before told_af
     (after ≡ before) × Appends text out_before out_after × (told_after ≡ told_before)
 IsCarriedOut (Dumps dump) before after out_before out_after told_before told_after =
     (after ≡ before) × IsPrinted dump out_before out_after told_before told_after
+IsCarriedOut (Puts plan) before after out_before out_after told_before told_after =
+    were_put_by plan.pieces plan.bad before after out_before out_after told_before told_after
 IsCarriedOut (Compares a b) before after out_before out_after told_before told_after =
     (a ≡ b) × (after ≡ before) × (out_after ≡ out_before) × (told_after ≡ told_before)
 
@@ -428,6 +472,11 @@ Counted _ before after = after ≡ before
 abbrev pub CountsStep : {X : Type 0} → Result X Outcome → Counts → Counts → Type 0
 CountsStep (Ok x) before after = after ≡ before
 CountsStep (Err outcome) before after = Counted outcome before after
+
+-- the same of the writes of what is put to files or to standard output
+abbrev pub CountsPuts : DumpStop → ℕ → ℕ → ℕ → ℕ → Type 0
+CountsPuts stops.WriteFault a b c d = (a ≤ b) × (c ≤ d) × (HasRisen a b ⊎ HasRisen c d)
+CountsPuts _ a b c d = (b ≡ a) × (d ≡ c)
 
 -- the same of the writes alone, of files and to standard error
 abbrev pub CountsWrites : {X : Type 0} → Result X Outcome → ℕ → ℕ → ℕ → ℕ → Type 0

@@ -1,6 +1,6 @@
 -- What a call of the program puts out: a list of outputs in order. And what the outside holds once some of them were put
 -- out, whole or in part. What is taken of standard input stands among them, at its place in the order.
-use Rattle.std.specs.Prelude.{◌≡◌, ◌++◌, List, [], ◌∷◌, length, drop, Option, option_map, ◌⊎◌}
+use Rattle.std.specs.Prelude.{◌≡◌, ◌++◌, List, [], ◌∷◌, length, drop, Option, Some, None, option_map, ◌⊎◌}
 use Rattle.std.specs.FinMap.{insert}
 use Rattle.dump_ports.specs.Tree.{Tree}
 use Rattle.cat_model.specs.Values.{Bytes}
@@ -77,3 +77,41 @@ pub record CutShort (outputs : List Output) (before after : World) : Type 0 wher
 -- a file that is made
 abbrev pub stores : File → Output
 stores file = Stores file.name file.text
+
+-- ---- texts that are put where they are asked for
+
+-- standard output, or a file that is made anew
+pub data Place : Type 0 where
+  Printed : Place
+  Stored : Bytes → Place
+
+-- the file of this name, or standard output where none is told
+abbrev pub place_of : Option Bytes → Place
+place_of None = Printed
+place_of (Some name) = Stored name
+
+-- a text and its place
+pub record Piece : Type 0 where
+  pub place : Place
+  pub text : Bytes
+
+abbrev pub put_at : Place → Bytes → Output
+put_at Printed text = Writes text
+put_at (Stored name) text = Stores name text
+
+abbrev pub puts : Piece → Output
+puts piece = put_at piece.place piece.text
+
+-- none of the first of these pieces, or a first part of its text
+abbrev pub AreBegun : List Piece → List Piece → Type 0
+AreBegun [] begun = begun ≡ []
+AreBegun (piece ∷ later) begun = (begun ≡ []) ⊎ ((part : Bytes) × (rest : Bytes) × (piece.text ≡ part ++ rest) × (begun ≡ record { place = piece.place; text = part } ∷ []))
+
+-- some first pieces, whole, and then none or a first part of the next one
+pub record IsFront (pieces front : List Piece) : Type 0 where
+  pub whole : List Piece
+  pub later : List Piece
+  pub split : pieces ≡ whole ++ later
+  pub last : List Piece
+  pub begun : AreBegun later last
+  pub is : front ≡ whole ++ last

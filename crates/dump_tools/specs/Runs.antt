@@ -17,9 +17,9 @@ use Rattle.cat_model.specs.declared.words.What.TheVariants.{Unbuilt}
 use Rattle.saved_folders.specs.Folders.{Texts, files_of}
 use Rattle.dump_plain.specs.Dumps.{BadRow}
 use Rattle.dump_plans.specs.Outcomes.{bad_row_outcome}
-use Rattle.dump_tools.specs.Due.{Application, Running, Plan, Applies, Runs, Prints, DumpText, Dumps, Compares, dump_line, Comes, Leaves, report_of, report_of_run, answer_of_run, due}
+use Rattle.dump_tools.specs.Due.{Application, Running, Plan, Applies, Runs, Prints, DumpText, Dumps, Putting, Puts, Compares, dump_line, Comes, Leaves, report_of, report_of_run, answer_of_run, due}
 use Rattle.dump_tools.specs.Inputs.{where_read, IsTaken, HasTaken}
-use Rattle.dump_tools.specs.Outputs.{World, Output, Writes, Tells, Takes, all_performed, IsPart, CutShort, stores}
+use Rattle.dump_tools.specs.Outputs.{World, Output, Writes, Tells, Takes, all_performed, IsPart, CutShort, stores, Piece, puts, IsFront}
 
 -- what is put out, in order, and the answer
 pub record Run : Type 0 where
@@ -66,6 +66,14 @@ dumped_by text (Some bad) run = (front : Bytes) × (rest : Bytes) × (text ≡ f
 abbrev pub IsDumped : DumpText → Run → Type 0
 IsDumped dump run = dumped_by dump.text dump.bad run
 
+-- Texts are put out; where a row fails some first part of them, and its line is told.
+abbrev pub put_by : List Piece → Option BadRow → Run → Type 0
+put_by pieces None run = run ≡ run_of (map puts pieces) Done
+put_by pieces (Some bad) run = (front : List Piece) × IsFront pieces front × (run ≡ run_of (map puts front ++ Tells (dump_line (bad_row_outcome bad)) ∷ []) (bad_row_outcome bad))
+
+abbrev pub IsPut : Putting → Run → Type 0
+IsPut plan run = put_by plan.pieces plan.bad run
+
 -- Two catalogues are compared: they are the same, or the least key at which they differ is told.
 abbrev pub IsCompared : Teller → Named → Named → Run → Type 0
 IsCompared teller a b run = ((a ≡ b) × (run ≡ run_of [] Done)) ⊎ ((key : Key) × IsLeastDifference a b key × (run ≡ told_run teller (Differs key)))
@@ -77,6 +85,7 @@ MayCome teller (Ok (Applies plan)) run = IsApplied plan run
 MayCome teller (Ok (Runs plan)) run = MayBeRun teller plan run
 MayCome teller (Ok (Prints text)) run = run ≡ run_of (Writes text ∷ []) Done
 MayCome teller (Ok (Dumps dump)) run = IsDumped dump run
+MayCome teller (Ok (Puts plan)) run = IsPut plan run
 MayCome teller (Ok (Compares a b)) run = IsCompared teller a b run
 
 -- What comes first of a run: it takes the input that it reads, or nothing where it reads none.

@@ -4,8 +4,10 @@
 mod dumping;
 mod dumps;
 pub mod laws;
+mod placing;
 mod printing;
 mod psql;
+mod restoring;
 mod scripts;
 mod tools;
 

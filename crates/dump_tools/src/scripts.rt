@@ -13,8 +13,8 @@ use schema_folders::read_file;
 use std::alloc::Global;
 use tool_words::{Limit, Outcome, ScriptSource};
 
-/// The most bytes of a script.
-const SCRIPT_LIMIT: u64 = 268_435_456;
+/// The most bytes of a script, and of an archive.
+pub(crate) const SCRIPT_LIMIT: u64 = 268_435_456;
 
 /// The text of a script: that of its file, or all of standard input.
 pub(crate) fn read_source<F: Files, I: Source>(
@@ -38,7 +38,7 @@ pub(crate) fn read_source<F: Files, I: Source>(
 
 /// All of standard input, which has at most `limit` bytes. After an error some first part of it was taken.
 #[tactic(auto, unfolding(crate::specs::Due::input_of))]
-fn read_input<I: Source>(
+pub(crate) fn read_input<I: Source>(
     alloc: Global,
     input: &mut I,
     what: Limit,

@@ -10,6 +10,7 @@ ghost use Rattle.tool_words.specs.Lines.{Appends, AppendsPart};
 ghost use Rattle.tool_words.specs.Words.{is_input, reads_input};
 ghost use Rattle.tool_words.specs.Messages.{outcome_line};
 ghost use Rattle.schema_folders.specs.Statements.{are_taken};
+ghost use Rattle.exports.specs.Exports.{export_of};
 ghost use Rattle.openings.specs.Openings.{export_named, opened_folder};
 ghost use Rattle.dump_tools.specs.Due.{IsFinal, IsCarriedOut, answer_of, dump_due, second_due, compare_due, IsUnequal, due, IsAnswerDue, WasDue, counts, NoneRose, Counted, CountsStep};
 ghost use Rattle.dump_tools.specs.Inputs.{where_read, TellsLeft};
@@ -20,12 +21,14 @@ ghost use Rattle.dump_tools.specs.Runs.{IsEarly, read_by, StepTakes, HasCut, End
 use crate::dumps::{DumpWork, dump_work};
 use crate::printing::print_dump;
 use crate::psql::psql;
+use crate::restoring::pg_restore;
 use cat_model::Key;
 use cat_same::{Verdict, compare_maps};
 use copy_text::Text;
 use dump_ports::{Failed, Files, Gate, Moment, Sink, Source};
-use openings::{Opening, read_opening};
-use same_folders::opens_alike;
+use exports::{Export, read_export};
+use openings::{Opening, open_export, read_opening};
+use same_folders::{have_one_opening, opens_alike};
 use std::alloc::{AllocError, Global};
 use tool_words::{
     Asked, Difference, DumpAsked, Outcome, Teller, read_asked, tell, teller_of, write_bytes,
@@ -101,7 +104,6 @@ fn pg_dump<F: Files, O: Sink, E: Sink>(
 }
 
 /// Compares what two folders stand for by names, with the rows of their tables.
-#[tactic(auto, unfolding(crate::specs::Due::compare_due))]
 fn pg_catcmp<F: Files>(
     alloc: Global,
     files: &mut F,
@@ -115,7 +117,30 @@ fn pg_catcmp<F: Files>(
     ensures read_count { CountsRead result (F.read_faults files.old) (F.read_faults files.new) }
     ensures write_count { F.write_faults files.new ≡ F.write_faults files.old }
 {
-    let one = read_opening(alloc, files, first)?;
+    let export = read_export(alloc, files, first)?;
+    compare_export(alloc, files, first, export, second)
+}
+
+/// Compares the second folder with the export that was read of the first. Where both hold the same texts, and the rows meet
+/// their tables, they are the same, and no map is made of either.
+fn compare_export<F: Files>(
+    alloc: Global,
+    files: &mut F,
+    first: &Text,
+    export: Export,
+    second: &Text,
+) -> Result<Outcome, Outcome>
+    ensures ends { IfOk result IsFinal }
+    ensures done { IfOk result (λ answer. (tree : Tree) (printed told : Option (List ℕ)) → F.tree files.old ≡ Some tree → export_of first.now tree ≡ Ok export → WasDue (compare_due first.now second.now tree) answer (F.tree files.old) (F.tree files.new) printed printed told told) }
+    ensures refused { IfErr result (λ outcome. (tree : Tree) → F.tree files.old ≡ Some tree → export_of first.now tree ≡ Ok export → IsAnswerDue outcome (compare_due first.now second.now tree)) }
+    ensures kept { F.tree files.new ≡ F.tree files.old }
+    ensures read_count { CountsRead result (F.read_faults files.old) (F.read_faults files.new) }
+    ensures write_count { F.write_faults files.new ≡ F.write_faults files.old }
+{
+    if have_one_opening(alloc, files, first, &export, second)? {
+        return Ok(Outcome::Done);
+    }
+    let one = open_export(alloc, export)?;
     compare_with(alloc, files, first, &one, second)
 }
 
@@ -232,6 +257,7 @@ fn perform<F: Files, I: Source, O: Sink, E: Sink>(
             stop,
         } => psql(alloc, files, input, err, &folder, &script, stop),
         Asked::Dump(asked) => pg_dump(alloc, files, out, err, asked, moment),
+        Asked::Archive(asked) => pg_restore(alloc, files, input, out, &asked),
         Asked::Compare { first, second } => pg_catcmp(alloc, files, &first, &second),
     }
 }

@@ -10,7 +10,8 @@ use std::alloc::Global;
 use std::rt;
 use tool_words::{Asked, Outcome, Teller, read_asked, tell, write_bytes};
 
-/// Holds the folders that the words name: alone the one that is written, beside others those that are only read.
+/// Holds the folders that the words name: alone the one that is written, beside others those that are only read. An archive
+/// that is listed or written as a script is held by none.
 pub(crate) fn hold_folders<R: rt::Files>(
     alloc: Global,
     files: &mut OsFiles<R>,
@@ -39,6 +40,7 @@ where
     match asked {
         Asked::Psql { folder, .. } => files.hold(folder.as_str(), Hold::Alone),
         Asked::Dump(asked) => files.hold(asked.folder.as_str(), Hold::Shared),
+        Asked::Archive(_) => Ok(()),
         Asked::Compare { first, second } => {
             files.hold(first.as_str(), Hold::Shared)?;
             files.hold(second.as_str(), Hold::Shared)

@@ -12,10 +12,15 @@ use Rattle.tool_words.specs.declared.words.Teller.TheVariants as teller
 use Rattle.tool_words.specs.declared.outcome.Unmatched.{Unmatched}
 use Rattle.tool_words.specs.declared.outcome.Unmatched.TheVariants as unmatched
 use Rattle.tool_words.specs.declared.outcome.Limit.{Limit}
-use Rattle.tool_words.specs.declared.outcome.Limit.TheVariants.{Script, TableFile, DataFile, Folder, Entries}
+use Rattle.tool_words.specs.declared.outcome.Limit.TheVariants.{Script, TableFile, DataFile, Folder, Entries, Archive, ListFile}
 use Rattle.tool_words.specs.declared.outcome.Outcome.{Outcome}
 use Rattle.tool_words.specs.declared.outcome.Outcome.TheVariants as outcome
 use Rattle.ddl_read.specs.Faults.{fault_place}
+use Rattle.list_files.specs.declared.fault.ListFault.{ListFault}
+use Rattle.list_files.specs.declared.fault.ListFault.TheVariants as list
+use Rattle.toc_layout.specs.declared.fault.ArchiveFault.{ArchiveFault}
+use Rattle.toc_layout.specs.declared.fault.ArchiveFault.TheVariants as archive
+use Rattle.toc_layout.specs.declared.fault.HeadFault.TheVariants as head
 use Rattle.folder_io.specs.Folders.{file_name}
 use Rattle.sql_lex.specs.Written.{written_name}
 use Rattle.cat_model.specs.Values.{Bytes}
@@ -102,6 +107,8 @@ limit_text TableFile = codes "TableFile"
 limit_text DataFile = codes "DataFile"
 limit_text Folder = codes "Folder"
 limit_text Entries = codes "Entries"
+limit_text Archive = codes "Archive"
+limit_text ListFile = codes "ListFile"
 
 abbrev pub what_text : What → List ℕ
 what_text what.Gzip = codes "Gzip"
@@ -134,6 +141,16 @@ abbrev pub place_of : Unmatched → ℕ
 place_of (unmatched.Schemas at) = at
 place_of (unmatched.Tables at) = at
 
+-- the line of a list file that names no entry
+abbrev pub line_of : ListFault → ℕ
+line_of (list.NotANumber line) = line
+line_of (list.UnknownId line) = line
+
+-- an archive that has no reading, and a text that is a script and no archive
+abbrev pub archive_text : ArchiveFault → List ℕ
+archive_text (archive.Head head.TextDump) = codes "input file appears to be a text format dump. Please use psql."
+archive_text _ = codes "bad archive"
+
 abbrev pub outcome_text : Outcome → List ℕ
 outcome_text outcome.Done = []
 outcome_text (outcome.Usage word kind) = codes "word " ++ decimal word ++ codes ": " ++ kind_text kind
@@ -146,6 +163,11 @@ outcome_text (outcome.OutOfProfile what) = codes "not supported: " ++ what_text 
 outcome_text (outcome.TooLarge limit most) = codes "too large: " ++ limit_text limit
 outcome_text (outcome.Differs key) = codes "differs: " ++ key_text key
 outcome_text (outcome.ScriptStopped stop) = codes "stopped at " ++ decimal stop.0 ++ codes ": " ++ cause_text stop.1
+outcome_text (outcome.BadArchive fault) = archive_text fault
+outcome_text (outcome.BadList fault) = codes "bad list line " ++ decimal (line_of fault)
+outcome_text (outcome.BadDefn entry fault) = codes "entry " ++ decimal entry ++ codes " has a bad definition"
+outcome_text (outcome.WithErrors errors) = codes "errors ignored on restore: " ++ decimal errors
+outcome_text (outcome.RestoreStopped stop) = codes "stopped at entry " ++ decimal stop.0 ++ codes ": " ++ cause_text stop.1
 outcome_text (outcome.Loop path) = codes "dependency loop"
 outcome_text (outcome.NoMatch pattern) = codes "no match for pattern " ++ decimal (place_of pattern)
 outcome_text outcome.Memory = codes "out of memory"

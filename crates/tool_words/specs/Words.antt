@@ -11,6 +11,7 @@ use Rattle.command_line.specs.declared.command.Folder.TheVariants as folder
 use Rattle.command_line.specs.declared.command.Choice.{Choice}
 use Rattle.command_line.specs.declared.command.DumpWords.{DumpWords}
 use Rattle.command_line.specs.declared.command.PsqlWords.{PsqlWords}
+use Rattle.command_line.specs.declared.command.RestoreWords.{RestoreWords}
 use Rattle.command_line.specs.declared.options.Tool.{Tool}
 use Rattle.command_line.specs.declared.usage.UsageFault.{UsageFault}
 use Rattle.command_line.specs.declared.values.Format.{Format}
@@ -20,7 +21,8 @@ use Rattle.command_line.specs.Usage.{usage_of, command_from}
 use Rattle.tool_words.specs.declared.outcome.Outcome.{Outcome}
 use Rattle.tool_words.specs.declared.outcome.Outcome.TheVariants.{Usage, OutOfProfile}
 use Rattle.tool_words.specs.declared.words.Asked.{Asked}
-use Rattle.tool_words.specs.declared.words.Asked.TheVariants.{Psql, Dump, Compare}
+use Rattle.tool_words.specs.declared.words.Asked.TheVariants.{Psql, Dump, Archive, Compare}
+use Rattle.tool_words.specs.declared.words.ArchiveAsked.{ArchiveAsked}
 use Rattle.tool_words.specs.declared.words.DumpAsked.{DumpAsked}
 use Rattle.tool_words.specs.declared.words.ScriptSource.{ScriptSource}
 use Rattle.tool_words.specs.declared.words.ScriptSource.TheVariants.{File, Input}
@@ -75,6 +77,14 @@ printed_or (Some name) = if bytes_eq name (codes "-") then None else Some name
 abbrev pub dump_asked : DumpWords → Option Asked
 dump_asked words = Some (Dump (record { folder = folder_named words.folder; choice = words.choice; format = format_of words.format; target = printed_or words.file }))
 
+-- what is read and written, and the other words of pg_restore
+abbrev pub archive_of : RestoreWords → ArchiveAsked
+archive_of words = record { archive = printed_or words.archive; target = printed_or words.file; words = record words { archive = None; file = None } }
+
+-- pg_restore writes a list where that is asked for, and a script where no folder is named; it restores into a folder else
+abbrev pub archive_asked : RestoreWords → Option Asked
+archive_asked words = if words.list || is_none words.dbname then Some (Archive (archive_of words)) else None
+
 -- the script of a whole folder is printed
 abbrev pub is_whole_script : DumpAsked → Bool
 is_whole_script asked = is_none asked.target && is_plain asked.format && takes_all asked.choice
@@ -84,7 +94,7 @@ abbrev pub asked_of : Command → Option Asked
 asked_of (command.Psql words) = psql_asked words
 asked_of (command.PgDump words) = dump_asked words
 asked_of (command.PgCatcmp words) = Some (Compare words.first words.second)
-asked_of (command.PgRestore words) = None
+asked_of (command.PgRestore words) = archive_asked words
 asked_of (command.PgDumpall words) = None
 asked_of (command.PgClone words) = None
 asked_of (command.PgGen words) = None
@@ -108,10 +118,11 @@ abbrev pub is_input : ScriptSource → Bool
 is_input (File name) = false
 is_input Input = true
 
--- only psql reads standard input, where its script stands there
+-- psql reads standard input, where its script stands there, and pg_restore where the archive does
 abbrev pub asks_for_input : Asked → Bool
 asks_for_input (Psql folder script stop) = is_input script
 asks_for_input (Dump asked) = false
+asks_for_input (Archive asked) = is_none asked.archive
 asks_for_input (Compare first second) = false
 
 abbrev pub asked_input : Result Asked Outcome → Bool

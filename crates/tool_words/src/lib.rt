@@ -9,6 +9,8 @@ mod words;
 
 pub use keys::Difference;
 pub use outcome::{ExportFault, Limit, Outcome, Unmatched};
-pub use stop::Stop;
+pub use stop::{RestoreStop, Stop};
 pub use telling::{tell, write_bytes};
-pub use words::{Asked, DumpAsked, ScriptSource, Teller, is_whole_script, read_asked, teller_of};
+pub use words::{
+    ArchiveAsked, Asked, DumpAsked, ScriptSource, Teller, is_whole_script, read_asked, teller_of,
+};

@@ -5,7 +5,7 @@ ghost use Rattle.tool_words.specs.Outcomes.{export_fault, limit_of, folder_outco
 ghost use Rattle.tool_words.specs.declared.outcome.Outcome.TheVariants as outcomes;
 
 use crate::keys::Difference;
-use crate::stop::Stop;
+use crate::stop::{RestoreStop, Stop};
 use cat_model::{Cause, Items, What};
 use cat_names::{CatFault, CheckError, FaultKind};
 use cat_rows::RowFault;
@@ -15,8 +15,10 @@ use data_rows::DataFault;
 use ddl_read::{DdlFault, ReadStmtsError};
 use folder_io::{ExportFile, ExportKind, FolderFault, FolderLimit};
 use graph_parts::ObjId;
+use list_files::ListFault;
 use std::alloc::AllocError;
 use table_rows::{CheckValuesError, ValuesFault};
+use toc_layout::ArchiveFault;
 
 /// Which limit is passed.
 #[derive(Clone, Copy, Debug, PartialEq, Eq)]
@@ -29,8 +31,12 @@ pub enum Limit {
     DataFile,
     /// The files of one folder have at most 268,435,456 bytes together.
     Folder,
-    /// A dump has at most 200,000 entries.
+    /// A dump, and an archive, has at most 200,000 entries.
     Entries,
+    /// An archive in one file, and the files of an archive in a directory together, have at most 268,435,456 bytes.
+    Archive,
+    /// A list file has at most 268,435,456 bytes.
+    ListFile,
 }
 
 /// A pattern that hits nothing: its place among those of its option, counted from 0.
@@ -92,6 +98,22 @@ pub enum Outcome {
     Differs(Difference),
     /// A script ended at its first statement that was refused; what the statements before it leave was written.
     ScriptStopped(Stop),
+    /// The archive has no reading; its first fault.
+    BadArchive(ArchiveFault),
+    /// The list file has no reading; its first line that names no entry.
+    BadList(ListFault),
+    /// The texts of an entry that is to be restored have no reading.
+    BadDefn {
+        /// The entry's dump id.
+        entry: u32,
+        /// The first place where they have none: in its definition, or in its command for rows with the rows behind it.
+        fault: DdlFault,
+    },
+    /// A restore came to its end, and this many of its entries and notes were refused, one at least. What it leaves was
+    /// written.
+    WithErrors(u64),
+    /// A restore ended at its first entry that was refused.
+    RestoreStopped(RestoreStop),
     /// Objects of a folder need each other; each needs the next one, and the last is the first.
     Loop(Items<ObjId>),
     /// A pattern of what is to be dumped hits nothing.

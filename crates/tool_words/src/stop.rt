@@ -1,4 +1,4 @@
-//! Where a script stopped.
+//! Where a script, or a restore, stopped.
 ghost use Rattle.std.specs.Prelude.{◌≡◌, ◌++◌, ◌∷◌, [], OnOk, codes, decimal};
 ghost use Rattle.tool_words.specs.Messages.{cause_text};
 
@@ -41,6 +41,52 @@ impl Stop {
         ensures { result ≡ self.now.0 }
     {
         self.at
+    }
+
+    /// Why it was refused, in words.
+    pub fn text(&self) -> &[u8]
+        ensures { result.now ≡ cause_text self.now.1 }
+    {
+        &self.text
+    }
+}
+
+/// The entry of an archive at which a restore stopped, since it was refused. A contract sees it as its dump id and the cause.
+#[derive(Debug, Drop)]
+pub struct RestoreStop {
+    entry: u32,
+    cause: Cause,
+    text: Vec<u8>,
+}
+
+impl Model for RestoreStop {
+    ghost use Rattle.std.specs.Prelude.{ℕ};
+    ghost use Rattle.cat_model.specs.declared.cause.Cause.{Cause};
+
+    ghost Value = { ℕ × Cause };
+
+    ghost use Rattle.std.specs.Prelude.{◌≡◌};
+    ghost use Rattle.tool_words.specs.Messages.{cause_text};
+
+    ghost view = { λ s. (s.entry, s.cause) };
+
+    ghost invariant = { λ s. s.text.items ≡ cause_text s.cause };
+}
+
+impl RestoreStop {
+    /// An entry by its dump id, and why it was refused: the cause and its text.
+    pub fn new(entry: u32, cause: Cause, text: Vec<u8>) -> RestoreStop
+        requires { text.items ≡ cause_text cause }
+        ensures { result ≡ (entry, cause) }
+    {
+        RestoreStop { entry, cause, text }
+    }
+
+    /// The entry's dump id.
+    pub fn entry(&self) -> u32
+        ensures { result ≡ self.now.0 }
+    {
+        self.entry
     }
 
     /// Why it was refused, in words.

@@ -2,17 +2,19 @@
 ghost use Rattle.std.specs.Prelude.{◌≡◌, ℕ, ◌≤◌, ◌++◌, List, OnOk, OnErr, decimal, codes};
 ghost use Rattle.dump_ports.specs.Faults.{CountsFault};
 ghost use Rattle.folder_io.specs.Folders.{file_name};
-ghost use Rattle.tool_words.specs.Messages.{kind_text, limit_text, what_text, cause_text, place_of, outcome_text, outcome_line};
+ghost use Rattle.tool_words.specs.Messages.{kind_text, limit_text, what_text, cause_text, place_of, line_of, archive_text, outcome_text, outcome_line};
 ghost use Rattle.tool_words.specs.Lines.{Appends, AppendsPart};
 
 use crate::outcome::{Limit, Outcome, Unmatched};
-use crate::stop::Stop;
+use crate::stop::{RestoreStop, Stop};
 use crate::words::Teller;
 use cat_model::What;
 use command_line::UsageKind;
 use dump_ports::{Failed, Sink, write_all};
 use folder_io::ExportFile;
 use itoa::Buffer;
+use list_files::ListFault;
+use toc_layout::{ArchiveFault, HeadFault};
 
 /// Writes the line of a refusal to standard error. After an error a first part of it was written.
 pub fn tell<E: Sink>(err: &mut E, teller: Teller, outcome: &Outcome) -> Result<(), Failed>
@@ -43,6 +45,13 @@ fn write_outcome<E: Sink>(err: &mut E, outcome: &Outcome) -> Result<(), Failed>
         Outcome::TooLarge(limit, _) => write_two(err, b"too large: ", limit_text(*limit)),
         Outcome::Differs(difference) => write_two(err, b"differs: ", difference.text()),
         Outcome::ScriptStopped(stop) => write_stop(err, stop),
+        Outcome::BadArchive(fault) => write_bytes(err, archive_text(*fault)),
+        Outcome::BadList(fault) => write_list_line(err, *fault),
+        Outcome::BadDefn { entry, .. } => {
+            write_numbered(err, b"entry ", *entry as usize, b" has a bad definition")
+        }
+        Outcome::WithErrors(errors) => write_errors(err, *errors),
+        Outcome::RestoreStopped(stop) => write_restore_stop(err, stop),
         Outcome::Loop(_) => write_bytes(err, b"dependency loop"),
         Outcome::NoMatch(pattern) => write_unmatched(err, *pattern),
         Outcome::Memory => write_bytes(err, b"out of memory"),
@@ -57,6 +66,64 @@ fn write_stop<E: Sink>(err: &mut E, stop: &Stop) -> Result<(), Failed>
 {
     write_counted(err, b"stopped at ", stop.place())?;
     write_two(err, b": ", stop.text())
+}
+
+/// Writes at which entry a restore stopped, and why.
+fn write_restore_stop<E: Sink>(err: &mut E, stop: &RestoreStop) -> Result<(), Failed>
+    ensures ok { OnOk result (Appends (codes "stopped at entry " ++ decimal stop.now.0 ++ codes ": " ++ cause_text stop.now.1) (E.written err.old) (E.written err.new)) }
+    ensures err { OnErr result (AppendsPart (codes "stopped at entry " ++ decimal stop.now.0 ++ codes ": " ++ cause_text stop.now.1) (E.written err.old) (E.written err.new)) }
+    ensures count { CountsFault result (E.faults err.old) (E.faults err.new) }
+{
+    write_counted(err, b"stopped at entry ", stop.entry() as usize)?;
+    write_two(err, b": ", stop.text())
+}
+
+/// Writes how many entries and notes of a restore were refused.
+fn write_errors<E: Sink>(err: &mut E, errors: u64) -> Result<(), Failed>
+    ensures ok { OnOk result (Appends (codes "errors ignored on restore: " ++ decimal errors) (E.written err.old) (E.written err.new)) }
+    ensures err { OnErr result (AppendsPart (codes "errors ignored on restore: " ++ decimal errors) (E.written err.old) (E.written err.new)) }
+    ensures count { CountsFault result (E.faults err.old) (E.faults err.new) }
+{
+    let mut buffer = Buffer::new();
+    write_two(
+        err,
+        b"errors ignored on restore: ",
+        buffer.format(errors).as_bytes(),
+    )
+}
+
+/// Writes which line of a list file names no entry.
+fn write_list_line<E: Sink>(err: &mut E, fault: ListFault) -> Result<(), Failed>
+    ensures ok { OnOk result (Appends (codes "bad list line " ++ decimal (line_of fault)) (E.written err.old) (E.written err.new)) }
+    ensures err { OnErr result (AppendsPart (codes "bad list line " ++ decimal (line_of fault)) (E.written err.old) (E.written err.new)) }
+    ensures count { CountsFault result (E.faults err.old) (E.faults err.new) }
+{
+    let mut buffer = Buffer::new();
+    write_two(
+        err,
+        b"bad list line ",
+        buffer.format(line_of(fault)).as_bytes(),
+    )
+}
+
+fn line_of(fault: ListFault) -> u64
+    ensures { result ≡ line_of fault }
+{
+    match fault {
+        ListFault::NotANumber(line) | ListFault::UnknownId(line) => line,
+    }
+}
+
+/// What is told of an archive that has no reading.
+fn archive_text(fault: ArchiveFault) -> &'static [u8]
+    ensures { result.now ≡ archive_text fault }
+{
+    match fault {
+        ArchiveFault::Head(HeadFault::TextDump) => {
+            b"input file appears to be a text format dump. Please use psql."
+        }
+        _ => b"bad archive",
+    }
 }
 
 /// Writes a number behind a text.
@@ -199,6 +266,8 @@ fn limit_text(limit: Limit) -> &'static [u8]
         Limit::DataFile => b"DataFile",
         Limit::Folder => b"Folder",
         Limit::Entries => b"Entries",
+        Limit::Archive => b"Archive",
+        Limit::ListFile => b"ListFile",
     }
 }
 

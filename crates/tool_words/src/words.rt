@@ -2,14 +2,14 @@
 ghost use Rattle.std.specs.Prelude.{◌≡◌, ℕ, List, Option, Some, None, Result, Ok, Err, MatchResult};
 ghost use Rattle.cat_names.specs.Rights.{is_empty_list};
 ghost use Rattle.tool_words.specs.Answers.{Gives, CountsRead};
-ghost use Rattle.tool_words.specs.Words.{folder_named, script_from, psql_asked, is_flagged, names_none, takes_all, format_of, printed_or, is_whole_script, dump_asked, asked_of, built, words_asked, told_by, teller_of};
+ghost use Rattle.tool_words.specs.Words.{folder_named, script_from, psql_asked, archive_of, archive_asked, is_flagged, names_none, takes_all, format_of, printed_or, is_whole_script, dump_asked, asked_of, built, words_asked, told_by, teller_of};
 ghost use Rattle.tool_words.specs.Messages.{teller_name};
 
 use crate::outcome::Outcome;
 use cat_model::What;
 use command_line::{
     Choice, Command, CompareWords, DumpWords, Folder, Format, Patterns, PsqlWords, ReadWordsError,
-    SectionList, Tool, UsageFault, read_words, usage_fault,
+    RestoreWords, SectionList, Tool, UsageFault, read_words, usage_fault,
 };
 use copy_text::Text;
 use std::alloc::Global;
@@ -36,6 +36,18 @@ pub struct DumpAsked {
     pub target: Option<Text>,
 }
 
+/// What is asked for of an archive that isn't restored into a folder.
+#[derive(Debug, Drop)]
+pub struct ArchiveAsked {
+    /// The archive; standard input where it is absent.
+    pub archive: Option<Text>,
+    /// Where the list or the script is written: the file of this name, or standard output.
+    pub target: Option<Text>,
+    /// What the words say further: whether the list is asked for, the archive's format, the list file, and which entries are
+    /// taken.
+    pub words: RestoreWords,
+}
+
 /// What the words ask for, where that is built.
 #[derive(Debug, Drop)]
 pub enum Asked {
@@ -50,6 +62,8 @@ pub enum Asked {
     },
     /// pg_dump dumps a folder.
     Dump(DumpAsked),
+    /// pg_restore writes the list or the script of an archive.
+    Archive(ArchiveAsked),
     /// pg_catcmp compares two folders.
     Compare {
         /// The first folder.
@@ -131,6 +145,7 @@ fn asked_of(command: Command) -> Option<Asked>
     match command {
         Command::Psql(words) => psql_asked(words),
         Command::PgDump(words) => dump_asked(words),
+        Command::PgRestore(words) => archive_asked(words),
         Command::PgCatcmp(CompareWords { first, second }) => Some(Asked::Compare { first, second }),
         _ => None,
     }
@@ -186,6 +201,31 @@ fn dump_asked(words: DumpWords) -> Option<Asked>
         format: format_of(format),
         target: printed_or(file),
     }))
+}
+
+/// pg_restore writes a list where that is asked for, and a script where no folder is named.
+fn archive_asked(words: RestoreWords) -> Option<Asked>
+    ensures { result ≡ archive_asked words }
+{
+    match (words.list, words.dbname.is_none()) {
+        (false, false) => {
+            drop(words);
+            None
+        }
+        _ => Some(Asked::Archive(archive_of(words))),
+    }
+}
+
+fn archive_of(mut words: RestoreWords) -> ArchiveAsked
+    ensures { result ≡ archive_of words }
+{
+    let archive = printed_or(words.archive.take());
+    let target = printed_or(words.file.take());
+    ArchiveAsked {
+        archive,
+        target,
+        words,
+    }
 }
 
 /// Standard output where no file is named, or `-`.

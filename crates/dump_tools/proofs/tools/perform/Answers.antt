@@ -40,6 +40,16 @@ returns-in-Dump-clause-cut g c =
     (cut teller tree (g.I.Source.left c.args.input.now) known))
     c.pg_dump.ensures.cut
 
+-- pg_restore tells nothing
+pub returns-in-Archive-clause-cut : goal.returns-in-Archive-clause-cut
+returns-in-Archive-clause-cut g c =
+    let reads = reads_asked c.args.words.now c.in_ok-asked.asked c.in_ok-asked.ensures.due ∙ ap asks_for_input c.in-Archive.is in
+    on_err_weaker c.pg_restore.result (λ cut teller tree bytes known tells.
+    cut_due teller _ _ _ _ _ _ (ap (λ b. where_read b bytes) reads)
+    (due_asked c.args.words.now c.args.moment tree bytes c.in_ok-asked.asked c.in_ok-asked.ensures.due ∙ ap (λ (asked : Asked). asked_due asked c.args.moment tree bytes) c.in-Archive.is)
+    (cut teller tree bytes (g.E.Sink.written c.args.err.now) known (subst (λ b. TellsLeft b (g.I.Source.left c.args.input.now) bytes) reads tells)))
+    c.pg_restore.ensures.cut
+
 -- pg_catcmp puts out nothing
 pub returns-in-Compare-clause-cut : goal.returns-in-Compare-clause-cut
 returns-in-Compare-clause-cut g c =

@@ -1,21 +1,24 @@
-use Rattle.std.proofs.Common.{sym, subst, ◌∙◌}
-use Rattle.std.specs.Prelude.{Result}
-use Rattle.std.proofs.lemmas.Result.{IfOk-weaker, IfErr-weaker}
-use Rattle.tool_words.specs.declared.outcome.Outcome.{Outcome}
-use Rattle.dump_tools.specs.Due.{Plan, IsAnswerDue}
-use Rattle.dump_tools.proofs.Comparing.{first_read, first_done}
+use Rattle.std.proofs.Common.{inl, ◌∙◌}
+use Rattle.std.proofs.lemmas.Result.{IfOk-weaker, IfErr-weaker, err_from_is_err_and}
+use Rattle.dump_tools.specs.Due.{compare_due}
+use Rattle.dump_tools.proofs.CutOff.{done_since}
+use Rattle.dump_tools.proofs.Comparing.{export_unread}
 use Rattle.dump_tools.proofs.tools.pg_catcmp.Goals as goal
 
--- what is due of the second folder is due of both
+-- the first folder isn't an export
+pub returns-in_err-export-clause-refused : goal.returns-in_err-export-clause-refused
+returns-in_err-export-clause-refused g c =
+    let p = err_from_is_err_and c.from_residual.result c.from_residual.ensures.1 in
+    rw (p.1, p.2) (λ tree known. inl (export_unread _ c.args.first.now c.args.second.now tree (c.in_err-export.ensures.due tree known)))
+
+-- what is due of its export is due of both
 pub returns-clause-done : goal.returns-clause-done
 returns-clause-done g c =
-    IfOk-weaker c.compare_with.result _ _ (λ answer done tree printed told known.
-    first_done c.args.first.now c.args.second.now tree c.in_ok-one.one answer _ _ _ printed told (c.in_ok-one.ensures.due tree known) c.in_ok-one.ensures.kept (done tree printed told (c.in_ok-one.ensures.kept ∙ known) (c.in_ok-one.ensures.due tree known)))
-    c.compare_with.ensures.done
+    IfOk-weaker c.compare_export.result _ _ (λ answer done tree printed told known.
+    done_since (compare_due c.args.first.now c.args.second.now tree) answer _ _ _ printed told c.in_ok-export.ensures.kept (done tree printed told (c.in_ok-export.ensures.kept ∙ known) (c.in_ok-export.ensures.due tree known)))
+    c.compare_export.ensures.done
 
 pub returns-clause-refused : goal.returns-clause-refused
 returns-clause-refused g c =
-    IfErr-weaker c.compare_with.result _ _ (λ outcome due tree known.
-    subst (λ (d : Result Plan Outcome). IsAnswerDue outcome d) (sym (first_read c.args.first.now c.args.second.now tree c.in_ok-one.one (c.in_ok-one.ensures.due tree known)))
-    (due tree (c.in_ok-one.ensures.kept ∙ known)))
-    c.compare_with.ensures.refused
+    IfErr-weaker c.compare_export.result _ _ (λ outcome due tree known. due tree (c.in_ok-export.ensures.kept ∙ known) (c.in_ok-export.ensures.due tree known))
+    c.compare_export.ensures.refused

@@ -16,3 +16,6 @@ returns-in-TooLarge g c = rw c.in-TooLarge.is (rw (sym c.limit_text.ensures) c.w
 
 pub returns-in-Memory : goal.returns-in-Memory
 returns-in-Memory g c = rw c.in-Memory.is c.write_bytes-in-Memory.ensures
+
+pub returns-in-BadArchive : goal.returns-in-BadArchive
+returns-in-BadArchive g c = rw c.in-BadArchive.is (rw (sym c.archive_text.ensures) c.write_bytes-in-BadArchive.ensures)
