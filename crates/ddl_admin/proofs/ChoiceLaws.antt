@@ -1,11 +1,11 @@
 -- Parts that may be left out have the laws of a part, one before another.
-use Rattle.std.proofs.Common.{◌≡◌, ℕ, Bool, true, false, ◌||◌, List, [], ◌∷◌, ◌++◌, Option, Some, None, refl, sym, ap, ◌∙◌, ◌⊎◌, inl, inr}
-use Rattle.std.proofs.lemmas.Bool.{or_parts}
+use Rattle.std.proofs.Common.{◌≡◌, ℕ, Bool, true, false, ◌||◌, List, [], ◌∷◌, ◌++◌, Option, Some, None, sym, ap, ◌∙◌, ◌⊎◌, inl, inr}
+use Rattle.std.proofs.lemmas.Bool.{or_parts, or_left, or_right}
 use Rattle.std.specs.Str.{str_eq_ignore_ascii_case}
 use Rattle.ddl_parts.specs.Lexemes.{Lexeme, is_word, starts}
 use Rattle.ddl_parts.specs.Parts.{Part, mark, seen, wider, ◌▸◌}
 use Rattle.ddl_parts.specs.Laws.{Lawful, Apart, Avoids}
-use Rattle.ddl_parts.proofs.Steps.{starts_neither, starts_apart, starts-append}
+use Rattle.ddl_parts.proofs.Steps.{starts_neither, starts_apart, starts-append, starts_more}
 use Rattle.ddl_parts.proofs.Simple.{seen_laws, wider_laws}
 use Rattle.ddl_parts.proofs.Leads.{words_apart}
 use Rattle.ddl_parts.proofs.Composing.{Headed, lawful_then, headed_word, headed_seen, one_word, lawful_choose, lawful_maybe, avoids_maybe}
@@ -18,23 +18,11 @@ pub record IsOptional {A : Type 0} (keys : List (List ℕ)) (p : Part A) : Type 
   pub skips : (v : A) (ts : List Lexeme) → p.Spells v ts → (ts ≡ []) ⊎ (starts (any_word keys) ts ≡ true)
   pub only : (t : Lexeme) → any_word keys t ≡ false → p.goes_on t ≡ false
 
-starts_more : (test other : Lexeme → Bool) → ((t : Lexeme) → test t ≡ true → other t ≡ true) → (ts : List Lexeme) → starts test ts ≡ true → starts other ts ≡ true
-starts_more test other more [] e = absurd cc
-starts_more test other more (t ∷ ts) e = more t e
-
-or_first : (a b : Bool) → a ≡ true → (a || b) ≡ true
-or_first true b e = refl
-or_first false b e = absurd cc
-
-or_second : (a b : Bool) → b ≡ true → (a || b) ≡ true
-or_second true b e = refl
-or_second false b e = e
-
 any_first : (keys others : List (List ℕ)) (t : Lexeme) → any_word keys t ≡ true → any_word (keys ++ others) t ≡ true
-any_first keys others t e = any-append keys others t ∙ or_first (any_word keys t) (any_word others t) e
+any_first keys others t e = any-append keys others t ∙ or_left (any_word keys t) (any_word others t) e
 
 any_second : (keys others : List (List ℕ)) (t : Lexeme) → any_word others t ≡ true → any_word (keys ++ others) t ≡ true
-any_second keys others t e = any-append keys others t ∙ or_second (any_word keys t) (any_word others t) e
+any_second keys others t e = any-append keys others t ∙ or_right (any_word keys t) (any_word others t) e
 
 -- one before another, where their key words differ
 pub before_is : {A B : Type 0} {keys others : List (List ℕ)} {p : Part A} {q : Part B} → IsOptional keys p → IsOptional others q → all_differ others keys ≡ true → IsOptional (keys ++ others) (p before q)
@@ -71,7 +59,7 @@ seen_is {p = p} f h = record { laws = seen_laws f p h.laws; skips = λ w ts spel
 -- ---- a part behind a key word
 
 one_key : (key : List ℕ) (t : Lexeme) → is_word key t ≡ true → any_word (key ∷ []) t ≡ true
-one_key key t e = or_first (is_word key t) false e
+one_key key t e = or_left (is_word key t) false e
 
 no_key : (key : List ℕ) (keys : List (List ℕ)) (t : Lexeme) → any_word (key ∷ keys) t ≡ false → is_word key t ≡ false
 no_key key keys t e = (or_parts (is_word key t) (any_word keys t) e).0
@@ -107,10 +95,10 @@ flag_is key denial differ =
     no_denial t e = no_key denial [] t (or_parts (is_word key t) (any_word (denial ∷ []) t) e).1
 
     is_key : (t : Lexeme) → is_word key t ≡ true → any_word (key ∷ denial ∷ []) t ≡ true
-    is_key t e = or_first (is_word key t) (any_word (denial ∷ []) t) e
+    is_key t e = or_left (is_word key t) (any_word (denial ∷ []) t) e
 
     is_denial : (t : Lexeme) → is_word denial t ≡ true → any_word (key ∷ denial ∷ []) t ≡ true
-    is_denial t e = or_second (is_word key t) (any_word (denial ∷ []) t) (one_key denial t e)
+    is_denial t e = or_right (is_word key t) (any_word (denial ∷ []) t) (one_key denial t e)
 
     skips : (v : Option Bool) (ts : List Lexeme) → (flag key denial).Spells v ts → (ts ≡ []) ⊎ (starts (any_word (key ∷ denial ∷ [])) ts ≡ true)
     skips v ts (inl h) = inr (starts_more (is_word key) (any_word (key ∷ denial ∷ [])) is_key ts (yes.begins v ts h))

@@ -1,5 +1,5 @@
 -- CREATE DATABASE has the laws of a part.
-use Rattle.std.proofs.Common.{◌≡◌, Bool, true, false, not, ◌&&◌, ◌||◌, [], ◌∷◌, Option, Some, None, refl, ap, ◌∙◌, codes}
+use Rattle.std.proofs.Common.{◌≡◌, Bool, true, false, not, ◌&&◌, ◌||◌, [], ◌∷◌, Option, Some, None, refl, ap, ◌∙◌, codes, arith}
 use Rattle.std.proofs.lemmas.Bool.{or_parts}
 use Rattle.std.specs.Str.{is_utf8, chars}
 use Rattle.std.proofs.Math.Utf8.{encode}
@@ -14,7 +14,7 @@ use Rattle.ddl_parts.specs.Laws.{Lawful, Apart, Avoids}
 use Rattle.ddl_parts.specs.Leaves.{literal_value, text_in}
 use Rattle.ddl_parts.proofs.Simple.{one_laws}
 use Rattle.ddl_parts.proofs.Leads.{name_laws}
-use Rattle.ddl_parts.proofs.Telling.{sign_no_word}
+use Rattle.ddl_parts.proofs.Telling.{sign_no_word, and_false}
 use Rattle.ddl_parts.proofs.Composing.{Headed, lawful_seen, lawful_word, lawful_sign, lawful_ended, lawful_then, lawful_next, headed_word, headed_seen, headed_next, lawful_maybe, avoids_maybe}
 use Rattle.ddl_admin.specs.Choices.{any_word}
 use Rattle.ddl_admin.specs.Databases.{own_options, is_bare, is_option, furthers, utf8_value, utf8, encoded, goes_on, maybe_encoded, options, create_database}
@@ -43,9 +43,7 @@ unfolding maybe_encoded
 maybe_encoded_laws = lawful_maybe goes_on no_encoding (headed_seen Some encoded_is) (λ t e. (none_goes t e).0)
 
 or_true : (a b : Bool) → b ≡ true → (a || (b || false)) ≡ true
-or_true true b e = refl
-or_true false true e = refl
-or_true false false e = absurd cc
+or_true a b e = grind arith
 
 encoding_is_own : Apart (is_word (codes "encoding")) is_option
 unfolding is_option
@@ -58,10 +56,6 @@ maybe_encoded_avoids = avoids_maybe is_option (headed_seen Some encoded_is) enco
 options_laws : Lawful options
 unfolding options furthers
 options_laws = lawful_seen (λ x. x.1) (lawful_then furthers_laws maybe_encoded_laws maybe_encoded_avoids)
-
-and_false : (x : Bool) → (x && false) ≡ false
-and_false true = refl
-and_false false = refl
 
 no_option : Apart (is_sign 59) is_option
 unfolding is_option is_bare

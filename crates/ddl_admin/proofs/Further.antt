@@ -1,9 +1,9 @@
 -- Options that are dropped, and the encoding, as they are read.
-use Rattle.std.proofs.Common.{◌≡◌, ℕ, Bool, true, false, cond, not, ◌&&◌, ◌||◌, List, [], ◌∷◌, Some, None, Result, Ok, Err, bytes_eq, drop, refl, ap, ◌∙◌, codes}
+use Rattle.std.proofs.Common.{◌≡◌, ℕ, Bool, true, false, cond, not, ◌&&◌, ◌||◌, List, [], ◌∷◌, Some, None, Result, Ok, Err, bytes_eq, drop, refl, ap, ◌∙◌, codes, arith}
 use Rattle.std.specs.Str.{str_to_ascii_lowercase}
 use Rattle.std.proofs.lemmas.Slice.Eq.{bytes_eq-Decides}
 use Rattle.sql_lex.specs.declared.token.TokenKind.{TokenKind}
-use Rattle.sql_lex.specs.declared.token.TokenKind.TheVariants.{Word, QuotedName, Literal, Number, Sign, MetaLine}
+use Rattle.sql_lex.specs.declared.token.TokenKind.TheVariants.{Word, QuotedName, Number}
 use Rattle.sql_lex.specs.Meaning.{is_keyword_of}
 use Rattle.cat_model.specs.declared.constraint.Encoding.{Encoding}
 use Rattle.cat_model.specs.declared.constraint.Encoding.TheVariants.{Utf8}
@@ -19,8 +19,7 @@ use Rattle.ddl_parts.proofs.Steps.{gives}
 use Rattle.ddl_parts.proofs.Simple.{mark_laws, seen_laws}
 use Rattle.ddl_parts.proofs.Sequence.{lead_laws, lead_begins}
 use Rattle.ddl_parts.proofs.Leads.{a_word, a_literal, sign_laws}
-use Rattle.ddl_parts.proofs.Repeated.{AreApart, many_laws}
-use Rattle.ddl_parts.proofs.Items.{items_from, from_item, from_stop, from_none}
+use Rattle.ddl_parts.proofs.Repeated.{AreApart, many_laws, items_from, from_read, from_stop, from_none}
 use Rattle.ddl_admin.specs.Choices.{any_word}
 use Rattle.ddl_admin.specs.Databases.{word_first, is_bare, own_options, is_option, is_value, further, furthering, furthers, utf8_in, utf8_value, utf8}
 
@@ -39,15 +38,13 @@ bare_is [] w e = refl
 bare_is (t ∷ ts) w e = let same : w ≡ t.word = cc in ap (λ (x : List ℕ). is_keyword_of t.kind t.word x) same ∙ self_by t.kind t.word
 
 pub no_bare : (ts : List Lexeme) → None ≡ word_first ts → starts is_bare ts ≡ false
-no_bare [] e = refl
-no_bare (t ∷ ts) e = absurd cc
+no_bare ts e = grind arith
 
 -- ---- tests of the first token
 
 pub option_starts : (ts : List Lexeme) → starts is_option ts ≡ (not (starts (any_word own_options) ts) && starts is_bare ts)
 unfolding is_option
-option_starts [] = refl
-option_starts (t ∷ ts) = refl
+option_starts ts = grind arith
 
 pub some_number : (ts : List Lexeme) (w : List ℕ) → Some w ≡ number_first ts → starts is_number ts ≡ true
 unfolding is_number
@@ -71,8 +68,7 @@ no_number (t ∷ ts) e = by t.kind t.word e
 
 pub value_starts : (ts : List Lexeme) → starts is_value ts ≡ (starts is_name ts || (starts is_literal ts || starts is_number ts))
 unfolding is_value
-value_starts [] = refl
-value_starts (t ∷ ts) = refl
+value_starts ts = grind arith
 
 -- ---- a further option
 
@@ -115,13 +111,12 @@ abbrev dropped : List (Unit {0}) → Unit {0}
 dropped options = tt
 
 one_dropped : (v : Unit {0}) (r : Reading (List (Unit {0}))) → seen_at dropped (r >>= λ others. gives (v ∷ others.0) others.1) ≡ seen_at dropped r
-one_dropped v (Ok x) = refl
-one_dropped v (Err s) = refl
+one_dropped v r = grind arith
 
 pub goes_by : (ts : List Lexeme) (at next : ℕ) → starts is_option (drop at ts) ≡ true → further.read (drop at ts) ≡ Ok (tt, drop next ts) → furthers.read (drop at ts) ≡ furthers.read (drop next ts)
 unfolding furthers
 goes_by ts at next begins e =
-    ap (seen_at dropped) (from_item is_option furthering furthers_apart tt (drop at ts) tt (drop next ts) begins e) ∙ one_dropped tt (items_from furthering tt (drop next ts))
+    ap (seen_at dropped) (from_read furthers_apart tt (drop at ts) (Ok (tt, drop next ts)) begins e) ∙ one_dropped tt (items_from furthering tt (drop next ts))
 
 pub ends_at : (ts : List Lexeme) (at : ℕ) → starts is_option (drop at ts) ≡ false → furthers.read (drop at ts) ≡ Ok (tt, drop at ts)
 unfolding furthers

@@ -1,9 +1,8 @@
 -- Tokens that are told apart: key words, signs and numbers.
-use Rattle.std.proofs.Common.{◌≡◌, ℕ, Bool, true, false, not, ◌&&◌, ◌||◌, List, [], ◌∷◌, ◌++◌, refl, sym, ap, ◌∙◌}
+use Rattle.std.proofs.Common.{◌≡◌, ℕ, Bool, true, false, not, ◌&&◌, ◌||◌, List, [], ◌∷◌, ◌++◌, refl, sym, ap, ◌∙◌, arith}
 use Rattle.std.proofs.lemmas.Bool.{and_parts, not-true}
 use Rattle.std.specs.Str.{str_eq_ignore_ascii_case}
 use Rattle.sql_lex.specs.declared.token.TokenKind.{TokenKind}
-use Rattle.sql_lex.specs.declared.token.TokenKind.TheVariants.{Word, QuotedName, Literal, Number, Sign, MetaLine}
 use Rattle.sql_lex.specs.Meaning.{is_keyword_of}
 use Rattle.ddl_parts.specs.Lexemes.{Lexeme, is_word, is_sign}
 use Rattle.ddl_parts.specs.Laws.{Apart}
@@ -19,9 +18,7 @@ sign_not_bare b t e = (sign_kind_by t.kind b e).2
 
 literal_no_word_by : (k : TokenKind) (w key : List ℕ) → is_literal_kind k ≡ true → is_keyword_of k w key ≡ false
 unfolding is_keyword_of
-literal_no_word_by Literal w key e = refl
-literal_no_word_by Word w key e = absurd cc
-literal_no_word_by x w key e = absurd cc
+literal_no_word_by x w key e = grind arith
 
 pub literal_no_word : (key : List ℕ) → Apart is_literal (is_word key)
 unfolding is_literal is_word
@@ -55,8 +52,7 @@ words_differ (key ∷ keys) others d t e =
     by false is later = later (ap (λ (c : Bool). c || any_word keys t) (sym is) ∙ e)
 
 or_grouped : (a b c : Bool) → (a || (b || c)) ≡ ((a || b) || c)
-or_grouped true b c = refl
-or_grouped false b c = refl
+or_grouped a b c = grind arith
 
 pub any-append : (keys others : List (List ℕ)) (t : Lexeme) → any_word (keys ++ others) t ≡ (any_word keys t || any_word others t)
 any-append [] others t = refl

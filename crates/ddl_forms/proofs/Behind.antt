@@ -35,24 +35,13 @@ abbrev pub covers : Behind → Behind → Bool
 covers a b = nat_lt (rank a) (rank b + 1)
 
 pub covers_all : (b : Behind) → covers Anything b ≡ true
-covers_all Anything = refl
-covers_all b = refl
+covers_all b = grind arith
 
 pub covers_same : (b : Behind) → covers b b ≡ true
-covers_same Anything = refl
-covers_same b = refl
+covers_same b = grind arith
 
 pub admitted : (a b : Behind) (rest : List ℕ) → covers a b ≡ true → admits b rest ≡ true → admits a rest ≡ true
-admitted Anything b rest c e = refl
-admitted Words Words rest c e = e
-admitted Words x [] c e = refl
-admitted Words Safe (y ∷ rest) c e = rw e refl
-admitted Words x (y ∷ rest) c e = absurd cc
-admitted Safe Safe rest c e = e
-admitted Safe x [] c e = refl
-admitted Safe x (y ∷ rest) c e = absurd cc
-admitted End End rest c e = e
-admitted End x rest c e = absurd cc
+admitted a b rest c e = grind arith
 
 pub through : (a b c : Behind) → covers a b ≡ true → covers b c ≡ true → covers a c ≡ true
 through a b c e f = lt-ltb (rank a) (rank c + 1) (omega (arith, ltb-true (rank a) (rank b + 1) e, ltb-true (rank b) (rank c + 1) f))
@@ -68,18 +57,10 @@ abbrev pub tighter : Behind → Behind → Behind
 tighter a b = cond (covers a b) b a
 
 pub loose : (m a b : Behind) → covers m (looser a b) ≡ true → (covers m a ≡ true) × (covers m b ≡ true)
-loose m a b = by (covers a b) refl
-  where
-    by : (e : Bool) → covers a b ≡ e → covers m (cond e a b) ≡ true → (covers m a ≡ true) × (covers m b ≡ true)
-    by true is c = (c, through m a b c is)
-    by false is c = (through m b a c (turned a b is), c)
+loose m a b e = grind (arith, nat_tests)
 
 pub tight : (a b : Behind) (rest : List ℕ) → admits (tighter a b) rest ≡ true → (admits a rest ≡ true) × (admits b rest ≡ true)
-tight a b rest = by (covers a b) refl
-  where
-    by : (e : Bool) → covers a b ≡ e → admits (cond e b a) rest ≡ true → (admits a rest ≡ true) × (admits b rest ≡ true)
-    by true is e = (admitted a b rest is e, e)
-    by false is e = (e, admitted b a rest (turned a b is) e)
+tight a b rest e = grind (arith, nat_tests)
 
 -- A text begins with what this admits, whatever follows it; or where it may be empty, whatever follows that is admitted.
 abbrev pub Opens : Bool → Behind → List ℕ → Type 0
@@ -95,13 +76,7 @@ opened [] text m c rest e = absurd cc
 opened (b ∷ g) text m c rest e = by (is_safe_byte b) (parts_words b) refl refl m c
   where
     by : (s w : Bool) → is_safe_byte b ≡ s → parts_words b ≡ w → (m : Behind) → covers m (cond s Safe (cond w Words Anything)) ≡ true → admits m (b ∷ ((g ++ text) ++ rest)) ≡ true
-    by s w is parts Anything c = refl
-    by true w is parts Words c = rw is refl
-    by true w is parts Safe c = is
-    by false true is parts Words c = parts
-    by true w is parts m c = absurd cc
-    by false true is parts m c = absurd cc
-    by false false is parts m c = absurd cc
+    by s w is parts m c = grind arith
 
 pub then_opens : (la lb : Bool) (oa ob : Behind) (a b : List ℕ) → Opens la oa a → Opens lb ob b → Opens (cond la lb false) (cond la (looser oa ob) oa) (a ++ b)
 then_opens true lb oa ob a b f g m c rest h = let k = loose m oa ob c in ap (admits m) (append_assoc a b rest) ∙ f m k.0 (b ++ rest) (g m k.1 rest h)

@@ -1,5 +1,5 @@
 -- A part ends with a token, and no such token stands before the last.
-use Rattle.std.proofs.Common.{◌≡◌, Bool, true, false, not, cond, ◌&&◌, List, [], ◌∷◌, ◌++◌, Result, Ok, Err, refl}
+use Rattle.std.proofs.Common.{◌≡◌, Bool, true, false, not, ◌&&◌, List, [], ◌∷◌, ◌++◌, refl, arith}
 use Rattle.std.proofs.lemmas.Bool.{and_parts}
 use Rattle.ddl_parts.specs.Lexemes.{Lexeme}
 use Rattle.ddl_parts.specs.Parts.{Part}
@@ -12,8 +12,7 @@ ends_with test (t ∷ []) = test t
 ends_with test (t ∷ u ∷ ts) = ends_with test (u ∷ ts)
 
 pub ends_cons : (test : Lexeme → Bool) (t : Lexeme) (ts : List Lexeme) → ends_with test ts ≡ true → ends_with test (t ∷ ts) ≡ true
-ends_cons test t [] e = absurd cc
-ends_cons test t (u ∷ ts) e = e
+ends_cons test t v e = grind arith
 
 pub ends_append : (test : Lexeme → Bool) (a b : List Lexeme) → ends_with test b ≡ true → ends_with test (a ++ b) ≡ true
 ends_append test [] b e = e
@@ -21,13 +20,6 @@ ends_append test (t ∷ a) b e = ends_cons test t (a ++ b) (ends_append test a b
 
 abbrev pub Closes : {A : Type 0} → (Lexeme → Bool) → Part A → Type 0
 Closes {A} test p = (v : A) (ts : List Lexeme) → p.Spells v ts → ends_with test ts ≡ true
-
-abbrev pub passes_by : Bool → Result (Unit {0}) Bool
-passes_by b = cond b (Ok tt) (Err false)
-
-pub passed : (v : Unit {0}) (b : Bool) → passes_by b ≡ Ok v → b ≡ true
-passed v true e = refl
-passed v false e = absurd cc
 
 -- ---- no semicolon before the last token
 
@@ -37,8 +29,7 @@ only_last test (t ∷ []) = true
 only_last test (t ∷ u ∷ ts) = not (test t) && only_last test (u ∷ ts)
 
 not_both : (a b : Bool) → a ≡ true → (not a && b) ≡ true → ⊥
-not_both true b e h = absurd cc
-not_both x b e h = absurd cc
+not_both x b e h = grind arith
 
 pub nothing_left : (test : Lexeme → Bool) (front rest : List Lexeme) → only_last test (front ++ rest) ≡ true → ends_with test front ≡ true → rest ≡ []
 nothing_left test [] rest last ends = absurd cc

@@ -16,6 +16,7 @@ use Rattle.ddl_parts.specs.Lexemes.{Lexeme, spelled, source, is_word, is_sign}
 use Rattle.ddl_parts.specs.Parts.{run, Runs}
 use Rattle.ddl_parts.specs.Expressions.{Nest, nested, nest_step, nest_done, ends_run, behind_kind, behind_not, behind_null, behind_other, is_inside, moved, step_by, default_and_null, are_not_null, without_not_null}
 use Rattle.ddl_parts.proofs.Leads.{words_apart}
+use Rattle.ddl_parts.proofs.RunLaws.{nest}
 use Rattle.ddl_parts.proofs.Machines.{run_none}
 use Rattle.ddl_forms.specs.Texts.{semicolon, IsDefaultText}
 use Rattle.ddl_forms.proofs.Standing.{Stood, placed}
@@ -31,9 +32,6 @@ use Rattle.ddl_forms.proofs.Expressions.{nested_plain}
 
 -- ---- steps of the two machines of defaults
 
-abbrev nest : List Bracket → Spot → Nest
-nest brackets spot = record { brackets = brackets; spot = spot }
-
 -- outside brackets, by what the token is: one that ends a run, NOT, NULL
 abbrev outside : Bool → Spot → TokenKind → Bool → Bool → Bool → Option Nest
 outside takes spot kind ends is_not is_null = cond ends None (cond is_not (behind_not spot) (cond is_null (behind_null takes spot) (behind_other kind spot)))
@@ -47,25 +45,14 @@ passed : (P : Nest → Type 0) (y x : Nest) → Some y ≡ Some x → P y → P 
 passed P y x e h = let same : y ≡ x = cc in subst P same h
 
 moved_inside : (o : Option (List Bracket)) (x : Nest) → moved o ≡ Some x → x.spot ≡ Inside
-moved_inside None x e = absurd cc
-moved_inside (Some bs) x e = passed (λ y. y.spot ≡ Inside) (nest bs Inside) x e refl
+moved_inside o x e = grind arith
 
 other_inside : (kind : TokenKind) (spot : Spot) (x : Nest) → behind_other kind spot ≡ Some x → x.spot ≡ Inside
-other_inside kind First x e = moved_inside (behind_kind kind []) x e
-other_inside kind Shut x e = absurd cc
-other_inside kind y x e = moved_inside (behind_kind kind []) x e
+other_inside kind spot x e = grind (arith, moved_inside)
 
 -- where NOT NULL isn't taken, a run goes on as where it is
-null_more : (spot : Spot) (x : Nest) → behind_null false spot ≡ Some x → behind_null true spot ≡ Some x
-null_more First x e = e
-null_more LaterNot x e = absurd cc
-null_more y x e = e
-
 outside_more : (spot : Spot) (kind : TokenKind) (ends is_not is_null : Bool) (x : Nest) → outside false spot kind ends is_not is_null ≡ Some x → outside true spot kind ends is_not is_null ≡ Some x
-outside_more spot kind true is_not is_null x e = e
-outside_more spot kind false true is_null x e = e
-outside_more spot kind false false true x e = null_more spot x e
-outside_more spot kind false false false x e = e
+outside_more spot kind ends is_not is_null x e = grind arith
 
 step_more : (s x : Nest) (t : Lexeme) → nest_step true false s t ≡ Some x → nest_step true true s t ≡ Some x
 unfolding nest_step
@@ -132,8 +119,7 @@ word_keeps key t bs e = by t.kind t.word e
 
 -- where NOT NULL isn't taken, no run ends with it
 null_refused : (spot : Spot) (kind : TokenKind) (ends : Bool) → behind_null false spot ≡ None → outside false spot kind ends false true ≡ None
-null_refused spot kind true e = refl
-null_refused spot kind false e = e
+null_refused spot kind ends e = grind arith
 
 both_refused : (spot : Spot) (kind : TokenKind) (ends is_null : Bool) (b : Lexeme) → is_word (codes "not") b ≡ false → is_word (codes "null") b ≡ true → option_and_then (λ x. nest_step true false x b) (outside false spot kind ends true is_null) ≡ None
 unfolding nest_step
@@ -231,10 +217,7 @@ not_null_stood others stood e = (a_word (codes "NOT") (spelled (word_token (32 �
 
 nulls_taken : (spot : Spot) (bs : List Bracket) (at : ℕ) → nest_done (nest bs spot) ≡ true → is_shut spot ≡ false → run (nested true true) (Some (nest bs spot)) (placed at not_null) ≡ Some (nest [] Shut)
 unfolding nest_step nest_done ends_run is_word is_sign is_keyword_of
-nulls_taken FirstNot [] at done free = refl
-nulls_taken LaterNot [] at done free = refl
-nulls_taken Inside [] at done free = refl
-nulls_taken x bs at done free = absurd cc
+nulls_taken x bs at done free = grind arith
 
 shut_is_done : nest_done (nest [] Shut) ≡ true
 unfolding nest_done
@@ -288,9 +271,7 @@ default_put v true others is follows e =
 
 -- nothing follows NOT NULL
 shut_outside : (kind : TokenKind) (ends is_not is_null : Bool) → outside true Shut kind ends is_not is_null ≡ None
-shut_outside kind true is_not is_null = refl
-shut_outside kind false false true = refl
-shut_outside kind x y z = refl
+shut_outside kind x is_not is_null = grind arith
 
 stays_shut : (last : Nest) (ts : List Lexeme) → run (nested true true) (Some (nest [] Shut)) ts ≡ Some last → is_shut last.spot ≡ true
 unfolding nest_step

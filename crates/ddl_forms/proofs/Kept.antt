@@ -24,7 +24,7 @@ use Rattle.ddl_parts.specs.Lexemes.{Lexeme, spelled, is_sign_kind}
 use Rattle.ddl_parts.specs.Pieces.{lexeme_of, lexemes}
 use Rattle.ddl_parts.specs.Collecting.{Collected, collected, collected_within, collected_by, nothing_more, preceded}
 use Rattle.ddl_parts.proofs.Telling.{and_false}
-use Rattle.ddl_parts.proofs.Slices.{drop_twice, seam}
+use Rattle.ddl_parts.proofs.Slices.{drop_twice, seam, between_low}
 use Rattle.ddl_forms.specs.Texts.{semicolon}
 use Rattle.ddl_forms.proofs.Standing.{is_safe, is_safe_byte, Stands, Stood}
 
@@ -49,10 +49,6 @@ AllCame (t ∷ ts) behind = Came t (spelled ts ++ behind) × AllCame ts behind
 left_of : (text : List ℕ) (at end : ℕ) (word rest : List ℕ) → drop at text ≡ word ++ rest → end ≡ at + length word → rest ≡ drop end text
 left_of text at end word rest e ends =
     sym (drop_at word rest (length word) refl) ∙ ap (drop (length word)) (sym e) ∙ drop_twice (length word) at text ∙ ap (λ n. drop n text) (sym ends)
-
-between_low : (text : List ℕ) (at to : ℕ) → Between text at to → at ≤ to
-between_low text _ _ (nothing at) = omega arith
-between_low text _ _ (gap at end to s more) = omega (arith, s.piece.ends, between_low text end to more)
 
 between_gaps : (text : List ℕ) (at to : ℕ) → Between text at to → Gaps (slice_range text at to) (drop to text)
 between_gaps text _ _ (nothing at) = subst (λ n. Gaps (take n (drop at text)) (drop at text)) (let e : 0 ≡ at - at = omega arith in e) (no_gap (drop at text))

@@ -1,6 +1,6 @@
 -- A type is written with the tokens that it has: words with those of their text, a path with three; and what is read of
 -- a text as a type can be written.
-use Rattle.std.proofs.Common.{◌≡◌, ℕ, Bool, true, false, cond, List, [], ◌∷◌, ◌++◌, append-nil, Option, Some, None, Result, Ok, Err, is_ok, refl, sym, ap, subst, ◌∙◌, option_and_then}
+use Rattle.std.proofs.Common.{◌≡◌, ℕ, Bool, true, false, cond, List, [], ◌∷◌, ◌++◌, append-nil, Option, Some, None, Result, Ok, Err, is_ok, refl, sym, ap, subst, ◌∙◌, option_and_then, arith}
 use Rattle.sql_lex.specs.declared.token.TokenKind.{TokenKind}
 use Rattle.sql_lex.specs.Meaning.{name_of, is_keyword_of}
 use Rattle.copy_text.specs.Texts.{IsName}
@@ -19,7 +19,7 @@ use Rattle.ddl_write.specs.Paths.{path}
 use Rattle.ddl_write.specs.Tables.{type_text}
 use Rattle.ddl_forms.specs.Texts.{IsPath, IsTypeText, IsType}
 use Rattle.ddl_forms.proofs.Behind.{Words, Safe, admits, admitted}
-use Rattle.ddl_forms.proofs.Closing.{passed}
+use Rattle.ddl_parts.proofs.Simple.{passes_true as passed}
 use Rattle.ddl_forms.proofs.Kept.{AllCame}
 use Rattle.ddl_forms.proofs.Tokens.{Gap, value_name}
 use Rattle.ddl_parts.proofs.Machines.{run_none}
@@ -57,17 +57,13 @@ by_dot ts b = cond b (type_name.Path (path_of ts)) (type_name.Words (source ts))
 
 type_by : (ts : List Lexeme) → type_of ts ≡ by_dot ts (has_dot (kinds ts))
 unfolding type_of is_sign
-type_by [] = refl
-type_by (a ∷ []) = refl
-type_by (a ∷ b ∷ []) = refl
-type_by (a ∷ b ∷ c ∷ rest) = refl
+type_by ts = grind arith
 
 no_dot : (ts : List Lexeme) (v : List ℕ) → type_of ts ≡ type_name.Words v → has_dot (kinds ts) ≡ false
 no_dot ts v e = by (has_dot (kinds ts)) (sym (type_by ts) ∙ e)
   where
     by : (b : Bool) → by_dot ts b ≡ type_name.Words v → b ≡ false
-    by true f = absurd cc
-    by false f = refl
+    by b f = grind arith
 
 words_by : (ts : List Lexeme) (v : List ℕ) → has_dot (kinds ts) ≡ false → source ts ≡ v → type_of ts ≡ type_name.Words v
 words_by ts v isnt whole = type_by ts ∙ ap (by_dot ts) isnt ∙ ap type_name.Words whole

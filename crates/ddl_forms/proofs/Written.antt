@@ -23,8 +23,9 @@ use Rattle.ddl_parts.specs.Leaves.{name, name_value, literal, literal_value, qua
 use Rattle.ddl_parts.specs.Pieces.{lexemes}
 use Rattle.ddl_parts.specs.Collecting.{collected}
 use Rattle.ddl_forms.specs.Texts.{semicolon, IsPath, IsRunText}
+use Rattle.ddl_parts.proofs.Simple.{passes_true}
 use Rattle.ddl_forms.proofs.Behind.{Behind, Anything, Words, Safe, End, admits, covers, covers_all, covers_same, through, admitted, looser, tighter, tight, Opens, opens_of, opened, then_opens, one_opens, other_opens}
-use Rattle.ddl_forms.proofs.Closing.{ends_with, ends_append, Closes, passed}
+use Rattle.ddl_forms.proofs.Closing.{ends_with, ends_append, Closes}
 use Rattle.ddl_forms.proofs.Kept.{AllCame, came_front, came_behind}
 use Rattle.ddl_forms.proofs.RunTexts.{IsPlainMachine, kinds, run_kept, run_read, plain_last}
 use Rattle.ddl_forms.proofs.Standing.{Stands, Stood, placed}
@@ -221,7 +222,7 @@ unfolding is_single
 end_put others follows e = sign_put none 59 refl others (inr (none_behind others follows.stood e)) follows
 
 pub mark_closes : (test : Lexeme → Bool) → Closes test (mark test)
-mark_closes test v ts spells = ap (ends_with test) spells.1 ∙ passed v (test spells.0) spells.2
+mark_closes test v ts spells = ap (ends_with test) spells.1 ∙ passes_true v (test spells.0) spells.2
 
 -- the semicolon that ends a statement
 abbrev pub ending : Mark semicolon

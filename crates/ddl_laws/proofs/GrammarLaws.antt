@@ -1,14 +1,14 @@
 -- The grammar of statements has the laws of a part: what is read is spelled so, what is spelled so is read, and where
 -- reading stops nothing goes on.
-use Rattle.std.proofs.Common.{◌≡◌, Bool, true, false, ◌||◌, List, [], ◌∷◌, Some, None, refl, ap, codes, ℕ, ◌+◌, ◌^◌, pos, arith, ◌++◌, append-nil, append_assoc, Ok, Err, sym, ◌∙◌, not, cond, Result, Option, subst, ◌⊎◌, inl, inr}
-use Rattle.std.proofs.lemmas.Bool.{or_parts, not-true}
+use Rattle.std.proofs.Common.{◌≡◌, Bool, true, false, ◌||◌, List, [], ◌∷◌, Some, None, refl, ap, codes, ℕ, ◌+◌, ◌^◌, pos, arith, ◌++◌, append-nil, append_assoc, Ok, Err, sym, ◌∙◌, not, cond, Result, Option, subst}
+use Rattle.std.proofs.lemmas.Bool.{not-true, not-false}
 use Rattle.std.specs.Str.{is_utf8, chars}
 use Rattle.std.proofs.Math.Utf8.{encode}
 use Rattle.std.specs.Prelude.{◌==◌, is_some}
 use Rattle.sql_lex.specs.Meaning.{is_keyword_of, name_of}
 use Rattle.ddl_parts.specs.Lexemes.{Lexeme, is_word, is_sign, source, starts}
 use Rattle.ddl_parts.specs.Parts.{Runs, run, runs_of, seen, Part, Reading, Stop, stop, choose_at, ◌then◌, Many, no_more, one_more, many, passes, ◌◂◌}
-use Rattle.ddl_parts.specs.Laws.{Lawful, Begins, Apart, Found, Stopped, Avoids}
+use Rattle.ddl_parts.specs.Laws.{Lawful, Begins, Apart, Avoids}
 use Rattle.ddl_parts.specs.Lists.{comma, listed}
 use Rattle.ddl_parts.specs.Leaves.{name_in, name_value, is_name, qualified, literal, is_literal}
 use Rattle.ddl_parts.proofs.Repeated.{many_laws}
@@ -19,7 +19,7 @@ use Rattle.ddl_parts.proofs.Composing.{Headed, lawful_seen, lawful_ended, lawful
 use Rattle.ddl_forms.proofs.RunTexts.{sign_kind}
 use Rattle.ddl_laws.proofs.Computing.{reads}
 use Rattle.ddl_read.specs.declared.rests.RestSpot.{RestSpot}
-use Rattle.ddl_read.specs.declared.rests.RestSpot.TheVariants.{Begin, Deferrable, Initially, Ended, Foreign, FirstOn, Update, UpdateNo, UpdateSet, Updated, SecondOn, Delete, DeleteNo, DeleteSet, Chosen, Opened, Named, Deleted}
+use Rattle.ddl_read.specs.declared.rests.RestSpot.TheVariants.{Begin, Deferrable, Initially, Foreign, FirstOn, Update, UpdateNo, UpdateSet, SecondOn, Delete, DeleteNo, DeleteSet, Opened, Named}
 use Rattle.ddl_read.specs.Columns.{more_names, names_of, columns}
 use Rattle.ddl_read.specs.Rests.{only_if, either, rest_step, rest_done, rest_goes_on, resting, key_rest, begins_foreign, foreign_rest}
 use Rattle.ddl_read.proofs.ColumnLaws.{names_apart}
@@ -33,8 +33,9 @@ use Rattle.ddl_read.specs.declared.sequences.Clauses.{Clauses}
 use Rattle.ddl_read.specs.SequenceGrammar.{with_number, reached, clause_first, kind_first, usual_first, step_first, is_between, begins_clause, first_reached, clausing, clauses_of, sequence_clauses, sequence_of, create_sequence}
 use Rattle.ddl_parts.specs.Expressions.{expression, nested, nest_step, nest_done, ends_run, default_text, is_end_kind}
 use Rattle.ddl_parts.specs.declared.runs.Spot.TheVariants.{Inside}
-use Rattle.ddl_parts.proofs.Steps.{starts-append, starts_again, err_is}
-use Rattle.ddl_parts.proofs.RunLaws.{expression_laws, expression_ends, expression_ends_bracket, default_text_laws, run_ends, not_false}
+use Rattle.ddl_parts.proofs.Steps.{starts-append, starts_again}
+use Rattle.ddl_parts.proofs.Told.{Tells, Fits, left_of, told, lawful}
+use Rattle.ddl_parts.proofs.RunLaws.{expression_laws, expression_ends, expression_ends_bracket, default_text_laws, run_ends}
 use Rattle.ddl_parts.proofs.Tables.{one_of_laws, one_of_avoids, one_of_avoids_others}
 use Rattle.ddl_read.specs.Clauses.{semicolon, new_owner}
 use Rattle.ddl_read.specs.RelationGrammar.{owned_by, its_role, its_column, sequence_changed, sequence_change, altered_sequence, view_and_body, create_view, replace_view, begun_by, bracketed, index_parts, index_of, unique_index_of, create_index, create_unique_index, view_branch, more_relations}
@@ -100,19 +101,7 @@ rest_ended m x = (_, refl, refl)
 
 rest_covers : (s : RestSpot) (t : Lexeme) → rest_done s ≡ true → rest_goes_on t ≡ false → rest_step s t ≡ None
 unfolding rest_step rest_done rest_goes_on
-rest_covers s t d e =
-    let a = or_parts (is_word (codes "initially") t) (is_word (codes "on") t || (is_word (codes "deferrable") t || is_sign 40 t)) e in
-    let b = or_parts (is_word (codes "on") t) (is_word (codes "deferrable") t || is_sign 40 t) a.1 in
-    let c = or_parts (is_word (codes "deferrable") t) (is_sign 40 t) b.1 in
-    by s d a.0 b.0 c.0 c.1
-  where
-    by : (x : RestSpot) → rest_done x ≡ true → is_word (codes "initially") t ≡ false → is_word (codes "on") t ≡ false → is_word (codes "deferrable") t ≡ false → is_sign 40 t ≡ false → rest_step x t ≡ None
-    by Deferrable d i o f b = rw i refl
-    by Ended d i o f b = refl
-    by Updated d i o f b = rw (o, f) refl
-    by Chosen d i o f b = rw (b, f) refl
-    by Deleted d i o f b = rw f refl
-    by _ d i o f b = absurd cc
+rest_covers s t d e = grind arith
 
 resting_ends : (s : RestSpot) → CanEnd (resting s)
 resting_ends s = record { finish = rest_finish; last = λ x. (rest_ended s x).0; finished = λ x. (rest_ended s x).1; done = λ x. (rest_ended s x).2; covers = rest_covers }
@@ -199,15 +188,7 @@ ended_at x c = (_, refl, refl)
 -- where no clause begins, none goes on
 none_begins : (c : Clauses) (t : Lexeme) → begins_clause t ≡ false → clause_first c (t ∷ []) ≡ None
 unfolding clause_first
-none_begins c t e =
-    let h1 = or_parts (is_word (codes "as") t) _ e in
-    let h2 = or_parts (is_word (codes "start") t) _ h1.1 in
-    let h3 = or_parts (is_word (codes "increment") t) _ h2.1 in
-    let h4 = or_parts (is_word (codes "no") t) _ h3.1 in
-    let h5 = or_parts (is_word (codes "minvalue") t) _ h4.1 in
-    let h6 = or_parts (is_word (codes "maxvalue") t) _ h5.1 in
-    let h7 = or_parts (is_word (codes "cache") t) (is_word (codes "cycle") t) h6.1 in
-    rw (h1.0, h2.0, h3.0, h4.0, h5.0, h6.0, h7.0, h7.1) refl
+none_begins c t e = grind arith
 
 covers_at : (spot : ClauseSpot) (c : Clauses) (t : Lexeme) → is_between spot ≡ true → begins_clause t ≡ false → step_first (reached c spot) (t ∷ []) ≡ None
 unfolding step_first
@@ -250,27 +231,19 @@ create_sequence_laws =
 -- A part has the laws where the next token passes a test, if it takes a token at least, and some of its spellings begin
 -- with each token that passes.
 begun_by_laws : {A : Type 0} (test : Lexeme → Bool) (p : Part A) → Lawful p → ((v : A) → p.Spells v [] → ⊥) → ((t : Lexeme) → test t ≡ true → (v : A) × (more : List Lexeme) × p.Spells v (t ∷ more)) → (t : Lexeme) → test t ≡ true → Lawful (begun_by test p)
-begun_by_laws {A} test p lp some goes x passes = record {
-  found = λ ts v rest e. found ts v rest (starts test ts) refl e;
-  only = λ v front rest spells free. ap (λ b. choose_at b (p.read (front ++ rest)) (stop (front ++ rest))) (starts-append test front rest spells.0) ∙ lp.only v front rest spells.1 free;
-  stopped = λ ts s e. stopped ts s (starts test ts) refl e;
-  example = let w = goes x passes in record { value = w.0; tokens = x ∷ w.1; spells = (passes, w.2) };
-}
+begun_by_laws {A} test p lp some goes x passes =
+    lawful (λ ts. tells ts (starts test ts) refl) (λ v front rest spells free. chosen (front ++ rest) true (starts-append test front rest spells.0) ∙ lp.only v front rest spells.1 free)
+    (record { value = w.0; tokens = x ∷ w.1; spells = (passes, w.2) })
   where
+    w : (v : A) × (more : List Lexeme) × p.Spells v (x ∷ more)
+    w = goes x passes
+
+    chosen : (ts : List Lexeme) (b : Bool) → starts test ts ≡ b → (begun_by test p).read ts ≡ choose_at b (p.read ts) (stop ts)
+    chosen ts b e = ap (λ b. choose_at b (p.read ts) (stop ts)) e
+
     begun : (v : A) (ts front rest : List Lexeme) → starts test ts ≡ true → ts ≡ front ++ rest → p.Spells v front → starts test front ≡ true
     begun v ts [] rest is parts spells = absurd (some v spells)
     begun v ts (t ∷ front) rest is parts spells = ap (starts test) (sym parts) ∙ is
-
-    found : (ts : List Lexeme) (v : A) (rest : List Lexeme) (b : Bool) → starts test ts ≡ b → choose_at b (p.read ts) (stop ts) ≡ Ok (v, rest) → Found (begun_by test p) ts v rest
-    found ts v rest false is h = absurd cc
-    found ts v rest true is h =
-        let f = lp.found ts v rest h in
-        record {
-          front = f.front;
-          parts = f.parts;
-          spells = (begun v ts f.front rest is f.parts f.spells, f.spells);
-          local = λ t behind e other. ap (λ b. choose_at b (p.read (f.front ++ t ∷ other)) (stop (f.front ++ t ∷ other))) (starts_again test true ts f.front rest t behind other is f.parts e) ∙ f.local t behind e other;
-        }
 
     not_both : (r : Reading A) (v : A) (rest : List Lexeme) (s : Stop) → r ≡ Ok (v, rest) → r ≡ Err s → ⊥
     not_both r v rest s e f = absurd (cc (e, f))
@@ -285,34 +258,18 @@ begun_by_laws {A} test p lp some goes x passes = record {
         absurd (not_both (p.read (t ∷ w.1)) w.0 [] (record { long = s.long; rest = t ∷ w.1 }) read (local t ts (sym parts) w.1))
     moved s ts (t ∷ front) is parts local = ap (starts test) (sym parts) ∙ is
 
-    stopped : (ts : List Lexeme) (s : Stop) (b : Bool) → starts test ts ≡ b → choose_at b (p.read ts) (stop ts) ≡ Err s → Stopped (begun_by test p) ts s
-    stopped ts s true is h =
-        let f = lp.stopped ts s h in
-        record {
-          front = f.front;
-          parts = f.parts;
-          value = f.value;
-          more = f.more;
-          finished = (starts-append test f.front f.more (moved s ts f.front is f.parts f.local), f.finished);
-          local = λ t behind e other. ap (λ b. choose_at b (p.read (f.front ++ t ∷ other)) (stop (f.front ++ t ∷ other))) (starts_again test true ts f.front s.rest t behind other is f.parts e) ∙ f.local t behind e other;
-        }
-    stopped ts s false is h =
-        let w = goes x passes in
-        let same = err_is {A = A × List Lexeme} (record { long = false; rest = ts }) s h in
-        let whole : ts ≡ s.rest = ap (λ (u : Stop). u.rest) same in
-        record {
-          front = [];
-          parts = whole;
-          value = w.0;
-          more = x ∷ w.1;
-          finished = (passes, w.2);
-          local = λ t behind e other.
-              ap (λ b. choose_at b (p.read (t ∷ other)) (stop (t ∷ other))) (ap (starts test) (sym (whole ∙ e)) ∙ is)
-              ∙ ap (λ (b : Bool). failed_at b (t ∷ other)) (ap (λ (u : Stop). u.long) same);
-        }
-      where
-        failed_at : Bool → List Lexeme → Reading A
-        failed_at long rest = Err (record { long = long; rest = rest })
+    fits : (ts : List Lexeme) (r : Reading A) → starts test ts ≡ true → (f : Tells p ts r) → Fits (begun_by test p).Spells f.front r
+    fits ts (Ok v) e f = (begun v.0 ts f.front v.1 e f.parts f.fits, f.fits)
+    fits ts (Err s) e f = (f.fits.0, f.fits.1, (starts-append test f.front f.fits.1 (moved s ts f.front e f.parts f.local), f.fits.2))
+
+    tells : (ts : List Lexeme) (b : Bool) → starts test ts ≡ b → Tells (begun_by test p) ts (choose_at b (p.read ts) (stop ts))
+    tells ts false e = record { front = []; parts = refl; fits = (w.0, x ∷ w.1, (passes, w.2)); local = λ t behind is other. chosen (t ∷ other) false (ap (starts test) (sym is) ∙ e) }
+    tells ts true e = let f = told lp ts (p.read ts) refl in record {
+      front = f.front;
+      parts = f.parts;
+      fits = fits ts (p.read ts) e f;
+      local = λ t behind is other. chosen (f.front ++ t ∷ other) true (starts_again test true ts f.front (left_of (p.read ts)) t behind other e f.parts is) ∙ f.local t behind is other;
+    }
 
 -- what a bracket opens is closed again
 opened : (t : Lexeme) → is_sign 40 t ≡ true → (v : List ℕ) × (more : List Lexeme) × expression.Spells v (t ∷ more)
@@ -384,18 +341,13 @@ table_change_laws = lawful_choose (headed_seen Owner new_owner_is) own_change_la
 abbrev is_no_only : Lexeme → Bool
 is_no_only t = not (is_word (codes "only") t)
 
--- a word's test tells whether it is a name
-told_by : (b : Bool) (x y : Result (List ℕ) Bool) (v : List ℕ) → cond b x y ≡ Ok v → ((b ≡ true) × (x ≡ Ok v)) ⊎ ((b ≡ false) × (y ≡ Ok v))
-told_by true x y v e = inl (refl, e)
-told_by false x y v e = inr (refl, e)
-
 pub only_is : (t : Lexeme) (v : List ℕ) → only_value t ≡ Ok v → (is_word (codes "only") t ≡ true) × (name_value t ≡ Ok v)
 unfolding only_value
-only_is t v e = elim (told_by (is_word (codes "only") t) (name_value t) (Err false) v e) [ inl h ↦ h | inr h ↦ absurd cc h.1 ]
+only_is t v e = grind arith
 
 pub other_is : (t : Lexeme) (v : List ℕ) → other_value t ≡ Ok v → (is_word (codes "only") t ≡ false) × (name_value t ≡ Ok v)
 unfolding other_value
-other_is t v e = elim (told_by (is_word (codes "only") t) (Err false) (name_value t) v e) [ inl h ↦ absurd cc h.1 | inr h ↦ h ]
+other_is t v e = grind arith
 
 only_name_is : Headed (is_word (codes "only")) only_name
 unfolding only_value is_word is_keyword_of name_value name_in name_of is_utf8 chars encode
@@ -431,7 +383,7 @@ labels_end t e = rw (sign_no_literal 41 t e, signs_apart 41 44 refl t e) refl
 -- ---- what ends a type with what may follow it
 
 closing_ends : (b : ℕ) → (b == 41 || b == 93 || b == 59) ≡ true → (t : Lexeme) → is_sign b t ≡ true → ends_run true t ≡ true
-closing_ends b ends t e = not_false (ends_run true t) (run_ends true b ends t e)
+closing_ends b ends t e = not-false (ends_run true t) (run_ends true b ends t e)
 
 word_ends : (t : Lexeme) → is_word (codes "constraint") t ≡ true → ends_run true t ≡ true
 unfolding ends_run

@@ -1,5 +1,5 @@
 -- CREATE SEQUENCE with the text that it is written in: its clauses bring those so far on from one state to another.
-use Rattle.std.proofs.Common.{◌≡◌, ℕ, ◌+◌, ◌<◌, ◌^◌, ℤ, pos, negsuc, Bool, true, false, cond, List, [], ◌∷◌, ◌++◌, append-nil, Option, Some, None, Result, Ok, refl, sym, ap, subst, ◌∙◌, ◌⊎◌, inl, inr, codes, option_and_then}
+use Rattle.std.proofs.Common.{◌≡◌, ℕ, ◌+◌, ◌<◌, ◌^◌, ℤ, pos, negsuc, Bool, true, false, cond, List, [], ◌∷◌, ◌++◌, append-nil, Option, Some, None, Result, Ok, refl, sym, ap, subst, ◌∙◌, ◌⊎◌, inl, inr, codes, option_and_then, arith}
 use Rattle.std.specs.Prelude.{◌&&◌, not, is_some}
 use Rattle.std.specs.Ordering.{int_eq}
 use Rattle.std.specs.Fmt.{signed_decimal}
@@ -27,7 +27,7 @@ use Rattle.ddl_read.specs.declared.sequences.Clauses.{Clauses}
 use Rattle.ddl_read.specs.declared.sequences.Reached.{Reached}
 use Rattle.ddl_read.specs.SequenceGrammar.{no_clauses, is_unsaid, with_number, reached, only_if, behind_no, clause_first, kind_first, lower, upper, usual_first, numbered, step_first, clausing, first_reached, clauses_of, sequence_clauses, given_or, bound_or, usual_start, sequence_of, create_sequence}
 use Rattle.ddl_forms.proofs.Behind.{Anything, Words, Safe, End, admits, admitted, Opens, then_opens}
-use Rattle.ddl_forms.proofs.Closing.{passed}
+use Rattle.ddl_parts.proofs.Simple.{passes_true as passed}
 use Rattle.ddl_forms.proofs.Numbers.{number_as, positive_is, opposite_is, IsBelow, count_below}
 use Rattle.ddl_forms.proofs.Putting.{Follows, IsPut, Yields, followed, begun, same_text, put_as, none_put, one_put, then_put, joined-append}
 use Rattle.ddl_forms.proofs.Standing.{is_safe_byte}
@@ -247,8 +247,7 @@ clauses_move v is =
     both (type_moves v.kind) (both (start_moves typed v.start is.0) (both (step_moves started v.step is.1) bounds))
 
 pub said_is : (kind : SequenceKind) → given_or BigInt (said kind) ≡ kind
-said_is SmallInt = refl
-said_is x = refl
+said_is x = grind arith
 
 pub bound_is : (usual n : ℤ) → bound_or usual (bound_of (int_eq n usual) n) ≡ n
 bound_is usual n = by (int_eq n usual) refl

@@ -1,5 +1,5 @@
 -- The laws of words, signs, names and literals; key words that differ are told apart.
-use Rattle.std.proofs.Common.{◌≡◌, ℕ, Bool, true, false, List, [], ◌∷◌, ◌++◌, Ok, refl, ap, ◌∙◌, ◌⊎◌, inl, inr, bytes_eq, codes, eq-eqb}
+use Rattle.std.proofs.Common.{◌≡◌, ℕ, Bool, true, false, List, [], ◌∷◌, ◌++◌, Ok, refl, ap, ◌∙◌, ◌⊎◌, inl, inr, bytes_eq, codes, eq-eqb, arith}
 use Rattle.std.specs.Str.{str_eq_ignore_ascii_case, str_to_ascii_lowercase, is_utf8, chars}
 use Rattle.std.proofs.Math.Utf8.{encode}
 use Rattle.std.proofs.lemmas.Slice.Eq.{bytes_eq-Decides}
@@ -48,10 +48,7 @@ unfolding is_name name_value name_in name_of
 name_begins = one_begins name_value is_name by_kind
   where
     by : (k : TokenKind) (w : List ℕ) (v : List ℕ) → name_in (name_of k w) ≡ Ok v → is_name_kind k ≡ true
-    by Word w v e = refl
-    by QuotedName w v e = refl
-    by Literal w v e = absurd cc
-    by x w v e = absurd cc
+    by k w v e = grind arith
 
     by_kind : (t : Lexeme) (v : List ℕ) → name_value t ≡ Ok v → is_name t ≡ true
     by_kind t v e = by t.kind t.word v e
@@ -61,9 +58,7 @@ unfolding is_literal literal_value text_in literal_of
 literal_begins = one_begins literal_value is_literal by_kind
   where
     by : (k : TokenKind) (w : List ℕ) (v : List ℕ) → text_in (literal_of k w) ≡ Ok v → is_literal_kind k ≡ true
-    by Literal w v e = refl
-    by Word w v e = absurd cc
-    by x w v e = absurd cc
+    by k w v e = grind arith
 
     by_kind : (t : Lexeme) (v : List ℕ) → literal_value t ≡ Ok v → is_literal t ≡ true
     by_kind t v e = by t.kind t.word v e
@@ -107,9 +102,7 @@ words_apart a b differ t e = words_by t.kind t.word a b differ e
 
 word_no_sign_by : (k : TokenKind) (w key : List ℕ) (b : ℕ) → is_keyword_of k w key ≡ true → is_sign_kind b k ≡ false
 unfolding is_keyword_of
-word_no_sign_by Word w key b e = refl
-word_no_sign_by (Sign c) w key b e = absurd cc
-word_no_sign_by x w key b e = refl
+word_no_sign_by k w key b e = grind arith
 
 pub word_no_sign : (key : List ℕ) (b : ℕ) → Apart (is_word key) (is_sign b)
 unfolding is_word is_sign

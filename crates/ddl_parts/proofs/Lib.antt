@@ -1,4 +1,5 @@
 pub mod Steps
+pub mod Told
 pub mod Simple
 pub mod Sequence
 pub mod Choice

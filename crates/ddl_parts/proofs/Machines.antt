@@ -1,9 +1,10 @@
 -- The laws of a run of tokens that a machine takes.
-use Rattle.std.proofs.Common.{◌≡◌, Bool, true, false, cond, List, [], ◌∷◌, ◌++◌, Option, Some, None, Ok, Err, refl, sym, ap, subst, ◌∙◌, ◌⊎◌, inl, inr, option_and_then}
+use Rattle.std.proofs.Common.{◌≡◌, Bool, true, false, cond, List, [], ◌∷◌, ◌++◌, Option, Some, None, Ok, Err, refl, sym, ap, subst, ◌∙◌}
 use Rattle.ddl_parts.specs.Lexemes.{Lexeme, starts}
-use Rattle.ddl_parts.specs.Parts.{Stop, Reading, ◌>>=◌, Machine, run, Runs, ends, scan, scan_step, runs_of}
+use Rattle.ddl_parts.specs.Parts.{Reading, ◌>>=◌, Machine, run, ends, scan, scan_step, runs_of}
 use Rattle.ddl_parts.specs.Laws.{Lawful}
-use Rattle.ddl_parts.proofs.Steps.{bind_ok, bind_err, ok_is, err_is, gives, value_is, rest_is}
+use Rattle.ddl_parts.proofs.Steps.{gives}
+use Rattle.ddl_parts.proofs.Told.{Told, lawful, told_as}
 use Rattle.ddl_parts.proofs.Simple.{head_is}
 
 -- What a machine needs: each state can be brought to an end, and where it is done it takes no token but those that it says.
@@ -20,24 +21,6 @@ pub run_none : (m : Machine) (ts : List Lexeme) → run m None ts ≡ None
 run_none m [] = refl
 run_none m (t ∷ ts) = run_none m ts
 
-run-append : (m : Machine) (s : Option m.State) (a b : List Lexeme) → run m s (a ++ b) ≡ run m (run m s a) b
-run-append m s [] b = refl
-run-append m s (t ∷ a) b = run-append m (option_and_then (λ x. m.step x t) s) a b
-
-record Scanned (m : Machine) (s : m.State) (ts taken rest : List Lexeme) : Type 0 where
-  parts : ts ≡ taken ++ rest
-  last : m.State
-  runs : run m (Some s) taken ≡ Some last
-  done : m.done last ≡ true
-  local : (t : Lexeme) (behind : List Lexeme) → rest ≡ t ∷ behind → (other : List Lexeme) → scan m s (taken ++ t ∷ other) ≡ Ok (taken, t ∷ other)
-
-record Refused (m : Machine) (s : m.State) (ts : List Lexeme) (u : Stop) : Type 0 where
-  front : List Lexeme
-  parts : ts ≡ front ++ u.rest
-  last : m.State
-  runs : run m (Some s) front ≡ Some last
-  local : (t : Lexeme) (behind : List Lexeme) → u.rest ≡ t ∷ behind → (other : List Lexeme) → scan m s (front ++ t ∷ other) ≡ Err (record { long = u.long; rest = t ∷ other })
-
 -- how a scan goes on, by the step that is taken
 abbrev by_step : (m : Machine) → m.State → Lexeme → List Lexeme → Option m.State → Reading (List Lexeme)
 by_step m s t ts next = scan_step (ends m s (m.long s t) (t ∷ ts)) (λ x. scan m x ts >>= λ r. gives (t ∷ r.0) r.1) next
@@ -49,63 +32,49 @@ stepped m s t ts next e = ap (by_step m s t ts) e
 abbrev by_done : (m : Machine) → Bool → List Lexeme → Bool → Reading (List Lexeme)
 by_done m long rest d = cond d (gives [] rest) (Err (record { long = long; rest = rest }))
 
-done_read : (m : Machine) (s : m.State) (long : Bool) (rest taken rest' : List Lexeme) (d : Bool) → m.done s ≡ d → by_done m long rest d ≡ Ok (taken, rest') → (m.done s ≡ true) × ([] ≡ taken) × (rest ≡ rest')
-done_read m s long rest taken rest' true is e = (is, value_is [] taken rest rest' e, rest_is [] taken rest rest' e)
-done_read m s long rest taken rest' false is e = absurd cc
+-- what runs from a state on and may end there
+abbrev RunsFrom : (m : Machine) → m.State → List Lexeme → List Lexeme → Type 0
+RunsFrom m s v ts = (v ≡ ts) × (last : m.State) × (run m (Some s) ts ≡ Some last) × (m.done last ≡ true)
 
-done_refused : (m : Machine) (s : m.State) (long : Bool) (rest : List Lexeme) (u : Stop) (d : Bool) → m.done s ≡ d → by_done m long rest d ≡ Err u → (m.done s ≡ false) × (u.long ≡ long) × (u.rest ≡ rest)
-done_refused m s long rest u true is e = absurd cc
-done_refused m s long rest u false is e =
-    let same = err_is {A = List Lexeme × List Lexeme} (record { long = long; rest = rest }) u e in
-    (is, sym (ap (λ (x : Stop). x.long) same), sym (ap (λ (x : Stop). x.rest) same))
+abbrev Scans : (m : Machine) → m.State → List Lexeme → Reading (List Lexeme) → Type 0
+Scans m s ts r = Told (RunsFrom m s) (scan m s) ts r
 
--- ---- what is scanned
-
-scan_end : (m : Machine) (s : m.State) (taken rest : List Lexeme) → scan m s [] ≡ Ok (taken, rest) → Scanned m s [] taken rest
-unfolding scan
-scan_end m s taken rest e =
-    let d = done_read m s false [] taken rest (m.done s) refl e in
-    subst (λ (x : List Lexeme). Scanned m s [] x rest) d.1 (record {
-      parts = d.2;
-      last = s;
-      runs = refl;
-      done = d.0;
-      local = λ t behind is other. absurd (cc (d.2, is));
-    })
-
-scan_stays : (m : Machine) (s : m.State) (t : Lexeme) (ts taken rest : List Lexeme) → m.step s t ≡ None → scan m s (t ∷ ts) ≡ Ok (taken, rest) → Scanned m s (t ∷ ts) taken rest
-scan_stays m s t ts taken rest none e =
-    let d = done_read m s (m.long s t) (t ∷ ts) taken rest (m.done s) refl (sym (stepped m s t ts None none) ∙ e) in
-    subst (λ (x : List Lexeme). Scanned m s (t ∷ ts) x rest) d.1 (record {
-      parts = d.2;
-      last = s;
-      runs = refl;
-      done = d.0;
-      local = λ x behind is other.
-          subst (λ (y : Lexeme). scan m s (y ∷ other) ≡ Ok ([], y ∷ other)) (head_is t x ts behind (d.2 ∙ is))
-          (stepped m s t other None none ∙ ap (by_done m (m.long s t) (t ∷ other)) d.0);
-    })
-
-scan_goes : (m : Machine) (s : m.State) (t : Lexeme) (ts : List Lexeme) (x : m.State) (taken rest : List Lexeme) → m.step s t ≡ Some x → Scanned m x ts taken rest → Scanned m s (t ∷ ts) (t ∷ taken) rest
-scan_goes m s t ts x taken rest some f = record {
-  parts = ap (λ (r : List Lexeme). t ∷ r) f.parts;
-  last = f.last;
-  runs = ap (λ o. run m o taken) some ∙ f.runs;
-  done = f.done;
-  local = λ y behind is other. stepped m s t (taken ++ y ∷ other) (Some x) some ∙ ap (λ r. r >>= λ r. gives (t ∷ r.0) r.1) (f.local y behind is other);
+-- no token is taken
+stays : (m : Machine) → CanEnd m → (s : m.State) (long : Bool) (ts : List Lexeme) → ((t : Lexeme) (behind : List Lexeme) → ts ≡ t ∷ behind → (other : List Lexeme) → scan m s (t ∷ other) ≡ by_done m long (t ∷ other) (m.done s)) → (d : Bool) → m.done s ≡ d → Scans m s ts (by_done m long ts d)
+stays m h s long ts same true e = record { front = []; parts = refl; fits = (refl, s, refl, e); local = λ t behind is other. same t behind is other ∙ ap (by_done m long (t ∷ other)) e }
+stays m h s long ts same false e = record {
+  front = [];
+  parts = refl;
+  fits = (h.finish s, h.finish s, (refl, h.last s, h.finished s, h.done s));
+  local = λ t behind is other. same t behind is other ∙ ap (by_done m long (t ∷ other)) e;
 }
 
-scan_found : (m : Machine) (s : m.State) (ts taken rest : List Lexeme) → scan m s ts ≡ Ok (taken, rest) → Scanned m s ts taken rest
-scan_found m s [] taken rest e = scan_end m s taken rest e
-scan_found m s (t ∷ ts) taken rest e = by_next (λ x taken rest e. scan_found m x ts taken rest e) (m.step s t) refl
+-- one is, and what is scanned behind it
+goes : (m : Machine) (s : m.State) (t : Lexeme) (x : m.State) → m.step s t ≡ Some x → (ts : List Lexeme) (r : Reading (List Lexeme)) → Scans m x ts r → Scans m s (t ∷ ts) (r >>= λ r. gives (t ∷ r.0) r.1)
+goes m s t x is ts (Ok r) f = record {
+  front = t ∷ f.front;
+  parts = ap (λ (us : List Lexeme). t ∷ us) f.parts;
+  fits = (ap (λ (us : List Lexeme). t ∷ us) f.fits.0, f.fits.1, ap (λ o. run m o f.front) is ∙ f.fits.2, f.fits.3);
+  local = λ y behind i other. stepped m s t (f.front ++ y ∷ other) (Some x) is ∙ ap (λ r. r >>= λ r. gives (t ∷ r.0) r.1) (f.local y behind i other);
+}
+goes m s t x is ts (Err u) f = record {
+  front = t ∷ f.front;
+  parts = ap (λ (us : List Lexeme). t ∷ us) f.parts;
+  fits = (t ∷ f.fits.0, f.fits.1, (ap (λ (us : List Lexeme). t ∷ us) f.fits.2.0, f.fits.2.1, ap (λ o. run m o (f.front ++ f.fits.1)) is ∙ f.fits.2.2, f.fits.2.3));
+  local = λ y behind i other. stepped m s t (f.front ++ y ∷ other) (Some x) is ∙ ap (λ r. r >>= λ r. gives (t ∷ r.0) r.1) (f.local y behind i other);
+}
+
+scans : (m : Machine) → CanEnd m → (s : m.State) (ts : List Lexeme) → Scans m s ts (scan m s ts)
+unfolding scan
+scans m h s [] = stays m h s false [] (λ t behind is other. absurd cc) (m.done s) refl
+scans m h s (t ∷ ts) = by (λ x. scans m h x ts) (m.step s t) refl
   where
-    by_next : ((x : m.State) (taken rest : List Lexeme) → scan m x ts ≡ Ok (taken, rest) → Scanned m x ts taken rest) → (next : Option m.State) → m.step s t ≡ next → Scanned m s (t ∷ ts) taken rest
-    by_next later None is = scan_stays m s t ts taken rest is e
-    by_next later (Some x) is =
-        let b = bind_ok (scan m x ts) (λ r. gives (t ∷ r.0) r.1) (taken, rest) (sym (stepped m s t ts (Some x) is) ∙ e) in
-        let f = scan_goes m s t ts x b.0.0 b.0.1 is (later x b.0.0 b.0.1 b.1) in
-        let made : List Lexeme × List Lexeme = (t ∷ b.0.0, b.0.1) in
-        subst (λ (y : List Lexeme × List Lexeme). Scanned m s (t ∷ ts) y.0 y.1) (ok_is made (taken, rest) b.2) f
+    none : m.step s t ≡ None → (y : Lexeme) (behind : List Lexeme) → t ∷ ts ≡ y ∷ behind → (other : List Lexeme) → scan m s (y ∷ other) ≡ by_done m (m.long s t) (y ∷ other) (m.done s)
+    none is y behind i other = subst (λ (z : Lexeme). scan m s (z ∷ other) ≡ by_done m (m.long s t) (z ∷ other) (m.done s)) (head_is t y ts behind i) (stepped m s t other None is)
+
+    by : ((x : m.State) → Scans m x ts (scan m x ts)) → (next : Option m.State) → m.step s t ≡ next → Scans m s (t ∷ ts) (by_step m s t ts next)
+    by later None is = stays m h s (m.long s t) (t ∷ ts) (none is) (m.done s) refl
+    by later (Some x) is = goes m s t x is ts (scan m x ts) (later x)
 
 -- ---- what runs
 
@@ -122,64 +91,10 @@ scan_only m h s last (t ∷ taken) rest e d free = by_next (λ x e. scan_only m 
     by_next later None is e = absurd (cc (run_none m taken))
     by_next later (Some x) is e = stepped m s t (taken ++ rest) (Some x) is ∙ ap (λ r. r >>= λ r. gives (t ∷ r.0) r.1) (later x e)
 
--- ---- where scanning stops
-
-stops_end : (m : Machine) (s : m.State) (u : Stop) → scan m s [] ≡ Err u → Refused m s [] u
-unfolding scan
-stops_end m s u e =
-    let d = done_refused m s false [] u (m.done s) refl e in
-    record { front = []; parts = sym d.2; last = s; runs = refl; local = λ t behind is other. absurd (cc (d.2, is)) }
-
-stops_here : (m : Machine) (s : m.State) (t : Lexeme) (ts : List Lexeme) (u : Stop) → m.step s t ≡ None → scan m s (t ∷ ts) ≡ Err u → Refused m s (t ∷ ts) u
-stops_here m s t ts u none e =
-    let d = done_refused m s (m.long s t) (t ∷ ts) u (m.done s) refl (sym (stepped m s t ts None none) ∙ e) in
-    record {
-      front = [];
-      parts = sym d.2;
-      last = s;
-      runs = refl;
-      local = λ x behind is other.
-          subst (λ (y : Lexeme). scan m s (y ∷ other) ≡ Err (record { long = u.long; rest = y ∷ other })) (head_is t x ts behind (sym d.2 ∙ is))
-          (stepped m s t other None none ∙ ap (by_done m (m.long s t) (t ∷ other)) d.0 ∙ ap (λ (l : Bool). Err (record { long = l; rest = t ∷ other })) (sym d.1));
-    }
-
-stops_later : (m : Machine) (s : m.State) (t : Lexeme) (ts : List Lexeme) (x : m.State) (u : Stop) → m.step s t ≡ Some x → Refused m x ts u → Refused m s (t ∷ ts) u
-stops_later m s t ts x u some f = record {
-  front = t ∷ f.front;
-  parts = ap (λ (r : List Lexeme). t ∷ r) f.parts;
-  last = f.last;
-  runs = ap (λ o. run m o f.front) some ∙ f.runs;
-  local = λ y behind is other. stepped m s t (f.front ++ y ∷ other) (Some x) some ∙ ap (λ r. r >>= λ r. gives (t ∷ r.0) r.1) (f.local y behind is other);
-}
-
-scan_stopped : (m : Machine) (s : m.State) (ts : List Lexeme) (u : Stop) → scan m s ts ≡ Err u → Refused m s ts u
-scan_stopped m s [] u e = stops_end m s u e
-scan_stopped m s (t ∷ ts) u e = by_next (λ x u e. scan_stopped m x ts u e) (m.step s t) refl
-  where
-    by_err : ((x : m.State) (u : Stop) → scan m x ts ≡ Err u → Refused m x ts u) → (x : m.State) → m.step s t ≡ Some x → (scan m x ts ≡ Err u) ⊎ ((r : List Lexeme × List Lexeme) × (scan m x ts ≡ Ok r) × (gives (t ∷ r.0) r.1 ≡ Err u)) → Refused m s (t ∷ ts) u
-    by_err later x is (inl g) = stops_later m s t ts x u is (later x u g)
-    by_err later x is (inr g) = absurd (cc g.2)
-
-    by_next : ((x : m.State) (u : Stop) → scan m x ts ≡ Err u → Refused m x ts u) → (next : Option m.State) → m.step s t ≡ next → Refused m s (t ∷ ts) u
-    by_next later None is = stops_here m s t ts u is e
-    by_next later (Some x) is = by_err later x is (bind_err (scan m x ts) (λ r. gives (t ∷ r.0) r.1) u (sym (stepped m s t ts (Some x) is) ∙ e))
-
-finished_run : (m : Machine) (h : CanEnd m) (s : m.State) (front : List Lexeme) → run m (Some m.start) front ≡ Some s → Runs m (front ++ h.finish s)
-finished_run m h s front runs = record {
-  last = h.last s;
-  runs = run-append m (Some m.start) front (h.finish s) ∙ ap (λ o. run m o (h.finish s)) runs ∙ h.finished s;
-  done = h.done s;
-}
-
 -- a machine that can end has the laws
 pub machine_laws : (m : Machine) → CanEnd m → Lawful (runs_of m)
-machine_laws m h = record {
-  found = λ ts v rest e. let f = scan_found m m.start ts v rest e in record { front = v; parts = f.parts; spells = (refl, record { last = f.last; runs = f.runs; done = f.done }); local = f.local };
-  only = λ v front rest spells free.
-      let r : Runs m front = spells.1 in
-      scan_only m h m.start r.last front rest r.runs r.done free ∙ ap (λ (x : List Lexeme). gives x rest) (sym spells.0);
-  stopped = λ ts u e.
-      let f = scan_stopped m m.start ts u e in
-      record { front = f.front; parts = f.parts; value = f.front ++ h.finish f.last; more = h.finish f.last; finished = (refl, finished_run m h f.last f.front f.runs); local = f.local };
-  example = record { value = h.finish m.start; tokens = h.finish m.start; spells = (refl, finished_run m h m.start [] refl) };
-}
+machine_laws m h =
+    let runs : (v us : List Lexeme) → RunsFrom m m.start v us → (runs_of m).Spells v us = λ v us s. (s.0, record { last = s.1; runs = s.2; done = s.3 }) in
+    lawful (λ ts. told_as ts (scan m m.start ts) (scans m h m.start ts) runs (λ t behind is other. refl))
+    (λ v front rest spells free. scan_only m h m.start spells.1.last front rest spells.1.runs spells.1.done free ∙ ap (λ (x : List Lexeme). gives x rest) (sym spells.0))
+    (record { value = h.finish m.start; tokens = h.finish m.start; spells = (refl, record { last = h.last m.start; runs = h.finished m.start; done = h.done m.start }) })

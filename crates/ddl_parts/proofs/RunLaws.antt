@@ -1,7 +1,7 @@
 -- The laws of expressions and types.
-use Rattle.std.proofs.Common.{◌≡◌, ℕ, Bool, true, false, cond, not, List, [], ◌∷◌, Some, None, refl, ap, subst, ◌∙◌, ◌||◌, codes, eqb-true}
+use Rattle.std.proofs.Common.{◌≡◌, ℕ, Bool, true, false, cond, not, List, [], ◌∷◌, Some, None, refl, ap, subst, ◌∙◌, ◌||◌, codes, eqb-true, arith}
 use Rattle.std.specs.Prelude.{◌==◌}
-use Rattle.std.proofs.lemmas.Bool.{or_parts}
+use Rattle.std.proofs.lemmas.Bool.{not-false}
 use Rattle.std.specs.Str.{is_utf8, chars}
 use Rattle.std.proofs.Math.Utf8.{encode}
 use Rattle.sql_lex.specs.declared.token.TokenKind.{TokenKind}
@@ -28,7 +28,7 @@ a_number = record { gap = 32 ∷ []; kind = Number; word = 48 ∷ []; start = 0 
 
 -- ---- expressions
 
-abbrev nest : List Bracket → Spot → Nest
+abbrev pub nest : List Bracket → Spot → Nest
 nest brackets spot = record { brackets = brackets; spot = spot }
 
 abbrev closing : Bracket → Lexeme
@@ -66,27 +66,17 @@ finishes bounded takes x (Square ∷ bs) = closes bounded takes bs
 
 inside_flat : (spot : Spot) (bs : List Bracket) → nest_done (nest bs spot) ≡ true → bs ≡ []
 unfolding nest_done
-inside_flat First [] e = refl
-inside_flat First (b ∷ bs) e = absurd cc
-inside_flat x [] e = refl
-inside_flat x (b ∷ bs) e = absurd cc
+inside_flat spot bs e = grind arith
 
 last_done : (spot : Spot) (bs : List Bracket) → nest_done (last_by spot bs) ≡ true
 unfolding nest_done
-last_done First [] = refl
-last_done First (b ∷ bs) = refl
-last_done x [] = refl
-last_done x (b ∷ bs) = refl
-
-pub not_false : (b : Bool) → not b ≡ false → b ≡ true
-not_false true e = refl
-not_false false e = absurd cc
+last_done spot bs = grind arith
 
 covered : (bounded takes : Bool) (s : Nest) (t : Lexeme) → nest_done s ≡ true → not (ends_run bounded t) ≡ false → nest_step bounded takes s t ≡ None
 unfolding nest_step
 covered bounded takes s t done free =
     ap (step_by bounded takes s.spot t) (inside_flat s.spot s.brackets done)
-    ∙ ap (λ (e : Bool). cond e None (cond bounded (behind_bounded takes s.spot t) (moved (behind_kind t.kind [])))) (not_false (ends_run bounded t) free)
+    ∙ ap (λ (e : Bool). cond e None (cond bounded (behind_bounded takes s.spot t) (moved (behind_kind t.kind [])))) (not-false (ends_run bounded t) free)
 
 nested_ends : (bounded takes : Bool) → CanEnd (nested bounded takes)
 nested_ends bounded takes = record {
@@ -136,23 +126,15 @@ type_last x = Behind
 
 type_finished : (s : TypeSpot) → run typing (Some s) (type_finish s) ≡ Some (type_last s)
 unfolding type_step type_finish type_last is_type_word is_number is_word is_sign is_keyword_of name_value name_in name_of is_utf8 chars encode
-type_finished Begin = refl
-type_finished x = refl
+type_finished s = grind arith
 
 type_is_done : (s : TypeSpot) → type_done (type_last s) ≡ true
 unfolding type_done type_last
-type_is_done Begin = refl
-type_is_done x = refl
+type_is_done s = grind arith
 
 type_covers : (s : TypeSpot) (t : Lexeme) → type_done s ≡ true → type_goes_on t ≡ false → type_step s t ≡ None
 unfolding type_step type_done type_goes_on
-type_covers Begin t d free = absurd cc
-type_covers (FirstWord short) t d free = let a = or_parts (is_type_word t) (is_sign 46 t || (is_sign 40 t || is_sign 91 t)) free in let b = or_parts (is_sign 46 t) (is_sign 40 t || is_sign 91 t) a.1 in let c = or_parts (is_sign 40 t) (is_sign 91 t) b.1 in rw (b.0, a.0, c.0, c.1) refl
-type_covers Path t d free = refl
-type_covers Words t d free = let a = or_parts (is_type_word t) (is_sign 46 t || (is_sign 40 t || is_sign 91 t)) free in let b = or_parts (is_sign 46 t) (is_sign 40 t || is_sign 91 t) a.1 in let c = or_parts (is_sign 40 t) (is_sign 91 t) b.1 in rw (a.0, c.0, c.1) refl
-type_covers Behind t d free = let a = or_parts (is_type_word t) (is_sign 46 t || (is_sign 40 t || is_sign 91 t)) free in let b = or_parts (is_sign 46 t) (is_sign 40 t || is_sign 91 t) a.1 in let c = or_parts (is_sign 40 t) (is_sign 91 t) b.1 in rw (a.0, c.1) refl
-type_covers Ended t d free = refl
-type_covers x t d free = absurd cc
+type_covers s t d free = grind arith
 
 pub typing_ends : CanEnd typing
 typing_ends = record { finish = type_finish; last = type_last; finished = type_finished; done = type_is_done; covers = type_covers }

@@ -1,5 +1,6 @@
 -- A machine that goes token by token: the tokens so far and those behind are the machine's run.
 use Rattle.std.proofs.Common.{◌≡◌, ℕ, zero, suc, ◌+◌, ◌-◌, ◌<◌, ◌≤◌, Bool, true, false, cond, List, [], ◌∷◌, ◌++◌, length, take, drop, Some, None, Ok, Err, refl, sym, ap, ◌∙◌, arith, append_assoc, append-nil}
+use Rattle.std.proofs.lemmas.List.{drop_all}
 use Rattle.ddl_parts.specs.Lexemes.{Lexeme}
 use Rattle.ddl_parts.specs.Parts.{Reading, ◌>>=◌, Machine, ends, scan, scan_step}
 use Rattle.ddl_parts.specs.Pieces.{GivesRun, ended}
@@ -16,8 +17,7 @@ pub record IsLeft (m : Machine) (whole : Reading (List Lexeme)) (ts : List Lexem
   pub same : whole ≡ before (take (at - from) (drop from ts)) (scan m s (drop at ts))
 
 nothing_before : (read : Reading (List Lexeme)) → before [] read ≡ read
-nothing_before (Ok r) = refl
-nothing_before (Err s) = refl
+nothing_before read = grind arith
 
 pub all_left : (m : Machine) (ts : List Lexeme) (from : ℕ) → from ≤ length ts → IsLeft m (scan m m.start (drop from ts)) ts from from m.start
 all_left m ts from le = record {
@@ -76,16 +76,9 @@ at_stop m whole ts from at s t d left here none done =
     let e : scan m s (drop at ts) ≡ ends m s (m.long s t) (drop at ts) = ap (scan m s) here ∙ stays ∙ ap (ends m s (m.long s t)) (sym here) in
     by_done m whole ts from at s (m.long s t) left e d done
 
--- no token is left behind the last
-pub past_end : (ts : List Lexeme) (n : ℕ) → length ts ≤ n → drop n ts ≡ []
-past_end [] zero le = refl
-past_end [] (suc n) le = refl
-past_end (t ∷ ts) zero le = absurd (omega arith)
-past_end (t ∷ ts) (suc n) le = past_end ts n (omega arith)
-
 -- where no token is left, a machine that isn't done stops
 pub none_left : (m : Machine) (ts : List Lexeme) (from : ℕ) → m.done m.start ≡ false → length ts ≤ from → scan m m.start (drop from ts) ≡ Err (record { long = false; rest = drop from ts })
 unfolding scan
 none_left m ts from done le =
-    let none = past_end ts from le in
+    let none = drop_all from ts le in
     ap (scan m m.start) none ∙ ap (λ (b : Bool). cond b (gives [] []) (Err (record { long = false; rest = [] }))) done ∙ ap (λ (r : List Lexeme). Err (record { long = false; rest = r })) (sym none)

@@ -20,12 +20,10 @@ abbrev none_of : (X : Type 0) → List X
 none_of X = []
 
 drop_none : {X : Type 0} (n : ℕ) → drop n (none_of X) ≡ none_of X
-drop_none zero = refl
-drop_none (suc n) = refl
+drop_none n = grind arith
 
 take_none : {X : Type 0} (n : ℕ) → take n (none_of X) ≡ none_of X
-take_none zero = refl
-take_none (suc n) = refl
+take_none n = grind arith
 
 pub drop_twice : {X : Type 0} (n m : ℕ) (xs : List X) → drop n (drop m xs) ≡ drop (m + n) xs
 drop_twice n zero xs = ap (λ k. drop k xs) (let e : n ≡ 0 + n = omega arith in e)
@@ -180,7 +178,7 @@ run_utf8 text ps n i e = source_utf8 (take n (drop i (lexemes text ps))) (all_ta
 
 -- ---- what is collected is UTF-8
 
-between_low : (text : List ℕ) (at to : ℕ) → Between text at to → at ≤ to
+pub between_low : (text : List ℕ) (at to : ℕ) → Between text at to → at ≤ to
 between_low text _ _ (nothing at) = omega arith
 between_low text _ _ (gap at end to s more) = omega (arith, s.piece.ends, between_low text end to more)
 

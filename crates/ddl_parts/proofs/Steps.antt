@@ -1,19 +1,9 @@
 -- Steps of a reading, and the first of some tokens.
-use Rattle.std.proofs.Common.{◌≡◌, Bool, true, false, ◌||◌, List, [], ◌∷◌, ◌++◌, Result, Ok, Err, refl, sym, ap, ◌∙◌, ◌⊎◌, inl, inr}
+use Rattle.std.proofs.Common.{◌≡◌, Bool, true, false, ◌||◌, List, [], ◌∷◌, ◌++◌, Result, Ok, Err, refl, sym, ap, ◌∙◌, arith}
 use Rattle.std.proofs.lemmas.Bool.{or_parts}
 use Rattle.ddl_parts.specs.Lexemes.{Lexeme, starts, never}
-use Rattle.ddl_parts.specs.Parts.{Stop, Part, Reading, ◌>>=◌}
-use Rattle.ddl_parts.specs.Laws.{Found, Apart, Begins, Avoids}
-
--- the value of a step that did not fail
-pub bind_ok : {A B : Type 0} (r : Result A Stop) (f : A → Result B Stop) (y : B) → (r >>= f) ≡ Ok y → (x : A) × (r ≡ Ok x) × (f x ≡ Ok y)
-bind_ok (Ok x) f y e = (x, refl, e)
-bind_ok (Err s) f y e = absurd cc
-
--- which of two steps failed
-pub bind_err : {A B : Type 0} (r : Result A Stop) (f : A → Result B Stop) (s : Stop) → (r >>= f) ≡ Err s → (r ≡ Err s) ⊎ ((x : A) × (r ≡ Ok x) × (f x ≡ Err s))
-bind_err (Ok x) f s e = inr (x, refl, e)
-bind_err (Err d) f s e = inl cc
+use Rattle.ddl_parts.specs.Parts.{Stop, Part, Reading}
+use Rattle.ddl_parts.specs.Laws.{Apart, Begins, Avoids}
 
 abbrev pub done : {A : Type 0} → A → Result A Stop
 done x = Ok x
@@ -40,8 +30,7 @@ rest_is {A} v w rest other e = ap (λ (x : A × List Lexeme). x.1) (ok_is (v, re
 -- ---- the first token
 
 pub starts-append : (test : Lexeme → Bool) (a b : List Lexeme) → starts test a ≡ true → starts test (a ++ b) ≡ true
-starts-append test [] b e = absurd cc
-starts-append test (t ∷ a) b e = e
+starts-append test a b e = grind arith
 
 -- the first of some tokens and one more, whatever comes behind that one
 pub starts_kept : (test : Lexeme → Bool) (front : List Lexeme) (t : Lexeme) (behind other : List Lexeme) → starts test (front ++ t ∷ other) ≡ starts test (front ++ t ∷ behind)
@@ -54,8 +43,7 @@ starts_again test b ts front rest t behind other e parts is =
     starts_kept test front t behind other ∙ ap (starts test) (sym (parts ∙ ap (λ (r : List Lexeme). front ++ r) is)) ∙ e
 
 pub starts_never : (ts : List Lexeme) → starts never ts ≡ false
-starts_never [] = refl
-starts_never (t ∷ ts) = refl
+starts_never ts = grind arith
 
 pub starts_neither : (one other : Lexeme → Bool) (ts : List Lexeme) → starts (λ t. one t || other t) ts ≡ false → (starts one ts ≡ false) × (starts other ts ≡ false)
 starts_neither one other [] e = (refl, refl)
@@ -64,6 +52,15 @@ starts_neither one other (t ∷ ts) e = let h = or_parts (one t) (other t) e in 
 pub starts_apart : (one other : Lexeme → Bool) (ts : List Lexeme) → Apart one other → starts one ts ≡ true → starts other ts ≡ false
 starts_apart one other [] apart e = refl
 starts_apart one other (t ∷ ts) apart e = apart t e
+
+-- what begins with one of these begins with one of those, and where none of those stands none of these does
+pub starts_more : (test other : Lexeme → Bool) → ((t : Lexeme) → test t ≡ true → other t ≡ true) → (ts : List Lexeme) → starts test ts ≡ true → starts other ts ≡ true
+starts_more test other more [] e = absurd cc
+starts_more test other more (t ∷ ts) e = more t e
+
+pub starts_covered : (more test : Lexeme → Bool) → ((t : Lexeme) → more t ≡ false → test t ≡ false) → (ts : List Lexeme) → starts more ts ≡ false → starts test ts ≡ false
+starts_covered more test none [] e = refl
+starts_covered more test none (t ∷ ts) e = none t e
 
 -- ---- parts side by side
 
@@ -74,9 +71,3 @@ avoids_never q w b rest spells free = starts_never (b ++ rest)
 -- a part that begins with other tokens
 pub avoids_begun : {B : Type 0} (test other : Lexeme → Bool) (q : Part B) → Begins test q → Apart test other → Avoids other q
 avoids_begun test other q begins apart w b rest spells free = starts_apart test other (b ++ rest) apart (starts-append test b rest (begins w b spells))
-
--- What a part has read it reads again, before the next token, whatever comes behind that.
-pub carried : {A : Type 0} (p : Part A) (ts : List Lexeme) (v : A) (mid : List Lexeme) (f : Found p ts v mid) (g rest : List Lexeme) (t : Lexeme) (behind other : List Lexeme) → mid ≡ g ++ rest → rest ≡ t ∷ behind
-    → p.read (f.front ++ (g ++ t ∷ other)) ≡ Ok (v, g ++ t ∷ other)
-carried p ts v mid f [] rest t behind other e is = f.local t behind (e ∙ is) other
-carried p ts v mid f (x ∷ g) rest t behind other e is = f.local x (g ++ rest) e (g ++ t ∷ other)

@@ -1,17 +1,18 @@
 -- Tokens that are told apart, by their kinds and words.
-use Rattle.std.proofs.Common.{◌≡◌, ℕ, Bool, true, false, ◌||◌, ◌&&◌, List, [], ◌∷◌, ◌++◌, refl, ap, subst, ◌∙◌, bytes_eq, eqb-true}
+use Rattle.std.proofs.Common.{◌≡◌, ℕ, Bool, true, false, ◌||◌, ◌&&◌, List, [], ◌∷◌, ◌++◌, refl, ap, subst, ◌∙◌, bytes_eq, eqb-true, arith}
 use Rattle.std.specs.Prelude.{◌==◌}
 use Rattle.std.specs.List.{list_any}
 use Rattle.std.specs.Str.{str_eq_ignore_ascii_case, str_to_ascii_lowercase}
 use Rattle.std.proofs.lemmas.Slice.Eq.{bytes_eq-Decides}
 use Rattle.sql_lex.specs.declared.token.TokenKind.{TokenKind}
-use Rattle.sql_lex.specs.declared.token.TokenKind.TheVariants.{Word, QuotedName, Literal, Sign}
+use Rattle.sql_lex.specs.declared.token.TokenKind.TheVariants.{Word, QuotedName, Sign}
 use Rattle.sql_lex.specs.Meaning.{is_keyword_of}
 use Rattle.ddl_parts.specs.Lexemes.{Lexeme, is_word, is_sign, is_sign_kind, never, starts}
 use Rattle.ddl_parts.specs.Parts.{Part, nothing}
 use Rattle.ddl_parts.specs.Laws.{Apart, Avoids, Begins}
 use Rattle.ddl_parts.specs.Leaves.{is_name, is_name_kind, is_literal, is_literal_kind}
 use Rattle.ddl_parts.specs.Types.{type_goes_on, is_type_word, is_word_kind, stop_words}
+use Rattle.ddl_parts.proofs.Steps.{starts_more, starts_covered}
 use Rattle.ddl_parts.proofs.Leads.{word_no_sign}
 
 -- what goes on with no token is followed by anything
@@ -43,8 +44,7 @@ one_of_words key t e [] = refl
 one_of_words key t e (w ∷ ws) = ap (λ (b : Bool). b || list_any (λ w. is_word w t) ws) (same_word key w t e) ∙ ap (λ (b : Bool). str_eq_ignore_ascii_case key w || b) (one_of_words key t e ws)
 
 pub and_false : (x : Bool) → (x && false) ≡ false
-and_false true = refl
-and_false false = refl
+and_false x = grind arith
 
 -- a word that ends a type
 pub stop_no_type : (key : List ℕ) → list_any (λ w. str_eq_ignore_ascii_case key w) stop_words ≡ true → Apart (is_word key) type_goes_on
@@ -54,9 +54,7 @@ stop_no_type key stops t e =
 
 pub sign_no_word_by : (k : TokenKind) (w key : List ℕ) (b : ℕ) → is_sign_kind b k ≡ true → is_keyword_of k w key ≡ false
 unfolding is_keyword_of
-sign_no_word_by (Sign c) w key b e = refl
-sign_no_word_by Word w key b e = absurd cc
-sign_no_word_by x w key b e = absurd cc
+sign_no_word_by k w key b e = grind arith
 
 pub sign_no_word : (b : ℕ) (key : List ℕ) → Apart (is_sign b) (is_word key)
 unfolding is_sign is_word
@@ -72,9 +70,7 @@ unfolding is_sign
 signs_apart a b differ t e = signs_by t.kind a b differ e
 
 pub sign_kind_by : (k : TokenKind) (b : ℕ) → is_sign_kind b k ≡ true → (is_name_kind k ≡ false) × (is_literal_kind k ≡ false) × (is_word_kind k ≡ false)
-sign_kind_by (Sign c) b e = (refl, refl, refl)
-sign_kind_by Word b e = absurd cc
-sign_kind_by x b e = absurd cc
+sign_kind_by k b e = grind arith
 
 pub sign_no_name : (b : ℕ) → Apart (is_sign b) is_name
 unfolding is_sign is_name
@@ -91,24 +87,13 @@ sign_no_type b dot round square t e =
 
 pub word_is_name : (key : List ℕ) (t : Lexeme) → is_word key t ≡ true → is_name t ≡ true
 unfolding is_word is_name is_keyword_of
-word_is_name key t e = by t.kind e
+word_is_name key t e = by t.kind t.word e
   where
-    by : (k : TokenKind) → is_keyword_of k t.word key ≡ true → is_name_kind k ≡ true
-    by Word e = refl
-    by QuotedName e = refl
-    by Literal e = absurd cc
-    by x e = absurd cc
+    by : (k : TokenKind) (w : List ℕ) → is_keyword_of k w key ≡ true → is_name_kind k ≡ true
+    by k w e = grind arith
 
 pub begins_more : {A : Type 0} (test other : Lexeme → Bool) (p : Part A) → ((t : Lexeme) → test t ≡ true → other t ≡ true) → Begins test p → Begins other p
-begins_more test other p more begins v ts spells = by ts (begins v ts spells)
-  where
-    by : (us : List Lexeme) → starts test us ≡ true → starts other us ≡ true
-    by [] e = absurd cc
-    by (u ∷ us) e = more u e
+begins_more test other p more begins v ts spells = starts_more test other more ts (begins v ts spells)
 
 pub nothing_avoids_some : {A : Type 0} (more test : Lexeme → Bool) (v : A) → ((t : Lexeme) → more t ≡ false → test t ≡ false) → Avoids test (nothing more v)
-nothing_avoids_some more test v none w ts rest spells free = ap (λ (f : List Lexeme). starts test (f ++ rest)) spells.1 ∙ by rest free
-  where
-    by : (us : List Lexeme) → starts more us ≡ false → starts test us ≡ false
-    by [] e = refl
-    by (u ∷ us) e = none u e
+nothing_avoids_some more test v none w ts rest spells free = ap (λ (f : List Lexeme). starts test (f ++ rest)) spells.1 ∙ starts_covered more test none rest free

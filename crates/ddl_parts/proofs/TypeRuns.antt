@@ -7,7 +7,6 @@ use Rattle.ddl_parts.specs.declared.types.TypeSpot.TheVariants.{Begin, FirstWord
 use Rattle.cat_model.specs.declared.type_name.TypeName.{TypeName}
 use Rattle.cat_model.specs.declared.type_name.TypeName.TheVariants as type_name
 use Rattle.ddl_parts.specs.declared.fault.ReadError.{ReadError}
-use Rattle.ddl_parts.specs.declared.fault.ReadError.TheVariants.{Halted, Memory}
 use Rattle.ddl_parts.specs.Lexemes.{Lexeme, is_sign, starts, source}
 use Rattle.ddl_parts.specs.Leaves.{name_value}
 use Rattle.ddl_parts.specs.Parts.{Reading, Runs, run, scan, first_by, one_at, seen_at}
@@ -25,12 +24,10 @@ abbrev held : Bool → Result TypeSpot Bool
 held long = Err long
 
 pub goes : (next : Option TypeSpot) (long : Bool) (x : TypeSpot) → gone x ≡ ok_or next long → next ≡ Some x
-goes (Some y) long x e = cc
-goes None long x e = absurd cc
+goes next long x e = grind arith
 
 pub stays : (next : Option TypeSpot) (long long' : Bool) → held long' ≡ ok_or next long → (next ≡ None) × (long ≡ long')
-stays (Some y) long long' e = absurd cc
-stays None long long' e = (refl, cc)
+stays next long long' e = grind arith
 
 -- ---- a qualified name
 
@@ -47,14 +44,10 @@ behind_dot words first dot = option_and_then (λ x. type_step x dot) (cond words
 
 dot_goes : (words : Bool) (first : Result (List ℕ) Bool) (dot : Lexeme) → is_sign 46 dot ≡ true → (s : TypeSpot) → behind_dot words first dot ≡ Some s → (n : List ℕ) × (first ≡ Ok n) × (s ≡ Dotted)
 unfolding type_step
-dot_goes true (Ok n) dot e s h = let h' = rw e at h in (n, refl, cc)
-dot_goes false (Ok n) dot e s h = let h' = rw e at h in (n, refl, cc)
-dot_goes true (Err long) dot e s h = let h' = rw e at h in absurd cc
-dot_goes false (Err long) dot e s h = absurd cc
+dot_goes words first dot e s h = grind arith
 
 name_goes : (second : Result (List ℕ) Bool) (s : TypeSpot) → if_name second Path ≡ Some s → (n : List ℕ) × (second ≡ Ok n)
-name_goes (Ok n) s h = (n, refl)
-name_goes (Err long) s h = absurd cc
+name_goes second s h = grind arith
 
 -- a run that goes on has a state behind each token
 run_some : (o : Option TypeSpot) (ts : List Lexeme) (last : TypeSpot) → run typing o ts ≡ Some last → (s : TypeSpot) × (o ≡ Some s)
@@ -62,8 +55,7 @@ run_some (Some s) ts last e = (s, refl)
 run_some None ts last e = absurd (cc (run_none typing ts))
 
 step_some : (o : Option TypeSpot) (t : Lexeme) (s : TypeSpot) → option_and_then (λ x. type_step x t) o ≡ Some s → (r : TypeSpot) × (o ≡ Some r) × (type_step r t ≡ Some s)
-step_some (Some r) t s e = (r, refl, e)
-step_some None t s e = absurd cc
+step_some o t s e = grind arith
 
 -- a type whose second token is a dot, with another behind it, has two names
 pub path_names : (a dot b : Lexeme) (ts : List Lexeme) (last : TypeSpot) → is_sign 46 dot ≡ true → run typing (Some Begin) (a ∷ dot ∷ b ∷ ts) ≡ Some last → AreNames a b
@@ -138,5 +130,4 @@ type_is ts taken rest t e is = ap (seen_at type_of) e ∙ ap (λ (x : TypeName).
 
 -- what was read can't have failed
 pub read_fails : {A B : Type 0} (ts : List Lexeme) (error : ReadError) (given : Reading A) (whole : Reading B) (v : A) (rest : List Lexeme) → given ≡ gives v rest → Fails ts error given → Fails ts error whole
-read_fails ts Memory given whole v rest e fails = tt
-read_fails ts (Halted h) given whole v rest e fails = absurd (cc (e, fails))
+read_fails ts error given whole v rest e fails = grind arith
