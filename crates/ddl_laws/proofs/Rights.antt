@@ -1,5 +1,5 @@
 -- GRANT and REVOKE: each part of their grammar with the text that it is written in.
-use Rattle.std.proofs.Common.{◌≡◌, ℕ, Bool, true, false, not, cond, ◌&&◌, List, [], ◌∷◌, ◌++◌, map, append_assoc, append-nil, Option, Some, None, option_map, Result, Ok, Err, refl, sym, ap, subst, ◌∙◌, ◌⊎◌, inl, inr, codes}
+use Rattle.std.proofs.Common.{◌≡◌, ℕ, Bool, true, false, not, cond, ◌&&◌, List, [], ◌∷◌, ◌++◌, map, append_assoc, append-nil, Option, Some, None, Result, Ok, Err, refl, sym, ap, subst, ◌∙◌, ◌⊎◌, inl, inr, codes}
 use Rattle.std.specs.List.{flat_map}
 use Rattle.std.specs.Str.{is_utf8, chars}
 use Rattle.std.proofs.Math.Utf8.{encode}
@@ -19,7 +19,7 @@ use Rattle.cat_model.specs.declared.stmt.Stmt.{Stmt}
 use Rattle.cat_model.specs.declared.stmt.Stmt.TheVariants as stmt
 use Rattle.cat_model.specs.Grants.{no_rights, has_rights}
 use Rattle.cat_model.specs.Lexemes.{same_text}
-use Rattle.ddl_parts.specs.Lexemes.{Lexeme, is_word, is_sign, spelled, starts}
+use Rattle.ddl_parts.specs.Lexemes.{Lexeme, is_word, is_sign, spelled}
 use Rattle.ddl_parts.specs.Lists.{comma}
 use Rattle.ddl_parts.specs.Parts.{Part, ◌then◌, ◌▸◌}
 use Rattle.ddl_parts.specs.Leaves.{name, name_value, name_in}
@@ -38,7 +38,7 @@ use Rattle.ddl_rights.specs.RightsGrammar.{with_right, only, within, kind_rights
 use Rattle.ddl_rights.specs.Memberships.{truth_first, truth, set_behind, inherit_and_set, others_behind, options, with_options, granted_by, member, member_of, membership}
 use Rattle.ddl_rights.specs.Grants.{grant_option, to_grantee, from_grantee, grant_rights, revoke_rights, First, named_by, first, behind_first, granted, revoked}
 use Rattle.ddl_rights.specs.Writable.{kind_of, IsObject, AreRights, IsGrantee, IsGrantor}
-use Rattle.ddl_rights.proofs.RightsLaws.{object_on, right_word}
+use Rattle.ddl_rights.proofs.RightsLaws.{object_on, right_word, wanted_is}
 use Rattle.ddl_rights.proofs.RightSets.{has_some, has_it, kind_some, kind_whole, all_is, listed_is, some_listed, written_word, words_are, AllGo, all_go}
 use Rattle.ddl_forms.proofs.Behind.{Behind, Anything, Words, Safe, End, admits, covers, through, admitted, looser, Opens, then_opens}
 use Rattle.ddl_forms.proofs.Closing.{Closes, ends_with, ends_append}
@@ -170,16 +170,7 @@ AreSome All = Unit {0}
 AreSome (These r) = has_rights r ≡ true
 
 pub wanted_some : (ts : List Lexeme) (w : Wanted) → wanted_first ts ≡ Some w → AreSome w
-unfolding wanted_first
-wanted_some ts w e = by (starts (is_word (codes "all")) ts) e
-  where
-    of_list : (o : Option Right) → option_map (λ x. These (only x)) o ≡ Some w → AreSome w
-    of_list None f = absurd cc
-    of_list (Some x) f = let same : These (only x) ≡ w = cc in subst AreSome same (has_some (only x) x (has_it x no_rights))
-
-    by : (b : Bool) → cond b (Some All) (option_map (λ x. These (only x)) (right_first ts)) ≡ Some w → AreSome w
-    by true f = let same : All ≡ w = cc in subst AreSome same tt
-    by false f = of_list (right_first ts) f
+wanted_some = wanted_is AreSome tt (λ x. has_some (only x) x (has_it x no_rights))
 
 pub told_is : {A : Type 0} (o : Option A) (v : A) → told o ≡ Ok v → o ≡ Some v
 told_is None v e = absurd cc

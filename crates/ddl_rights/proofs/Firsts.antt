@@ -1,5 +1,5 @@
 -- One token that stands for a value: its laws, and how it is read.
-use Rattle.std.proofs.Common.{◌≡◌, ℕ, zero, suc, ◌+◌, ◌<◌, ◌≤◌, Bool, List, [], ◌∷◌, length, drop, Option, Some, None, Result, Ok, Err, refl, sym, ap, ◌∙◌, arith}
+use Rattle.std.proofs.Common.{◌≡◌, ℕ, zero, suc, ◌+◌, ◌<◌, ◌≤◌, Bool, List, [], ◌∷◌, length, drop, Option, Some, None, Result, refl, sym, ap, ◌∙◌, arith}
 use Rattle.ddl_parts.specs.Lexemes.{Lexeme}
 use Rattle.ddl_parts.specs.Parts.{first_by, seen_at}
 use Rattle.ddl_parts.specs.Laws.{Lawful}
@@ -14,8 +14,7 @@ pub by_first_laws : {A : Type 0} (value : List Lexeme → Option A) (t : Lexeme)
 by_first_laws value t v e = one_laws (λ t. told (value (t ∷ []))) t v (ap told e)
 
 first_answered : {A : Type 0} (t : Lexeme) (ts : List Lexeme) (o : Option A) → first_by t ts (told o) ≡ answered o (t ∷ ts)
-first_answered t ts None = refl
-first_answered t ts (Some v) = refl
+first_answered t ts o = grind arith
 
 -- where the value is that of the first token alone
 pub by_first_read : {A : Type 0} (value : List Lexeme → Option A) → value [] ≡ None → ((t : Lexeme) (ts : List Lexeme) → value (t ∷ ts) ≡ value (t ∷ [])) → (ts : List Lexeme) → (by_first value).read ts ≡ answered (value ts) ts
@@ -36,8 +35,7 @@ none_left (t ∷ ts) (suc at) low = none_left ts at (omega arith)
 
 -- a name, and what else its token may stand for
 first_named : (t : Lexeme) (ts : List Lexeme) (o : Option Wanted) (r : Result (List ℕ) Bool) → first_by t ts (named_by o r) ≡ seen_at (λ n. (n, o)) (first_by t ts r)
-first_named t ts o (Ok n) = refl
-first_named t ts o (Err long) = refl
+first_named t ts o r = grind arith
 
 pub first_read : (ts : List Lexeme) → first.read ts ≡ seen_at (λ n. (n, wanted_first ts)) (name.read ts)
 unfolding wanted_first right_first

@@ -1,7 +1,7 @@
 -- Sets of rights: a set as the list of its rights, a set within another, and all the rights of a kind.
-use Rattle.std.proofs.Common.{◌≡◌, ℕ, Bool, true, false, not, ◌||◌, List, [], ◌∷◌, ◌++◌, map, refl, sym, ap, ◌∙◌, codes}
-use Rattle.std.specs.List.{list_all, flat_map}
-use Rattle.std.proofs.lemmas.Bool.{or_left, or_right, and_parts, and_from}
+use Rattle.std.proofs.Common.{◌≡◌, ℕ, Bool, true, false, not, ◌||◌, ◌&&◌, List, [], ◌∷◌, ◌++◌, map, refl, sym, ap, ◌∙◌, codes, arith}
+use Rattle.std.specs.List.{flat_map}
+use Rattle.std.proofs.lemmas.Bool.{or_left, or_right, and_parts}
 use Rattle.cat_model.specs.declared.grant.Rights.{Rights}
 use Rattle.cat_model.specs.declared.grant.Granted.{Granted}
 use Rattle.cat_model.specs.declared.grant.Granted.TheVariants as on
@@ -11,72 +11,33 @@ use Rattle.ddl_write.specs.RightsText.{is_all, each_right, word_there}
 use Rattle.ddl_rights.specs.declared.rights.Right.{Right}
 use Rattle.ddl_rights.specs.declared.rights.Right.TheVariants.{Select, Usage, Insert, References, Delete, Trigger, Truncate, Update, Create}
 use Rattle.ddl_rights.specs.declared.rights.Kind.{Kind}
-use Rattle.ddl_rights.specs.declared.rights.Kind.TheVariants.{Tables, Sequences, Schemas, Types}
+use Rattle.ddl_rights.specs.declared.rights.Kind.TheVariants.{Tables}
 use Rattle.ddl_rights.specs.RightsGrammar.{has, with_right, within, kind_rights, some_kind_has, goes_with, all_of}
 use Rattle.ddl_rights.specs.Writable.{kind_of}
 
-abbrev rights : Bool → Bool → Bool → Bool → Bool → Bool → Bool → Bool → Bool → Rights
-rights s u i f d t c p k = record { select = s; usage = u; insert = i; references = f; delete = d; trigger = t; truncate = c; update = p; create = k }
-
 -- ---- all the rights of a kind
 
-all_of_table : (q : QName) (s u i f d t c p k : Bool) → is_all (on.Table q) (rights s u i f d t c p k) ≡ true → rights s u i f d t c p k ≡ table_rights
+all_of_table : (q : QName) (r : Rights) → is_all (on.Table q) r ≡ true → r ≡ table_rights
 unfolding is_all
-all_of_table q false u i f d t c p k e = absurd cc
-all_of_table q true u false f d t c p k e = absurd cc
-all_of_table q true u true false d t c p k e = absurd cc
-all_of_table q true u true true false t c p k e = absurd cc
-all_of_table q true u true true true false c p k e = absurd cc
-all_of_table q true u true true true true false p k e = absurd cc
-all_of_table q true u true true true true true false k e = absurd cc
-all_of_table q true true true true true true true true k e = absurd cc
-all_of_table q true false true true true true true true true e = absurd cc
-all_of_table q true false true true true true true true false e = refl
+all_of_table q r e = grind arith
 
-all_of_sequence : (q : QName) (s u i f d t c p k : Bool) → is_all (on.Sequence q) (rights s u i f d t c p k) ≡ true → rights s u i f d t c p k ≡ sequence_rights
+all_of_sequence : (q : QName) (r : Rights) → is_all (on.Sequence q) r ≡ true → r ≡ sequence_rights
 unfolding is_all
-all_of_sequence q false u i f d t c p k e = absurd cc
-all_of_sequence q true false i f d t c p k e = absurd cc
-all_of_sequence q true true i f d t c false k e = absurd cc
-all_of_sequence q true true true f d t c true k e = absurd cc
-all_of_sequence q true true false true d t c true k e = absurd cc
-all_of_sequence q true true false false true t c true k e = absurd cc
-all_of_sequence q true true false false false true c true k e = absurd cc
-all_of_sequence q true true false false false false true true k e = absurd cc
-all_of_sequence q true true false false false false false true true e = absurd cc
-all_of_sequence q true true false false false false false true false e = refl
+all_of_sequence q r e = grind arith
 
-all_of_schema : (n : List ℕ) (s u i f d t c p k : Bool) → is_all (on.Schema n) (rights s u i f d t c p k) ≡ true → rights s u i f d t c p k ≡ schema_rights
+all_of_schema : (n : List ℕ) (r : Rights) → is_all (on.Schema n) r ≡ true → r ≡ schema_rights
 unfolding is_all
-all_of_schema n s false i f d t c p k e = absurd cc
-all_of_schema n s true i f d t c p false e = absurd cc
-all_of_schema n s true true f d t c p true e = absurd cc
-all_of_schema n s true false true d t c p true e = absurd cc
-all_of_schema n s true false false true t c p true e = absurd cc
-all_of_schema n s true false false false true c p true e = absurd cc
-all_of_schema n s true false false false false true p true e = absurd cc
-all_of_schema n true true false false false false false p true e = absurd cc
-all_of_schema n false true false false false false false true true e = absurd cc
-all_of_schema n false true false false false false false false true e = refl
+all_of_schema n r e = grind arith
 
-all_of_type : (q : QName) (s u i f d t c p k : Bool) → is_all (on.Type q) (rights s u i f d t c p k) ≡ true → rights s u i f d t c p k ≡ type_rights
+all_of_type : (q : QName) (r : Rights) → is_all (on.Type q) r ≡ true → r ≡ type_rights
 unfolding is_all
-all_of_type q s false i f d t c p k e = absurd cc
-all_of_type q s true true f d t c p k e = absurd cc
-all_of_type q s true false true d t c p k e = absurd cc
-all_of_type q s true false false true t c p k e = absurd cc
-all_of_type q s true false false false true c p k e = absurd cc
-all_of_type q s true false false false false true p k e = absurd cc
-all_of_type q true true false false false false false p k e = absurd cc
-all_of_type q false true false false false false false true k e = absurd cc
-all_of_type q false true false false false false false false true e = absurd cc
-all_of_type q false true false false false false false false false e = refl
+all_of_type q r e = grind arith
 
 pub all_is : (object : Granted) (r : Rights) → is_all object r ≡ true → r ≡ kind_rights (kind_of object)
-all_is (on.Table q) r e = all_of_table q r.select r.usage r.insert r.references r.delete r.trigger r.truncate r.update r.create e
-all_is (on.Sequence q) r e = all_of_sequence q r.select r.usage r.insert r.references r.delete r.trigger r.truncate r.update r.create e
-all_is (on.Schema n) r e = all_of_schema n r.select r.usage r.insert r.references r.delete r.trigger r.truncate r.update r.create e
-all_is (on.Type q) r e = all_of_type q r.select r.usage r.insert r.references r.delete r.trigger r.truncate r.update r.create e
+all_is (on.Table q) r e = all_of_table q r e
+all_is (on.Sequence q) r e = all_of_sequence q r e
+all_is (on.Schema n) r e = all_of_schema n r e
+all_is (on.Type q) r e = all_of_type q r e
 
 pub kind_some : (k : Kind) → has_rights (kind_rights k) ≡ true
 kind_some Tables = refl
@@ -88,24 +49,8 @@ kind_whole x = refl
 
 -- ---- some right
 
-none_there : (x : Right) → has x no_rights ≡ true → true ≡ false
-none_there Select e = absurd cc
-none_there x e = absurd cc
-
-some_by : (s u i f d t c p k : Bool) (x : Right) → has x (rights s u i f d t c p k) ≡ true → has_rights (rights s u i f d t c p k) ≡ true
-some_by true u i f d t c p k x e = refl
-some_by false true i f d t c p k x e = refl
-some_by false false true f d t c p k x e = refl
-some_by false false false true d t c p k x e = refl
-some_by false false false false true t c p k x e = refl
-some_by false false false false false true c p k x e = refl
-some_by false false false false false false true p k x e = refl
-some_by false false false false false false false true k x e = refl
-some_by false false false false false false false false true x e = refl
-some_by false false false false false false false false false x e = sym (none_there x e)
-
 pub has_some : (r : Rights) (x : Right) → has x r ≡ true → has_rights r ≡ true
-has_some r x e = some_by r.select r.usage r.insert r.references r.delete r.trigger r.truncate r.update r.create x e
+has_some r x e = grind arith
 
 pub has_it : (x : Right) (r : Rights) → has x (with_right x r) ≡ true
 has_it Select r = refl
@@ -129,82 +74,44 @@ those xs = flat_map (λ (x : Bool × Right). right_there x.0 x.1) xs
 abbrev pub listed : Rights → List Right
 listed r = those (each r)
 
-abbrev set_if : Bool → Right → Rights → Rights
-set_if true x r = with_right x r
-set_if false x r = r
+-- the set with this right, or without it
+abbrev set_to : Bool → Right → Rights → Rights
+set_to b Select r = record r { select = b }
+set_to b Usage r = record r { usage = b }
+set_to b Insert r = record r { insert = b }
+set_to b References r = record r { references = b }
+set_to b Delete r = record r { delete = b }
+set_to b Trigger r = record r { trigger = b }
+set_to b Truncate r = record r { truncate = b }
+set_to b Update r = record r { update = b }
+set_to b Create r = record r { create = b }
 
-step : (b : Bool) (x : Right) (r : Rights) (more : List Right) → all_of r (right_there b x ++ more) ≡ all_of (set_if b x r) more
-step true x r more = refl
-step false x r more = refl
-
-set_select : (s : Bool) → set_if s Select (rights false false false false false false false false false) ≡ rights s false false false false false false false false
-set_select true = refl
-set_select false = refl
-
-set_usage : (s u : Bool) → set_if u Usage (rights s false false false false false false false false) ≡ rights s u false false false false false false false
-set_usage s true = refl
-set_usage s false = refl
-
-set_insert : (s u i : Bool) → set_if i Insert (rights s u false false false false false false false) ≡ rights s u i false false false false false false
-set_insert s u true = refl
-set_insert s u false = refl
-
-set_references : (s u i f : Bool) → set_if f References (rights s u i false false false false false false) ≡ rights s u i f false false false false false
-set_references s u i true = refl
-set_references s u i false = refl
-
-set_delete : (s u i f d : Bool) → set_if d Delete (rights s u i f false false false false false) ≡ rights s u i f d false false false false
-set_delete s u i f true = refl
-set_delete s u i f false = refl
-
-set_trigger : (s u i f d t : Bool) → set_if t Trigger (rights s u i f d false false false false) ≡ rights s u i f d t false false false
-set_trigger s u i f d true = refl
-set_trigger s u i f d false = refl
-
-set_truncate : (s u i f d t c : Bool) → set_if c Truncate (rights s u i f d t false false false) ≡ rights s u i f d t c false false
-set_truncate s u i f d t true = refl
-set_truncate s u i f d t false = refl
-
-set_update : (s u i f d t c p : Bool) → set_if p Update (rights s u i f d t c false false) ≡ rights s u i f d t c p false
-set_update s u i f d t c true = refl
-set_update s u i f d t c false = refl
-
-set_create : (s u i f d t c p k : Bool) → set_if k Create (rights s u i f d t c p false) ≡ rights s u i f d t c p k
-set_create s u i f d t c p true = refl
-set_create s u i f d t c p false = refl
-
--- one step, and what the set is behind it
-stepped : (b : Bool) (x : Right) (r next : Rights) (more : List Right) → set_if b x r ≡ next → all_of r (right_there b x ++ more) ≡ all_of next more
-stepped b x r next more e = step b x r more ∙ ap (λ a. all_of a more) e
+-- one step of the list, where the set lacks the right
+stepped : (b : Bool) (x : Right) (r : Rights) (more : List Right) → set_to false x r ≡ r → set_to true x r ≡ with_right x r → all_of r (right_there b x ++ more) ≡ all_of (set_to b x r) more
+stepped true x r more lacks with = ap (λ (a : Rights). all_of a more) (sym with)
+stepped false x r more lacks with = ap (λ (a : Rights). all_of a more) (sym lacks)
 
 pub listed_is : (r : Rights) → all_of no_rights (listed r) ≡ r
 listed_is r =
-    let s = r.select in
-    let u = r.usage in
-    let i = r.insert in
-    let f = r.references in
-    let d = r.delete in
-    let t = r.trigger in
-    let c = r.truncate in
-    let p = r.update in
-    let k = r.create in
-    let l8 : List (Bool × Right) = (k, Create) ∷ [] in
-    let l7 : List (Bool × Right) = (p, Update) ∷ l8 in
-    let l6 : List (Bool × Right) = (c, Truncate) ∷ l7 in
-    let l5 : List (Bool × Right) = (t, Trigger) ∷ l6 in
-    let l4 : List (Bool × Right) = (d, Delete) ∷ l5 in
-    let l3 : List (Bool × Right) = (f, References) ∷ l4 in
-    let l2 : List (Bool × Right) = (i, Insert) ∷ l3 in
-    let l1 : List (Bool × Right) = (u, Usage) ∷ l2 in
-    stepped s Select no_rights (rights s false false false false false false false false) (those l1) (set_select s)
-    ∙ stepped u Usage (rights s false false false false false false false false) (rights s u false false false false false false false) (those l2) (set_usage s u)
-    ∙ stepped i Insert (rights s u false false false false false false false) (rights s u i false false false false false false) (those l3) (set_insert s u i)
-    ∙ stepped f References (rights s u i false false false false false false) (rights s u i f false false false false false) (those l4) (set_references s u i f)
-    ∙ stepped d Delete (rights s u i f false false false false false) (rights s u i f d false false false false) (those l5) (set_delete s u i f d)
-    ∙ stepped t Trigger (rights s u i f d false false false false) (rights s u i f d t false false false) (those l6) (set_trigger s u i f d t)
-    ∙ stepped c Truncate (rights s u i f d t false false false) (rights s u i f d t c false false) (those l7) (set_truncate s u i f d t c)
-    ∙ stepped p Update (rights s u i f d t c false false) (rights s u i f d t c p false) (those l8) (set_update s u i f d t c p)
-    ∙ stepped k Create (rights s u i f d t c p false) (rights s u i f d t c p k) [] (set_create s u i f d t c p k)
+    let l8 : List (Bool × Right) = (r.create, Create) ∷ [] in
+    let l7 : List (Bool × Right) = (r.update, Update) ∷ l8 in
+    let l6 : List (Bool × Right) = (r.truncate, Truncate) ∷ l7 in
+    let l5 : List (Bool × Right) = (r.trigger, Trigger) ∷ l6 in
+    let l4 : List (Bool × Right) = (r.delete, Delete) ∷ l5 in
+    let l3 : List (Bool × Right) = (r.references, References) ∷ l4 in
+    let l2 : List (Bool × Right) = (r.insert, Insert) ∷ l3 in
+    let l1 : List (Bool × Right) = (r.usage, Usage) ∷ l2 in
+    let r1 = record no_rights { select = r.select } in
+    let r2 = record r1 { usage = r.usage } in
+    let r3 = record r2 { insert = r.insert } in
+    let r4 = record r3 { references = r.references } in
+    let r5 = record r4 { delete = r.delete } in
+    let r6 = record r5 { trigger = r.trigger } in
+    let r7 = record r6 { truncate = r.truncate } in
+    let r8 = record r7 { update = r.update } in
+    stepped r.select Select no_rights (those l1) refl refl ∙ stepped r.usage Usage r1 (those l2) refl refl ∙ stepped r.insert Insert r2 (those l3) refl refl ∙ stepped r.references References r3 (those l4) refl refl
+    ∙ stepped r.delete Delete r4 (those l5) refl refl ∙ stepped r.trigger Trigger r5 (those l6) refl refl ∙ stepped r.truncate Truncate r6 (those l7) refl refl ∙ stepped r.update Update r7 (those l8) refl refl
+    ∙ stepped r.create Create r8 [] refl refl
 
 -- a list with an element
 pub record IsListed (r : Rights) : Type 0 where
@@ -248,22 +155,11 @@ words_are r = words_of (each r)
 
 -- ---- sets within others
 
-abbrev implied_by : Rights → Rights → List Bool
-implied_by a b =
-    (not a.select || b.select) ∷ (not a.usage || b.usage) ∷ (not a.insert || b.insert) ∷ (not a.references || b.references) ∷ (not a.delete || b.delete)
-    ∷ (not a.trigger || b.trigger) ∷ (not a.truncate || b.truncate) ∷ (not a.update || b.update) ∷ (not a.create || b.create) ∷ []
+and_first : (a b : Bool) → (a && b) ≡ true → a ≡ true
+and_first a b e = (and_parts a b e).0
 
-abbrev AllHold : List Bool → Type 0
-AllHold [] = Unit {0}
-AllHold (b ∷ bs) = (b ≡ true) × AllHold bs
-
-all_hold : (bs : List Bool) → list_all (λ holds. holds) bs ≡ true → AllHold bs
-all_hold [] e = tt
-all_hold (b ∷ bs) e = let h = and_parts b (list_all (λ holds. holds) bs) e in (h.0, all_hold bs h.1)
-
-hold_all : (bs : List Bool) → AllHold bs → list_all (λ holds. holds) bs ≡ true
-hold_all [] h = refl
-hold_all (b ∷ bs) h = and_from b (list_all (λ holds. holds) bs) h.0 (hold_all bs h.1)
+and_second : (a b : Bool) → (a && b) ≡ true → b ≡ true
+and_second a b e = (and_parts a b e).1
 
 then_so : (a b : Bool) → (not a || b) ≡ true → a ≡ true → b ≡ true
 then_so true b h e = h
@@ -274,53 +170,25 @@ so_then true b f = f refl
 so_then false b f = refl
 
 pub within_has : (a b : Rights) (x : Right) → within a b ≡ true → has x a ≡ true → has x b ≡ true
-within_has a b x w e = by x e
-  where
-    h : AllHold (implied_by a b)
-    h = all_hold (implied_by a b) w
-
-    by : (x : Right) → has x a ≡ true → has x b ≡ true
-    by Select e = then_so a.select b.select h.0 e
-    by Usage e = then_so a.usage b.usage h.1.0 e
-    by Insert e = then_so a.insert b.insert h.1.1.0 e
-    by References e = then_so a.references b.references h.1.1.1.0 e
-    by Delete e = then_so a.delete b.delete h.1.1.1.1.0 e
-    by Trigger e = then_so a.trigger b.trigger h.1.1.1.1.1.0 e
-    by Truncate e = then_so a.truncate b.truncate h.1.1.1.1.1.1.0 e
-    by Update e = then_so a.update b.update h.1.1.1.1.1.1.1.0 e
-    by Create e = then_so a.create b.create h.1.1.1.1.1.1.1.1.0 e
+within_has a b Select w e = search (and_first, and_second, then_so) depth 12
+within_has a b x w e = search (and_first, and_second, then_so) depth 12
 
 pub has_within : (a b : Rights) → ((x : Right) → has x a ≡ true → has x b ≡ true) → within a b ≡ true
 has_within a b f =
-    hold_all (implied_by a b) (
+    rw (
       so_then a.select b.select (f Select),
-      (
-        so_then a.usage b.usage (f Usage),
-        (
-          so_then a.insert b.insert (f Insert),
-          (
-            so_then a.references b.references (f References),
-            (
-              so_then a.delete b.delete (f Delete),
-              (so_then a.trigger b.trigger (f Trigger), (so_then a.truncate b.truncate (f Truncate), (so_then a.update b.update (f Update), (so_then a.create b.create (f Create), tt)))),
-            ),
-          ),
-        ),
-      ),
-    )
+      so_then a.usage b.usage (f Usage),
+      so_then a.insert b.insert (f Insert),
+      so_then a.references b.references (f References),
+      so_then a.delete b.delete (f Delete),
+      so_then a.trigger b.trigger (f Trigger),
+      so_then a.truncate b.truncate (f Truncate),
+      so_then a.update b.update (f Update),
+      so_then a.create b.create (f Create),
+    ) refl
 
 still_there : (x y : Right) (r : Rights) → has y r ≡ true → has y (with_right x r) ≡ true
-still_there Select Select r e = refl
-still_there Select _ r e = e
-still_there Usage Usage r e = refl
-still_there Insert Insert r e = refl
-still_there References References r e = refl
-still_there Delete Delete r e = refl
-still_there Trigger Trigger r e = refl
-still_there Truncate Truncate r e = refl
-still_there Update Update r e = refl
-still_there Create Create r e = refl
-still_there x _ r e = e
+still_there x y r e = grind arith
 
 fewer_within : (k r : Rights) (x : Right) → within (with_right x r) k ≡ true → within r k ≡ true
 fewer_within k r x w = has_within r k (λ y e. within_has (with_right x r) k y w (still_there x y r e))
@@ -331,15 +199,8 @@ front_within k r (x ∷ xs) w = fewer_within k r x (front_within k (with_right x
 
 pub kind_has_them : (k : Kind) (r : Rights) → within r (kind_rights k) ≡ true → some_kind_has r ≡ true
 unfolding some_kind_has
-kind_has_them Tables r w = or_left (within r table_rights) (within r sequence_rights || (within r schema_rights || within r type_rights)) w
-kind_has_them Sequences r w =
-    or_right (within r table_rights) (within r sequence_rights || (within r schema_rights || within r type_rights)) (or_left (within r sequence_rights) (within r schema_rights || within r type_rights) w)
-kind_has_them Schemas r w =
-    or_right (within r table_rights) (within r sequence_rights || (within r schema_rights || within r type_rights))
-    (or_right (within r sequence_rights) (within r schema_rights || within r type_rights) (or_left (within r schema_rights) (within r type_rights) w))
-kind_has_them Types r w =
-    or_right (within r table_rights) (within r sequence_rights || (within r schema_rights || within r type_rights))
-    (or_right (within r sequence_rights) (within r schema_rights || within r type_rights) (or_right (within r schema_rights) (within r type_rights) w))
+kind_has_them Tables r w = search or_left
+kind_has_them x r w = search (or_left, or_right)
 
 -- each right of a list may stand behind those before it
 abbrev pub AllGo : Rights → List Right → Type 0

@@ -1,6 +1,6 @@
 -- The grammar of rights and of objects has the laws of a part, and a list of rights is one that some kind has.
-use Rattle.std.proofs.Common.{◌≡◌, ℕ, Bool, true, false, not, cond, ◌||◌, List, [], ◌∷◌, ◌++◌, Option, Some, None, option_map, Ok, refl, sym, ap, subst, ◌∙◌, codes}
-use Rattle.std.proofs.lemmas.Bool.{or_left, or_right}
+use Rattle.std.proofs.Common.{◌≡◌, ℕ, Bool, true, false, not, cond, ◌||◌, List, [], ◌∷◌, ◌++◌, Option, Some, None, option_map, Ok, refl, sym, ap, subst, ◌∙◌, codes, inl, inr, arith}
+use Rattle.std.proofs.lemmas.Bool.{or_left, or_right, or_cases}
 use Rattle.sql_lex.specs.Meaning.{is_keyword_of}
 use Rattle.cat_model.specs.declared.grant.Rights.{Rights}
 use Rattle.cat_model.specs.declared.grant.Granted.{Granted}
@@ -11,7 +11,8 @@ use Rattle.ddl_parts.specs.Parts.{Part, Many, no_more, one_more, many, seen}
 use Rattle.ddl_parts.specs.Laws.{Lawful, Begins, Apart}
 use Rattle.ddl_parts.specs.Leaves.{name, qualified}
 use Rattle.ddl_parts.specs.Lists.{comma}
-use Rattle.ddl_parts.proofs.Steps.{avoids_never, avoids_begun, starts-append}
+use Rattle.ddl_parts.proofs.Steps.{avoids_never, avoids_begun, starts-append, starts_more}
+use Rattle.ddl_parts.proofs.Telling.{sign_no_word}
 use Rattle.ddl_parts.proofs.Simple.{seen_laws}
 use Rattle.ddl_parts.proofs.Sequence.{lead_begins}
 use Rattle.ddl_parts.proofs.Repeated.{AreApart, many_laws}
@@ -69,28 +70,24 @@ unfolding some_kind_has
 one_has Select = refl
 one_has x = refl
 
-pub wanted_can : (ts : List Lexeme) (w : Wanted) → wanted_first ts ≡ Some w → CanBeOn w
+-- what holds of ALL and of one right alone holds of what begins a list
+pub wanted_is : (P : Wanted → Type 0) → P All → ((x : Right) → P (These (only x))) → (ts : List Lexeme) (w : Wanted) → wanted_first ts ≡ Some w → P w
 unfolding wanted_first
-wanted_can ts w e = by (starts (is_word (codes "all")) ts) e
+wanted_is P all one ts w e = by (starts (is_word (codes "all")) ts) e
   where
-    listed : (o : Option Right) → option_map (λ x. These (only x)) o ≡ Some w → CanBeOn w
+    listed : (o : Option Right) → option_map (λ x. These (only x)) o ≡ Some w → P w
     listed None f = absurd cc
-    listed (Some x) f = let same : These (only x) ≡ w = cc in subst CanBeOn same (one_has x)
+    listed (Some x) f = let same : These (only x) ≡ w = cc in subst P same (one x)
 
-    by : (b : Bool) → cond b (Some All) (option_map (λ x. These (only x)) (right_first ts)) ≡ Some w → CanBeOn w
-    by true f = let same : All ≡ w = cc in subst CanBeOn same tt
+    by : (b : Bool) → cond b (Some All) (option_map (λ x. These (only x)) (right_first ts)) ≡ Some w → P w
+    by true f = let same : All ≡ w = cc in subst P same all
     by false f = listed (right_first ts) f
 
+pub wanted_can : (ts : List Lexeme) (w : Wanted) → wanted_first ts ≡ Some w → CanBeOn w
+wanted_can = wanted_is CanBeOn tt one_has
+
 there : (x : Right) (r : Rights) → has x r ≡ true → with_right x r ≡ r
-there Select r e = ap (λ (b : Bool). record r { select = b }) (sym e)
-there Usage r e = ap (λ (b : Bool). record r { usage = b }) (sym e)
-there Insert r e = ap (λ (b : Bool). record r { insert = b }) (sym e)
-there References r e = ap (λ (b : Bool). record r { references = b }) (sym e)
-there Delete r e = ap (λ (b : Bool). record r { delete = b }) (sym e)
-there Trigger r e = ap (λ (b : Bool). record r { trigger = b }) (sym e)
-there Truncate r e = ap (λ (b : Bool). record r { truncate = b }) (sym e)
-there Update r e = ap (λ (b : Bool). record r { update = b }) (sym e)
-there Create r e = ap (λ (b : Bool). record r { create = b }) (sym e)
+there x r e = grind arith
 
 pub still_has : (r : Rights) (x : Right) → goes_with r x ≡ true → some_kind_has r ≡ true → some_kind_has (with_right x r) ≡ true
 unfolding goes_with
@@ -124,8 +121,7 @@ rights_can r s ts spells can = ap some_kind_has spells.1 ∙ all_have r r spells
 -- ---- a list of rights
 
 implied : (b : Bool) → (not b || true) ≡ true
-implied true = refl
-implied false = refl
+implied b = grind arith
 
 table_has : (r : Rights) → r.usage ≡ false → r.create ≡ false → within r table_rights ≡ true
 table_has r e f =
@@ -164,19 +160,11 @@ rights_from_laws r = seen_laws (all_of r) (many comma (more_rights r)) (many_law
 
 kind_found : (r : Rights) → some_kind_has r ≡ true → (k : Kind) × (within r (kind_rights k) ≡ true)
 unfolding some_kind_has
-kind_found r e = by_table (within r table_rights) refl e
-  where
-    by_schema : (b : Bool) → within r schema_rights ≡ b → (b || within r type_rights) ≡ true → (k : Kind) × (within r (kind_rights k) ≡ true)
-    by_schema true is f = (Schemas, is)
-    by_schema false is f = (Types, f)
-
-    by_sequence : (b : Bool) → within r sequence_rights ≡ b → (b || (within r schema_rights || within r type_rights)) ≡ true → (k : Kind) × (within r (kind_rights k) ≡ true)
-    by_sequence true is f = (Sequences, is)
-    by_sequence false is f = by_schema (within r schema_rights) refl f
-
-    by_table : (b : Bool) → within r table_rights ≡ b → (b || (within r sequence_rights || (within r schema_rights || within r type_rights))) ≡ true → (k : Kind) × (within r (kind_rights k) ≡ true)
-    by_table true is f = (Tables, is)
-    by_table false is f = by_sequence (within r sequence_rights) refl f
+kind_found r e =
+    elim (or_cases (within r table_rights) _ e) [
+      | inl h ↦ (Tables, h)
+      | inr f ↦ elim (or_cases (within r sequence_rights) _ f) [ inl h ↦ (Sequences, h) | inr g ↦ elim (or_cases (within r schema_rights) _ g) [ inl h ↦ (Schemas, h) | inr h ↦ (Types, h) ] ]
+    ]
 
 kind_for : (w : Wanted) → CanBeOn w → (k : Kind) × (kind_has w k ≡ true)
 kind_for All can = (Tables, refl)
@@ -242,12 +230,10 @@ abbrev pub goes_to_object : Lexeme → Bool
 goes_to_object t = comma t || is_word (codes "on") t
 
 comma_first : (ts : List Lexeme) → starts comma ts ≡ true → starts goes_to_object ts ≡ true
-comma_first [] e = absurd cc
-comma_first (t ∷ ts) e = or_left (comma t) (is_word (codes "on") t) e
+comma_first ts e = starts_more comma goes_to_object (λ t f. or_left (comma t) (is_word (codes "on") t) f) ts e
 
 on_first : (ts : List Lexeme) → starts (is_word (codes "on")) ts ≡ true → starts goes_to_object ts ≡ true
-on_first [] e = absurd cc
-on_first (t ∷ ts) e = or_right (comma t) (is_word (codes "on") t) e
+on_first ts e = starts_more (is_word (codes "on")) goes_to_object (λ t f. or_right (comma t) (is_word (codes "on") t) f) ts e
 
 list_first : (first r : Rights) (xs : List Right) (a b : List Lexeme) → Many (more_rights first) r xs a → starts (is_word (codes "on")) b ≡ true → starts goes_to_object (a ++ b) ≡ true
 list_first first r _ _ b (no_more _) e = on_first b e
@@ -261,15 +247,10 @@ rights_and_object_begins (These r) x ts spells =
     ap (starts goes_to_object) spells.3 ∙ list_first r r spells.4.0 spells.1 spells.2 spells.4.2 (on_object_begins (These spells.0) x spells.2 spells.5)
 
 pub to_no_object : Apart goes_to_object (is_word (codes "to"))
-to_no_object t e = by (is_word (codes "to") t) refl
+to_no_object t e = both (comma t) (is_word (codes "on") t) (is_word (codes "to") t) (sign_no_word 44 (codes "to") t) (words_apart (codes "on") (codes "to") refl t) e
   where
-    no_comma : (b : Bool) → comma t ≡ b → (b || is_word (codes "on") t) ≡ true → comma t ≡ false → is_word (codes "on") t ≡ false → true ≡ false
-    no_comma true is f g h = sym is ∙ g
-    no_comma false is f g h = sym f ∙ h
-
-    by : (b : Bool) → is_word (codes "to") t ≡ b → b ≡ false
-    by true is = no_comma (comma t) refl e (word_no_sign (codes "to") 44 t is) (words_apart (codes "to") (codes "on") refl t is)
-    by false is = refl
+    both : (a b c : Bool) → (a ≡ true → c ≡ false) → (b ≡ true → c ≡ false) → (a || b) ≡ true → c ≡ false
+    both a b c f g h = elim (or_cases a b h) [ inl is ↦ f is | inr is ↦ g is ]
 
 -- ---- ALL, or the first right
 
