@@ -140,8 +140,7 @@ abbrev line_by : Token → Bool → Option Token
 line_by t b = cond b (Some t) None
 
 line_kind : (k : TokenKind) → is_line_kind k ≡ true → k ≡ MetaLine
-line_kind MetaLine e = refl
-line_kind x e = absurd cc
+line_kind x e = grind arith
 
 abbrev with_kind : Token → TokenKind → Token
 with_kind t k = record { kind = k; start = t.start; end = t.end }
@@ -174,9 +173,7 @@ unfolding collected collected_within
 collected_first text at = let fuel : length text + 1 ≡ suc (length text) = omega arith in ap (λ n. collected_within n text at) fuel
 
 none_next : (behind : ℕ → Collected) (at : ℕ) (r : Result (Option Token) LexFault) → first_start (collected_by behind at r).pieces ≡ None → line_in r ≡ None
-none_next behind at (Err fault) e = refl
-none_next behind at (Ok None) e = refl
-none_next behind at (Ok (Some t)) e = absurd cc
+none_next behind at v e = grind arith
 
 pub no_line_left : (text : List ℕ) (at : ℕ) → first_start (collected text at).pieces ≡ None → line_at text at ≡ None
 unfolding line_at
@@ -389,10 +386,7 @@ same_rest S (x ∷ a) (y ∷ b) r q m n e ends ends' one other =
     same_rest (λ ts. S (x ∷ ts)) a b r q m n (ap behind_first e) ends (λ t behind is more s. ends' t behind is more (subst (λ z. S (z ∷ (b ++ t ∷ more))) (sym first) s)) one (subst (λ z. S (z ∷ (b ++ n))) first other)
 
 place_by : (limit : ℕ) (fault : Option LexFault) (long long' : Bool) (at : Option ℕ) → fault_place (fault_by limit fault long at) ≡ fault_place (fault_by limit fault long' at)
-place_by limit fault long long' None = refl
-place_by limit fault true true (Some at) = refl
-place_by limit fault false true (Some at) = refl
-place_by limit fault x y at = refl
+place_by limit fault long long' at = grind arith
 
 abbrev Spelled : List Lexeme → Type 0
 Spelled ts = (s : Option Stmt) × statement.Spells s ts

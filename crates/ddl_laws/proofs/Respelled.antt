@@ -242,8 +242,7 @@ no_token front g gap =
 -- ---- one after another
 
 first_is : (text : List ℕ) (ps : List Piece) → start_of (lexemes text ps) ≡ first_start ps
-first_is text [] = refl
-first_is text (p ∷ ps) = refl
+first_is text ps = grind arith
 
 ends_placed : (at : ℕ) (ts : List Lexeme) → ends_with semicolon (placed at ts) ≡ ends_with semicolon ts
 unfolding is_sign
