@@ -1,10 +1,9 @@
 //! The cases one after another.
-use crate::base::Base;
-use crate::fault::TrialFault;
 use crate::kind::{Kind, kind_of};
-use crate::{changes, checks, comparing, named, running, selecting, tools};
+use crate::tools;
 use dump_ports::{Files, Sink, Source, read_all, write_all};
 use std::alloc::{AllocError, Global};
+use table_cases::{Base, TrialFault};
 use text_cases::{decoded, show};
 
 /// How many bytes the cases may have.
@@ -30,9 +29,9 @@ fn of_bytes(
         Kind::Pattern => word_cases::pattern(alloc, text, out),
         Kind::Psql => tools::psql(alloc, &block.base, text, out),
         Kind::PgDump => tools::pg_dump(alloc, &block.base, text, out),
-        Kind::Select => selecting::with_options(alloc, &block.base, text, out),
-        Kind::Dump => selecting::dump(alloc, &block.base, text, out),
-        Kind::Script(shown) => running::script(alloc, &block.base, text, shown, out),
+        Kind::Select => table_cases::select(alloc, &block.base, text, out),
+        Kind::Dump => table_cases::dump(alloc, &block.base, text, out),
+        Kind::Script(shown) => engine_cases::run_script(alloc, &block.base, text, shown, out),
         _ => out.extend_from_slice(b"?"),
     }
 }
@@ -44,9 +43,9 @@ fn of_texts(alloc: Global, block: &Block, line: &str, out: &mut Vec<u8>) -> Resu
         return out.extend_from_slice(b"?");
     }
     match block.kind {
-        Kind::Check(what) => checks::with_texts(alloc, what, &block.base, &changed, out),
-        Kind::Named => named::with_texts(alloc, &block.base, &changed, out),
-        _ => comparing::with_texts(alloc, &block.base, &changed, out),
+        Kind::Check(what) => table_cases::check_texts(alloc, what, &block.base, &changed, out),
+        Kind::Named => engine_cases::name_texts(alloc, &block.base, &changed, out),
+        _ => table_cases::compare_texts(alloc, &block.base, &changed, out),
     }
 }
 
@@ -56,7 +55,7 @@ fn answer(alloc: Global, block: &Block, line: &str, out: &mut Vec<u8>) -> Result
         Kind::Text(kind) => text_cases::answer(alloc, kind, line, out),
         Kind::Archive(kind) => archive_cases::answer(alloc, kind, line, out),
         Kind::Check(_) | Kind::Same | Kind::Named => of_texts(alloc, block, line, out),
-        Kind::Change => changes::with_line(alloc, &block.base, line, out),
+        Kind::Change => table_cases::change(alloc, &block.base, line, out),
         Kind::PgCatcmp => tools::pg_catcmp(alloc, &block.base, line, out),
         Kind::Run => tools::words(alloc, &block.base, line, out),
         Kind::Input => tools::input(alloc, &block.base, line, out),

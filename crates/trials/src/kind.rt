@@ -1,6 +1,7 @@
 //! The kinds of cases.
-use crate::running::Shown;
 use archive_cases::ArchiveKind;
+use engine_cases::Shown;
+use table_cases::{Checked, checked_of};
 use text_cases::{TextKind, text_kind};
 
 /// What the cases of a block are of.
@@ -42,42 +43,6 @@ pub(crate) enum Kind {
     Run,
     /// Words and the text of standard input: what the program tells and writes, and what is left of the input.
     Input,
-}
-
-/// The tables that are checked together.
-#[derive(Clone, Copy, Debug, PartialEq, Eq)]
-pub(crate) enum Checked {
-    /// Roles, memberships, databases and schemas.
-    Cluster,
-    /// Types.
-    Types,
-    /// Columns and their defaults.
-    Columns,
-    /// Constraints.
-    Constraints,
-    /// Indexes that stand for no constraint.
-    Indexes,
-    /// Sequences.
-    Sequences,
-    /// Views.
-    Views,
-    /// All fifteen tables.
-    All,
-}
-
-fn checked_of(name: &str) -> Option<Checked> {
-    let checked = match name {
-        "cluster" => Checked::Cluster,
-        "types" => Checked::Types,
-        "columns" => Checked::Columns,
-        "constraints" => Checked::Constraints,
-        "indexes" => Checked::Indexes,
-        "sequences" => Checked::Sequences,
-        "views" => Checked::Views,
-        "all" => Checked::All,
-        _ => return None,
-    };
-    Some(checked)
 }
 
 fn other_of(name: &str) -> Kind {

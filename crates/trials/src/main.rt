@@ -5,17 +5,8 @@
 #![tactic(auto)]
 
 mod answering;
-mod base;
-mod changes;
-mod checks;
-mod comparing;
-mod fault;
 mod kind;
-mod named;
-mod running;
-mod selecting;
 mod tools;
-mod written;
 
 use crate::answering::answer_all;
 use os_ports::{OsFiles, OsIn, OsOut};

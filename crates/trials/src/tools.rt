@@ -1,10 +1,10 @@
 //! Cases of the whole program, over files in memory.
-use crate::base::Base;
 use cat_rows::SysTable;
 use copy_text::Text;
 use dump_ports::{MemFiles, MemSink, MemSource, Moment, OpenGate, read_all};
 use dump_tools::run_tools;
 use std::alloc::{AllocError, Global};
+use table_cases::Base;
 use text_cases::decoded;
 use tool_words::Outcome;
 

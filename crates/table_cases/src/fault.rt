@@ -4,7 +4,7 @@ use std::alloc::AllocError;
 
 /// Why the cases weren't all answered.
 #[derive(Debug, Drop)]
-pub(crate) enum TrialFault {
+pub enum TrialFault {
     /// Memory ran out.
     Memory,
     /// The input isn't a text, or couldn't be read or the answers written.

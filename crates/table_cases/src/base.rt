@@ -11,28 +11,28 @@ const LIMIT: u64 = 1 << 27;
 
 /// A system table's text.
 #[derive(Debug, Drop)]
-pub(crate) struct TableText {
+pub struct TableText {
     pub table: SysTable,
     pub text: Vec<u8>,
 }
 
 /// The text of the rows of the table of an oid.
 #[derive(Debug, Drop)]
-pub(crate) struct RowsText {
+pub struct RowsText {
     pub oid: u32,
     pub text: Vec<u8>,
 }
 
 /// Texts of system tables, and rows of tables. Of two texts of a table the later counts.
 #[derive(Debug, Drop)]
-pub(crate) struct Base {
+pub struct Base {
     pub tables: Vec<TableText>,
     pub rows: Vec<RowsText>,
 }
 
 impl Base {
     /// Nothing.
-    pub(crate) fn new(alloc: Global) -> Base {
+    pub fn new(alloc: Global) -> Base {
         Base {
             tables: Vec::new(alloc),
             rows: Vec::new(alloc),
@@ -40,7 +40,7 @@ impl Base {
     }
 
     /// Adds what `TABLE TEXT` or `rows OID TEXT` says, and tells whether it says so.
-    pub(crate) fn add(&mut self, alloc: Global, said: &str) -> Result<bool, AllocError> {
+    pub fn add(&mut self, alloc: Global, said: &str) -> Result<bool, AllocError> {
         let Some((word, rest)) = said.split_once(' ') else {
             return Ok(false);
         };
@@ -66,7 +66,7 @@ impl Base {
     }
 
     /// Adds all that a line says, piece by piece with ` | ` between, and tells whether each piece says something.
-    pub(crate) fn add_all(&mut self, alloc: Global, line: &str) -> Result<bool, AllocError> {
+    pub fn add_all(&mut self, alloc: Global, line: &str) -> Result<bool, AllocError> {
         for piece in line.split(" | ") {
             if !self.add(alloc, piece)? {
                 return Ok(false);
@@ -76,7 +76,7 @@ impl Base {
     }
 
     /// Adds the system tables of a folder, and tells whether each was there.
-    pub(crate) fn add_folder<F: Files>(
+    pub fn add_folder<F: Files>(
         &mut self,
         alloc: Global,
         files: &mut F,
@@ -98,7 +98,7 @@ impl Base {
     }
 
     /// The text of a table; empty where none was added.
-    pub(crate) fn text(&self, table: SysTable) -> &[u8] {
+    pub fn text(&self, table: SysTable) -> &[u8] {
         let mut text: &[u8] = &[];
         for it in &self.tables {
             if it.table == table {
@@ -109,7 +109,7 @@ impl Base {
     }
 
     /// Reads its tables into a catalogue, and tells whether all were read.
-    pub(crate) fn read_into(&self, alloc: Global, cat: &mut Catalogue) -> Result<bool, AllocError> {
+    pub fn read_into(&self, alloc: Global, cat: &mut Catalogue) -> Result<bool, AllocError> {
         for it in &self.tables {
             match read_table(alloc, cat, it.table, &it.text) {
                 Ok(()) => {}
@@ -121,7 +121,7 @@ impl Base {
     }
 
     /// Its rows by their tables' oids.
-    pub(crate) fn data(&self, alloc: Global) -> Result<DataSet, AllocError> {
+    pub fn data(&self, alloc: Global) -> Result<DataSet, AllocError> {
         let mut data = DataSet::new(alloc);
         for it in &self.rows {
             data.put(it.oid, it.text.clone()?)?;

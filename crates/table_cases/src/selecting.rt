@@ -7,7 +7,7 @@ use std::alloc::{AllocError, Global};
 use well_formed::WellFormed;
 
 /// The objects of the base that these options choose, in order.
-pub(crate) fn with_options(
+pub fn select(
     alloc: Global,
     base: &Base,
     text: &[u8],
@@ -35,12 +35,7 @@ fn dump_of(
 }
 
 /// What a line asks of a dump of the base.
-pub(crate) fn dump(
-    alloc: Global,
-    base: &Base,
-    text: &[u8],
-    out: &mut Vec<u8>,
-) -> Result<(), AllocError> {
+pub fn dump(alloc: Global, base: &Base, text: &[u8], out: &mut Vec<u8>) -> Result<(), AllocError> {
     let Ok(line) = str::from_utf8(text) else {
         return out.extend_from_slice(b"?");
     };

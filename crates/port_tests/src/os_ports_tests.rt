@@ -1,5 +1,3 @@
-mod cut;
-mod psql;
 mod staged;
 
 use dump_ports::{Failed, Files, Sink, Source, read_whole};

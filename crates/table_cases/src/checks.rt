@@ -145,7 +145,7 @@ fn checked(alloc: Global, what: Checked, cat: Catalogue) -> Result<(), CheckErro
 }
 
 /// The first fault of the base with other texts of some tables.
-pub(crate) fn with_texts(
+pub fn check_texts(
     alloc: Global,
     what: Checked,
     base: &Base,

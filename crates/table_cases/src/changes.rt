@@ -1,6 +1,6 @@
 //! Cases of changes to the tables of a folder.
 use crate::base::{Base, TableText};
-use crate::checks::with_texts;
+use crate::checks::check_texts;
 use crate::kind::Checked;
 use cat_rows::SysTable;
 use std::alloc::{AllocError, Global};
@@ -99,7 +99,7 @@ fn with_change(
     let text = changed(alloc, base.text(table), number, change)?;
     let mut with = Base::new(alloc);
     with.tables.push(TableText { table, text })?;
-    with_texts(alloc, Checked::All, base, &with, out)
+    check_texts(alloc, Checked::All, base, &with, out)
 }
 
 // The column's number and its new text.
@@ -133,14 +133,9 @@ fn change_line(
 }
 
 /// A change of one line of a table: `TABLE line N removed`, `.. repeated at the end` or `.. COLUMN = TEXT`; or `nothing`.
-pub(crate) fn with_line(
-    alloc: Global,
-    base: &Base,
-    line: &str,
-    out: &mut Vec<u8>,
-) -> Result<(), AllocError> {
+pub fn change(alloc: Global, base: &Base, line: &str, out: &mut Vec<u8>) -> Result<(), AllocError> {
     if line == "nothing" {
-        return with_texts(alloc, Checked::All, base, &Base::new(alloc), out);
+        return check_texts(alloc, Checked::All, base, &Base::new(alloc), out);
     }
     let Some((name, rest)) = line.split_once(" line ") else {
         return out.extend_from_slice(b"?");

@@ -9,7 +9,7 @@ use text_cases::put_key;
 use well_formed::WellFormed;
 
 /// A well-formed catalogue of these texts, where they are one.
-pub(crate) fn formed(
+pub fn formed(
     alloc: Global,
     base: &Base,
     changed: &Base,
@@ -120,7 +120,7 @@ fn compared(
 }
 
 /// The least key at which the base, and the base with other texts of some tables and these rows, differ; both ways round.
-pub(crate) fn with_texts(
+pub fn compare_texts(
     alloc: Global,
     base: &Base,
     changed: &Base,

@@ -1,6 +1,4 @@
 //! Cases of what a catalogue stands for by names.
-use crate::base::Base;
-use crate::comparing::formed;
 use crate::running::Shown;
 use crate::written::put_written;
 use cat_model::{Key, Value};
@@ -8,6 +6,7 @@ use cat_names::DataSet;
 use cat_naming::catalogue_map;
 use eng_map::NamedMap;
 use std::alloc::{AllocError, Global};
+use table_cases::{Base, formed};
 use table_rows::{CheckValuesError, check_values};
 use text_cases::put_key;
 use value_cases::put_value;
@@ -93,7 +92,7 @@ fn put_named(
 }
 
 /// Each key with its value, of the base with other texts of some tables.
-pub(crate) fn with_texts(
+pub fn name_texts(
     alloc: Global,
     base: &Base,
     changed: &Base,

@@ -1,9 +1,9 @@
 //! psql on a folder of the system's files, cut at each call of the system.
-use super::cut::{Calls, Cut, CutFiles};
 use copy_text::Text;
 use dump_ports::{MemSink, MemSource, OpenGate};
 use dump_tools::run_tools;
 use os_ports::{Hold, Holdable, OsFiles, moment_now};
+use port_tests::cut::{Calls, Cut, CutFiles};
 use std::alloc::Global;
 use std::test::Fail;
 use std::{fs, io, rt};

@@ -2,8 +2,6 @@
 ghost use Rattle.std.specs.Prelude.{◌≡◌, None};
 ghost use Rattle.table_rows.specs.Values.{values_fault};
 
-use crate::base::Base;
-use crate::comparing::formed;
 use crate::written::put_written;
 use cat_engine::{Engine, prepare};
 use cat_load::{LoadError, LoadFault, load};
@@ -16,12 +14,13 @@ use eng_map::NamedMap;
 use eng_steps::ApplyError;
 use refusals::write_cause;
 use std::alloc::{AllocError, Global};
+use table_cases::{Base, formed};
 use table_rows::{CheckValuesError, check_values};
 use well_formed::WellFormed;
 
 /// What a case of a script shows.
 #[derive(Clone, Copy, Debug, PartialEq, Eq)]
-pub(crate) enum Shown {
+pub enum Shown {
     /// What each statement answers, and the keys that are there then, once all was written to a folder and read again.
     Keys,
     /// The keys with their values that are there then, once all was written to a folder and read again.
@@ -190,7 +189,7 @@ fn on_catalogue(
 }
 
 /// Carries the statements of a script out on the base, and shows what that leaves.
-pub(crate) fn script(
+pub fn run_script(
     alloc: Global,
     base: &Base,
     script: &[u8],
