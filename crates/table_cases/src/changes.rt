@@ -133,7 +133,12 @@ fn change_line(
 }
 
 /// A change of one line of a table: `TABLE line N removed`, `.. repeated at the end` or `.. COLUMN = TEXT`; or `nothing`.
-pub fn change(alloc: Global, base: &Base, line: &str, out: &mut Vec<u8>) -> Result<(), AllocError> {
+pub fn change_texts(
+    alloc: Global,
+    base: &Base,
+    line: &str,
+    out: &mut Vec<u8>,
+) -> Result<(), AllocError> {
     if line == "nothing" {
         return check_texts(alloc, Checked::All, base, &Base::new(alloc), out);
     }

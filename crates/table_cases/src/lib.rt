@@ -11,7 +11,7 @@ mod kind;
 mod selecting;
 
 pub use crate::base::Base;
-pub use crate::changes::change;
+pub use crate::changes::change_texts;
 pub use crate::checks::check_texts;
 pub use crate::comparing::{compare_texts, formed};
 pub use crate::fault::TrialFault;

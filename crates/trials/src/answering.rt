@@ -55,7 +55,7 @@ fn answer(alloc: Global, block: &Block, line: &str, out: &mut Vec<u8>) -> Result
         Kind::Text(kind) => text_cases::answer(alloc, kind, line, out),
         Kind::Archive(kind) => archive_cases::answer(alloc, kind, line, out),
         Kind::Check(_) | Kind::Same | Kind::Named => of_texts(alloc, block, line, out),
-        Kind::Change => table_cases::change(alloc, &block.base, line, out),
+        Kind::Change => table_cases::change_texts(alloc, &block.base, line, out),
         Kind::PgCatcmp => tools::pg_catcmp(alloc, &block.base, line, out),
         Kind::Run => tools::words(alloc, &block.base, line, out),
         Kind::Input => tools::input(alloc, &block.base, line, out),
