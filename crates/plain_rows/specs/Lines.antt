@@ -6,7 +6,6 @@ use Rattle.std.specs.declared.cmp.Ordering.{Ordering}
 use Rattle.std.specs.declared.cmp.Ordering.TheVariants.{Less}
 use Rattle.std.specs.Ordering.{nat_cmp}
 use Rattle.std.specs.Cmp.Lexicographic.{slice_cmp}
-use Rattle.std.specs.HashSet.{HashSet, contains_by}
 use Rattle.copy_text.specs.declared.fault.CopyFault.{CopyFault}
 use Rattle.copy_text.specs.Lines.{data_lines}
 use Rattle.copy_text.specs.Reading.{row_of}
@@ -14,6 +13,8 @@ use Rattle.cat_model.specs.declared.value.Column.{Column}
 use Rattle.cat_model.specs.Values.{Bytes, Row}
 use Rattle.cat_model.specs.Lexemes.{same_text}
 use Rattle.cat_model.specs.FieldTypes.{takes}
+use Rattle.key_sets.specs.declared.key_set.KeySet.{KeySet}
+use Rattle.key_sets.specs.Holding.{holds}
 use Rattle.cat_model.specs.CopiedRows.{fields_cause}
 use Rattle.row_keys.specs.ByPlaces.{field_at}
 
@@ -21,6 +22,10 @@ use Rattle.row_keys.specs.ByPlaces.{field_at}
 abbrev pub FieldFits : Bool → Column → Option Bytes → Type 0
 FieldFits required column (Some text) = takes column.resolved text ≡ true
 FieldFits required column None = required ≡ false
+
+-- a column takes a piece that stands for itself
+abbrev pub TakesPiece : Column → Bytes → Type 0
+TakesPiece column piece = takes column.resolved piece ≡ true
 
 -- the line is a row with a field for each column, which takes it
 pub record LineFits (columns : List Column) (primary : List Bytes) (line : Bytes) : Type 0 where
@@ -41,6 +46,10 @@ line_key columns place line = key_read columns place (row_of line)
 abbrev pub line_keys : List Column → ℕ → Bytes → List (Option Bytes)
 line_keys columns place text = map (line_key columns place) (data_lines text)
 
+-- a line has no key but this one, if it has one
+abbrev pub HasAtMost : Option Bytes → Option Bytes → Type 0
+HasAtMost key found = (found ≡ None) ⊎ (found ≡ key)
+
 -- none of these keys stands among those before it, or the ones that were known; null stands for none
 abbrev pub none_again : List Bytes → List (Option Bytes) → Bool
 none_again known [] = true
@@ -52,8 +61,12 @@ same_some key None = false
 same_some key (Some other) = same_text key other
 
 -- the set has only keys that are among these
-abbrev pub AreAmong : {S : Type 0} → List (Option Bytes) → HashSet (Bor (List ℕ)) S → Type 0
-AreAmong keys set = (key : List ℕ) → contains_by (λ other. same_text key other.now) set ≡ true → list_any (same_some key) keys ≡ true
+abbrev pub AreAmong : List (Option Bytes) → KeySet → Type 0
+AreAmong keys set = (key : Bytes) → holds set key ≡ true → list_any (same_some key) keys ≡ true
+
+-- the set has exactly these keys
+abbrev pub AreKnown : List Bytes → KeySet → Type 0
+AreKnown keys set = (key : Bytes) → holds set key ≡ list_any (same_text key) keys
 
 -- each of these keys that isn't null is one of the parents
 abbrev pub all_among : List (Option Bytes) → List (Option Bytes) → Bool

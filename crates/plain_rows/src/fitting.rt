@@ -1,14 +1,17 @@
 //! Lines whose fields their columns take.
 ghost use Rattle.std.specs.Prelude.{◌≡◌, ℕ, List, None, length, map, IfOk, IsTrue};
-ghost use Rattle.std.specs.List.{AllByRecursion};
+ghost use Rattle.std.specs.List.{AllByRecursion, AllZip};
 ghost use Rattle.std.specs.Option.{option_map};
 ghost use Rattle.copy_text.specs.Lines.{data_lines};
+ghost use Rattle.copy_text.specs.Pieces.{pieces};
+ghost use Rattle.copy_text.specs.Texts.{IsText};
 ghost use Rattle.cat_model.specs.CopiedRows.{no_null, fields_cause};
-ghost use Rattle.plain_rows.specs.Lines.{LineFits, FieldFits};
+ghost use Rattle.plain_rows.specs.Lines.{LineFits, FieldFits, TakesPiece};
 
 use copy_text::Name;
 use data_rows::split_line;
 use field_values::{ColumnValues, NamePlaces, TableColumns};
+use line_fields::{has_text_lines, is_clear, split_piece};
 use row_fields::PlainRow;
 use std::alloc::{AllocError, Global};
 
@@ -58,8 +61,44 @@ fn fields_fit(columns: &[ColumnValues], required: &[bool], fields: &[Option<&[u8
     true
 }
 
-// Whether a line is a row that the table takes.
+// Whether each column takes its piece of a line, where there is a piece for each.
+fn pieces_fit(columns: &[ColumnValues], line: &[u8]) -> bool
+    ensures { IsTrue result → AllZip TakesPiece columns.now (pieces line.now) }
+{
+    let mut rest = line;
+    for i in 0..columns.len() {
+        let Some((piece, behind)) = split_piece(rest) else {
+            return false;
+        };
+        if !columns[i].takes(piece) {
+            return false;
+        }
+        let Some(behind) = behind else {
+            return i + 1 == columns.len();
+        };
+        rest = behind;
+    }
+    false
+}
+
+// Whether a line that is UTF-8 is a row that the table takes.
 fn line_fits<'t>(
+    columns: &[ColumnValues],
+    required: &[bool],
+    plain: &mut PlainRow<'t>,
+    line: &'t [u8],
+) -> Result<bool, AllocError>
+    requires { length required.now ≡ length columns.now }
+    ensures { IfOk result (λ fits. IsTrue fits → IsText line.now → (primary : List (List ℕ)) → required.now ≡ map (no_null primary) columns.now → LineFits columns.now primary line.now) }
+{
+    if is_clear(line) && pieces_fit(columns, line) {
+        return Ok(true);
+    }
+    read_row_fits(columns, required, plain, line)
+}
+
+// Whether a line is a row that the table takes.
+fn read_row_fits<'t>(
     columns: &[ColumnValues],
     required: &[bool],
     plain: &mut PlainRow<'t>,
@@ -83,7 +122,8 @@ fn all_fit(
     required: &[bool],
     text: &[u8],
 ) -> Result<bool, AllocError>
-    requires { length required.now ≡ length columns.now }
+    requires marks { length required.now ≡ length columns.now }
+    requires texts { AllByRecursion IsText (data_lines text.now) }
     ensures { IfOk result (λ fit. IsTrue fit → (primary : List (List ℕ)) → required.now ≡ map (no_null primary) columns.now → AllByRecursion (LineFits columns.now primary) (data_lines text.now)) }
 {
     let mut plain = PlainRow::new(alloc);
@@ -108,6 +148,9 @@ pub fn rows_fit(
 ) -> Result<bool, AllocError>
     ensures { IfOk result (λ fit. IsTrue fit → AllByRecursion (LineFits columns.now primary.now) (data_lines text.now)) }
 {
+    if !has_text_lines(text) {
+        return Ok(false);
+    }
     let required = required(alloc, columns.as_slice(), primary)?;
     all_fit(alloc, columns.as_slice(), &required, text)
 }

@@ -2,19 +2,22 @@
 ghost use Rattle.std.specs.Prelude.{◌≡◌, ◌∷◌, ℕ, List, Option, Some, true, [], IfOk, IfSome, IsTrue, OnOk, false};
 ghost use Rattle.std.specs.List.{list_any, slice_get};
 ghost use Rattle.std.specs.Option.{option_map, option_copied};
+ghost use Rattle.copy_text.specs.Lines.{data_lines};
 ghost use Rattle.copy_text.specs.Reading.{row_of};
+ghost use Rattle.copy_text.specs.Rows.{Field};
+ghost use Rattle.copy_text.specs.Texts.{IsText};
 ghost use Rattle.cat_model.specs.Lexemes.{same_text};
-ghost use Rattle.field_values.specs.Labels.{AreLabels};
 ghost use Rattle.row_keys.specs.ByPlaces.{field_at};
 ghost use Rattle.std.specs.declared.cmp.Ordering.TheVariants.{Less};
-ghost use Rattle.plain_rows.specs.Lines.{line_key, line_keys, none_again, same_some, AreAmong, all_among, by_length, AreUpTo};
+ghost use Rattle.plain_rows.specs.Lines.{HasAtMost, line_key, line_keys, none_again, same_some, AreAmong, AreKnown, all_among, by_length, AreUpTo};
 
 use data_rows::split_line;
 use field_values::{ColumnValues, TableColumns};
+use key_sets::KeySet;
+use line_fields::{has_text_lines, is_clear, line_field};
 use row_fields::PlainRow;
 use std::alloc::{AllocError, Global};
 use std::cmp::Ordering;
-use std::collections::HashSet;
 
 fn column_at<'c, 'a>(columns: &'c [ColumnValues<'a>], place: usize) -> Option<&'c ColumnValues<'a>>
     ensures { option_copied result ≡ slice_get columns.now place }
@@ -31,8 +34,8 @@ fn key_of<'t>(columns: &TableColumns, place: usize, row: &PlainRow<'t>) -> Optio
     Some(column.compared(text))
 }
 
-// The key of a line, which may be null; the outer `None` where the line's fields don't stand in it as they are.
-fn key_in<'t>(
+// The key of a line as it reads, which may be null; the outer `None` where the line's fields don't stand in it as they are.
+fn read_key<'t>(
     columns: &TableColumns,
     place: usize,
     plain: &mut PlainRow<'t>,
@@ -47,10 +50,58 @@ fn key_in<'t>(
     }
 }
 
+// The key of a line if it reads, where no backslash stands before its end. What follows it isn't looked at.
+fn quick_key<'t>(columns: &TableColumns, place: usize, line: &'t [u8]) -> Option<&'t [u8]>
+    ensures { IfSome result (λ key. (row : List Field) → row_of line.now ≡ Ok row → field_at columns.now (Some place) row ≡ Some key.now) }
+{
+    let column = column_at(columns.as_slice(), place)?;
+    let text = line_field(line, place)?;
+    Some(column.compared(text))
+}
+
+// The key of a line that has no other, if it has one; the outer `None` where that can't be told.
+fn key_in<'t>(
+    columns: &TableColumns,
+    place: usize,
+    plain: &mut PlainRow<'t>,
+    line: &'t [u8],
+) -> Result<Option<Option<&'t [u8]>>, AllocError>
+    ensures { IfOk result (λ found. IfSome found (λ key. HasAtMost (option_map (λ t. t.now) key) (line_key columns.now place line.now))) }
+{
+    match quick_key(columns, place, line) {
+        Some(key) => Ok(Some(Some(key))),
+        None => read_key(columns, place, plain, line),
+    }
+}
+
+// The key of a line that is UTF-8, which may be null; the outer `None` where it can't be told.
+fn exact_key<'t>(
+    columns: &TableColumns,
+    place: usize,
+    plain: &mut PlainRow<'t>,
+    line: &'t [u8],
+) -> Result<Option<Option<&'t [u8]>>, AllocError>
+    ensures { IfOk result (λ found. IfSome found (λ key. IsText line.now → option_map (λ t. t.now) key ≡ line_key columns.now place line.now)) }
+{
+    if !is_clear(line) {
+        return read_key(columns, place, plain, line);
+    }
+    match quick_key(columns, place, line) {
+        Some(key) => Ok(Some(Some(key))),
+        None => Ok(None),
+    }
+}
+
+// How many numbers have places in the set of a text's keys: as many as it has bytes, which serves a sequence of them whose
+// lines have eleven bytes or more, and at most as many as have seven digits.
+fn number_places(text: &[u8]) -> usize {
+    text.len().min(20_000_000)
+}
+
 // Adds a key that isn't null; whether it is new, so that what is so of the keys behind it is so of it and them.
-fn add_new<'t>(seen: &mut HashSet<&'t [u8]>, key: Option<&'t [u8]>) -> Result<bool, AllocError>
-    ensures { IfOk result (λ new. IsTrue new → (known : List (List ℕ)) (more : List (Option (List ℕ))) → AreLabels known seen.old
-        → (after : List (List ℕ)) × AreLabels after seen.new × (none_again after more ≡ true → none_again known (option_map (λ t. t.now) key.entry ∷ more) ≡ true)) }
+fn add_new<'t>(seen: &mut KeySet<'t>, key: Option<&'t [u8]>) -> Result<bool, AllocError>
+    ensures { IfOk result (λ new. IsTrue new → (known : List (List ℕ)) (more : List (Option (List ℕ))) → AreKnown known seen.old
+        → (after : List (List ℕ)) × AreKnown after seen.new × (none_again after more ≡ true → none_again known (option_map (λ t. t.now) key.entry ∷ more) ≡ true)) }
 {
     match key {
         Some(key) => Ok(add_new_key(seen, key)?),
@@ -58,9 +109,9 @@ fn add_new<'t>(seen: &mut HashSet<&'t [u8]>, key: Option<&'t [u8]>) -> Result<bo
     }
 }
 
-fn add_new_key<'t>(seen: &mut HashSet<&'t [u8]>, key: &'t [u8]) -> Result<bool, AllocError>
-    ensures new { IfOk result (λ new. IsTrue new → (known : List (List ℕ)) → AreLabels known seen.old → list_any (same_text key.now) known ≡ false) }
-    ensures added { OnOk result ((known : List (List ℕ)) → AreLabels known seen.old → AreLabels (key.now ∷ known) seen.new) }
+fn add_new_key<'t>(seen: &mut KeySet<'t>, key: &'t [u8]) -> Result<bool, AllocError>
+    ensures new { IfOk result (λ new. IsTrue new → (known : List (List ℕ)) → AreKnown known seen.old → list_any (same_text key.now) known ≡ false) }
+    ensures added { OnOk result ((known : List (List ℕ)) → AreKnown known seen.old → AreKnown (key.now ∷ known) seen.new) }
 {
     Ok(seen.insert(key)?)
 }
@@ -76,7 +127,7 @@ pub fn keys_differ(
     ensures { IfOk result (λ differ. IsTrue differ → none_again [] (line_keys columns.now place text.now) ≡ true) }
 {
     let mut plain = PlainRow::new(alloc);
-    let mut seen = HashSet::new(alloc);
+    let mut seen = KeySet::new(alloc, number_places(text))?;
     let mut rest = text;
     'lines: while let Some((line, behind)) = split_line(rest) {
         let Some(key) = key_in(columns, place, &mut plain, line)? else {
@@ -161,7 +212,7 @@ pub fn keys_rise(
 }
 
 // Adds a key that isn't null.
-fn add_key<'t>(keys: &mut HashSet<&'t [u8]>, key: Option<&'t [u8]>) -> Result<(), AllocError>
+fn add_key<'t>(keys: &mut KeySet<'t>, key: Option<&'t [u8]>) -> Result<(), AllocError>
     ensures { OnOk result ((all : List (Option (List ℕ))) → AreAmong all keys.old → ((q : List ℕ) → same_some q (option_map (λ t. t.now) key.entry) ≡ true → list_any (same_some q) all ≡ true) → AreAmong all keys.new) }
 {
     if let Some(key) = key {
@@ -177,14 +228,17 @@ pub fn key_set<'t>(
     columns: &TableColumns,
     place: usize,
     text: &'t [u8],
-) -> Result<Option<HashSet<&'t [u8]>>, AllocError>
+) -> Result<Option<KeySet<'t>>, AllocError>
     ensures { IfOk result (λ found. IfSome found (λ set. AreAmong (line_keys columns.now place text.now) set)) }
 {
+    if !has_text_lines(text) {
+        return Ok(None);
+    }
     let mut plain = PlainRow::new(alloc);
-    let mut keys = HashSet::new(alloc);
+    let mut keys = KeySet::new(alloc, number_places(text))?;
     let mut rest = text;
     'lines: while let Some((line, behind)) = split_line(rest) {
-        let Some(key) = key_in(columns, place, &mut plain, line)? else {
+        let Some(key) = exact_key(columns, place, &mut plain, line)? else {
             return Ok(None);
         };
         add_key(&mut keys, key)?;
@@ -194,7 +248,7 @@ pub fn key_set<'t>(
 }
 
 // Whether a key is one of the parents', or null.
-fn is_among(parents: &HashSet<&[u8]>, key: Option<&[u8]>) -> bool
+fn is_among(parents: &KeySet<'_>, key: Option<&[u8]>) -> bool
     ensures { IsTrue result → (all more : List (Option (List ℕ))) → AreAmong all parents.now → all_among all more ≡ true → all_among all (option_map (λ t. t.now) key.entry ∷ more) ≡ true }
 {
     match key {
@@ -210,7 +264,7 @@ pub fn keys_are_among(
     columns: &TableColumns,
     place: usize,
     text: &[u8],
-    parents: &HashSet<&[u8]>,
+    parents: &KeySet<'_>,
 ) -> Result<bool, AllocError>
     ensures { IfOk result (λ among. IsTrue among → (all : List (Option (List ℕ))) → AreAmong all parents.now → all_among all (line_keys columns.now place text.now) ≡ true) }
 {

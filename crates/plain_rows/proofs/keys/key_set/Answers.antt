@@ -1,18 +1,26 @@
-use Rattle.std.proofs.Common.{◌≡◌, Bool, Option, List, ℕ, ◌∷◌, ◌||◌, sym, ap, ◌∙◌}
-use Rattle.std.specs.List.{list_any}
+use Rattle.std.proofs.Common.{◌≡◌, Bool, Option, List, ℕ, ◌∷◌, ◌||◌, ap, subst, sym, ◌∙◌}
+use Rattle.std.specs.List.{AllByRecursion, list_any}
 use Rattle.std.specs.Option.{option_map}
-use Rattle.plain_rows.specs.Lines.{line_keys, same_some}
-use Rattle.plain_rows.proofs.KeySteps.{key_first, or_right}
+use Rattle.copy_text.specs.Lines.{data_lines}
+use Rattle.copy_text.specs.Texts.{IsText}
+use Rattle.plain_rows.specs.Lines.{line_key, line_keys, same_some}
+use Rattle.plain_rows.proofs.KeySteps.{first_key, or_right}
 use Rattle.plain_rows.proofs.keys.key_set.Goals as goal
 
 pub lines-preserved : goal.lines-preserved
 lines-preserved c =
     let columns = c.args.columns.now in
+    let place = c.args.place in
+    let line = c.in-Some.line.now in
     let behind = c.in-Some.behind.now in
+    let inv = c.lines.invariant in
     let key : Option (List ℕ) = option_map (λ t. t.now) c.in-Some-2.key in
-    let read = rw c.in-Some-2.is at c.in_ok-key.ensures in
-    let first : line_keys columns c.args.place c.lines.rest.now ≡ key ∷ line_keys columns c.args.place behind = sym (key_first columns c.args.place c.lines.rest.now c.in-Some.line.now behind key c.in-Some.ensures.some read) in
+    let read : IsText line → key ≡ line_key columns place line = rw c.in-Some-2.is at c.in_ok-key.ensures in
+    let texts : AllByRecursion IsText (line ∷ data_lines behind) = subst (AllByRecursion IsText) c.in-Some.ensures.some inv.texts in
+    let first : line_keys columns place c.lines.rest.now ≡ key ∷ line_keys columns place behind =
+    first_key columns place c.lines.rest.now line behind c.in-Some.ensures.some ∙ ap (λ (k : Option (List ℕ)). k ∷ line_keys columns place behind) (sym (read texts.0)) in
     record {
-      among = c.in_ok-add_key.ensures (line_keys columns c.args.place c.args.text.now) c.lines.invariant.among (λ q same. c.lines.invariant.left q (ap (list_any (same_some q)) first ∙ ap (λ (b : Bool). b || list_any (same_some q) (line_keys columns c.args.place behind)) same));
-      left = λ q there. c.lines.invariant.left q (ap (list_any (same_some q)) first ∙ or_right (same_some q key) (list_any (same_some q) (line_keys columns c.args.place behind)) there);
+      texts = texts.1;
+      among = c.in_ok-add_key.ensures (line_keys columns place c.args.text.now) inv.among (λ q same. inv.left q (ap (list_any (same_some q)) first ∙ ap (λ (b : Bool). b || list_any (same_some q) (line_keys columns place behind)) same));
+      left = λ q there. inv.left q (ap (list_any (same_some q)) first ∙ or_right (same_some q key) (list_any (same_some q) (line_keys columns place behind)) there);
     }

@@ -1,10 +1,9 @@
 use Rattle.std.proofs.Common.{◌≡◌, ℕ, List, [], true, length}
-use Rattle.field_values.specs.Labels.{AreLabels}
-use Rattle.plain_rows.specs.Lines.{line_keys, none_again}
+use Rattle.plain_rows.specs.Lines.{AreKnown, line_keys, none_again}
 use Rattle.plain_rows.proofs.keys.keys_differ.Given as goal
 
 abbrev pub invariant-lines : goal.invariant-lines
-invariant-lines l = (known : List (List ℕ)) × AreLabels known l.seen × (none_again known (line_keys l.columns l.place l.rest) ≡ true → none_again [] (line_keys l.columns l.place l.text) ≡ true)
+invariant-lines l = (known : List (List ℕ)) × AreKnown known l.seen × (none_again known (line_keys l.columns l.place l.rest) ≡ true → none_again [] (line_keys l.columns l.place l.text) ≡ true)
 
 abbrev pub decreases-lines : goal.decreases-lines
 decreases-lines l = length l.rest

@@ -1,0 +1,40 @@
+//! Keys that are digits, as numbers.
+ghost use Rattle.std.specs.Prelude.{◌≡◌, ◌<◌, MatchOption, min, true, false};
+ghost use Rattle.std.specs.List.{list_all};
+ghost use Rattle.key_sets.specs.Numbers.{is_digit, is_numbered, longest, number_of};
+
+fn is_digit(b: u8) -> bool
+    ensures { result ≡ is_digit b }
+{
+    48 <= b && b <= 57
+}
+
+fn are_digits(key: &[u8]) -> bool
+    ensures { result ≡ list_all is_digit key.now }
+{
+    key.iter().all(|b| is_digit(*b))
+}
+
+// The number of a key of digits, or the greatest that fits where it is greater.
+fn number(key: &[u8]) -> usize
+    ensures { result ≡ min (number_of key.now) longest }
+{
+    let mut n = 1usize;
+    for digit in key {
+        n = n
+            .saturating_mul(10)
+            .saturating_add(usize::from(digit.saturating_sub(b'0')));
+    }
+    n
+}
+
+/// The place of a key among this many numbers, if it has one: only digits have.
+pub(crate) fn place_of(key: &[u8], many: usize) -> Option<usize>
+    ensures { MatchOption result (is_numbered many key.now ≡ false) (λ n. (is_numbered many key.now ≡ true) × (n ≡ number_of key.now) × (n < many)) }
+{
+    if !are_digits(key) {
+        return None;
+    }
+    let n = number(key);
+    if n < many { Some(n) } else { None }
+}

@@ -1,0 +1,2 @@
+pub mod ClearLines
+pub mod RawPieces
