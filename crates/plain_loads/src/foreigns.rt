@@ -19,9 +19,11 @@ use cat_book::Book;
 use cat_model::{Constraint, Key, QName, Value};
 use cat_names::DataSet;
 use copy_text::Name;
+use data_rows::read_rows;
 use eng_map::NamedMap;
 use field_values::TableColumns;
 use plain_rows::{key_set, keys_are_among};
+use row_keys::{JoinedRows, orphan};
 use std::alloc::{AllocError, Global};
 
 // The columns of a key: those of their table, and their names; and the text of the table's rows.
@@ -41,15 +43,41 @@ fn keys_found(
     ensures { IfOk result (λ found. IsTrue found → orphan child.now.columns.now child.now.names.now (rows_held child.now.text.now) parent.now.columns.now parent.now.names.now (rows_held parent.now.text.now) ≡ None) }
 {
     let Some(place) = one_place(child.columns, child.names) else {
-        return Ok(false);
+        return rows_found(alloc, child, parent);
     };
     let Some(parent_place) = one_place(parent.columns, parent.names) else {
-        return Ok(false);
+        return rows_found(alloc, child, parent);
     };
     let Some(keys) = key_set(alloc, parent.columns, parent_place, parent.text)? else {
         return Ok(false);
     };
     keys_are_among(alloc, child.columns, place, child.text, &keys)
+}
+
+// The same of a key on several columns: the rows of both are made.
+fn rows_found(
+    alloc: Global,
+    child: &Keyed<'_, '_>,
+    parent: &Keyed<'_, '_>,
+) -> Result<bool, AllocError>
+    ensures { IfOk result (λ found. IsTrue found → orphan child.now.columns.now child.now.names.now (rows_held child.now.text.now) parent.now.columns.now parent.now.names.now (rows_held parent.now.text.now) ≡ None) }
+{
+    let rows = read_rows(alloc, child.text)?;
+    let parents = read_rows(alloc, parent.text)?;
+    let all = JoinedRows::new(&[], &parents);
+    let lost = orphan(
+        alloc,
+        child.columns,
+        child.names,
+        &rows,
+        parent.columns,
+        parent.names,
+        &all,
+    )?;
+    match lost {
+        Some(_) => Ok(false),
+        None => Ok(true),
+    }
 }
 
 // The same where the parent's columns are those of a table.

@@ -213,9 +213,9 @@ fn have_rows(alloc: Global, cat: &WellFormed, rows: &DataSet) -> Result<bool, Al
 /// Whether the rows of each table meet it, its columns, their types, its keys and its foreign keys, so that `cat_load::load`
 /// finds no fault: the tables' texts are tried without making their rows.
 ///
-/// It says no where it can't tell: of a text that has a line with an escape other than null, and of one whose table has a
-/// key on more than one column. A text is gone over once for its table and once more for each of its keys; memory is
-/// taken for one key's values at a time.
+/// It says no where it can't tell: of a text that isn't UTF-8 or has a line with an escape other than null. A text is gone
+/// over once for its table and once more for each of its keys; memory is taken for one key's values at a time, and for the
+/// rows of the text, and of a parent's, while a key on several columns is tried.
 ///
 /// The error is that memory ran out. See <https://www.postgresql.org/docs/16/ddl-constraints.html>.
 pub fn rows_meet(alloc: Global, cat: &WellFormed, rows: &DataSet) -> Result<bool, AllocError>

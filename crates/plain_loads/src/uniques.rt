@@ -18,8 +18,10 @@ ghost use Rattle.plain_loads.specs.Meeting.{Differ};
 
 use cat_model::{ConstraintKind, Index, Items, Key, Value};
 use copy_text::Name;
+use data_rows::read_rows;
 use field_values::TableColumns;
 use plain_rows::{keys_differ, keys_rise};
+use row_keys::{JoinedRows, repeated};
 use std::alloc::{AllocError, Global};
 use stmt_refs::plain_columns;
 
@@ -44,7 +46,24 @@ fn names_differ(
 {
     match one_place(columns, names) {
         Some(place) => keys_apart(alloc, columns, place, text),
-        None => Ok(false),
+        None => rows_differ(alloc, columns, names, text),
+    }
+}
+
+// The same of a key on several columns: the rows are made.
+fn rows_differ(
+    alloc: Global,
+    columns: &TableColumns<'_>,
+    names: &[Name],
+    text: &[u8],
+) -> Result<bool, AllocError>
+    ensures { IfOk result (λ differ. IsTrue differ → repeated columns.now names.now (rows_held text.now) ≡ None) }
+{
+    let rows = read_rows(alloc, text)?;
+    let all = JoinedRows::new(&[], &rows);
+    match repeated(alloc, columns, names, &all)? {
+        Some(_) => Ok(false),
+        None => Ok(true),
     }
 }
 

@@ -138,8 +138,8 @@ fn all_fit(
 }
 
 /// Whether each line of a text, up to its end mark, is a row that a table with these columns and this primary key takes:
-/// it has a field for each column, which takes it. It makes no rows, and says no of a text that has a line whose fields
-/// don't stand in it as they are. The error is that memory ran out.
+/// it has a field for each column, which takes it. It makes no rows, and says no of a text that isn't UTF-8 or has a line whose
+/// fields don't stand in it as they are. The error is that memory ran out.
 pub fn rows_fit(
     alloc: Global,
     columns: &TableColumns,

@@ -116,8 +116,8 @@ fn add_new_key<'t>(seen: &mut KeySet<'t>, key: &'t [u8]) -> Result<bool, AllocEr
     Ok(seen.insert(key)?)
 }
 
-/// Whether no two lines of a text, up to its end mark, have one key in the column at this place; a null is no key. It says no
-/// of a text that has a line whose fields don't stand in it as they are. The error is that memory ran out.
+/// Whether no two lines of a text, up to its end mark, have one key in the column at this place; a null is no key. It may
+/// say no of a text that has a line whose fields don't stand in it as they are. The error is that memory ran out.
 pub fn keys_differ(
     alloc: Global,
     columns: &TableColumns,
@@ -186,7 +186,7 @@ fn rise<'t>(last: &mut Option<&'t [u8]>, key: Option<&'t [u8]>) -> bool
 
 /// Whether the keys of the lines of a text, up to its end mark, rise in the column at this place, so that no two lines have one
 /// key: each is longer than those before it, or as long and greater byte by byte, as numbers of a sequence are. A null is no
-/// key. It says no of a text that has a line whose fields don't stand in it as they are. It takes no memory for the keys; the
+/// key. It may say no of a text that has a line whose fields don't stand in it as they are. It takes no memory for the keys; the
 /// error is that there was none for a line's fields.
 pub fn keys_rise(
     alloc: Global,
@@ -221,8 +221,8 @@ fn add_key<'t>(keys: &mut KeySet<'t>, key: Option<&'t [u8]>) -> Result<(), Alloc
     Ok(())
 }
 
-/// The keys of the lines of a text, up to its end mark, in the column at this place; `None` for a text that has a line whose
-/// fields don't stand in it as they are. The error is that memory ran out.
+/// The keys of the lines of a text, up to its end mark, in the column at this place; `None` for a text that isn't UTF-8 or has
+/// a line whose fields don't stand in it as they are. The error is that memory ran out.
 pub fn key_set<'t>(
     alloc: Global,
     columns: &TableColumns,
@@ -257,8 +257,8 @@ fn is_among(parents: &KeySet<'_>, key: Option<&[u8]>) -> bool
     }
 }
 
-/// Whether the key of each line of a text, up to its end mark, in the column at this place is one of these, or null. It says
-/// no of a text that has a line whose fields don't stand in it as they are. The error is that memory ran out.
+/// Whether the key of each line of a text, up to its end mark, in the column at this place is one of these, or null. It may
+/// say no of a text that has a line whose fields don't stand in it as they are. The error is that memory ran out.
 pub fn keys_are_among(
     alloc: Global,
     columns: &TableColumns,
