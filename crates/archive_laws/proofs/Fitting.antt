@@ -94,7 +94,7 @@ among_by : (e k : ℕ) (ids : List ℕ) (b : Bool) → (e == k) ≡ b → e < k 
 among_by e k ids false is low none = rw is none
 among_by e k ids true is low none = absurd (omega (arith, eqb-true e k is))
 
-own_ids : (earlier : List ℕ) (last : ℕ) (es : List Entry) → ((k : ℕ) → last < k → is_among earlier k ≡ false) → Rise last es → HasOwnIds earlier es
+pub own_ids : (earlier : List ℕ) (last : ℕ) (es : List Entry) → ((k : ℕ) → last < k → is_among earlier k ≡ false) → Rise last es → HasOwnIds earlier es
 own_ids earlier last [] none rise = tt
 own_ids earlier last (e ∷ es) none rise =
     (none e.dump_id rise.0, own_ids (e.dump_id ∷ earlier) e.dump_id es (λ k low. among_by e.dump_id k earlier (e.dump_id == k) refl low (none k (omega (arith, low, rise.0)))) rise.1)
@@ -105,7 +105,7 @@ own_unplaced earlier (e ∷ es) own = (own.0, own_unplaced (e.dump_id ∷ earlie
 
 -- ---- entries without places
 
-value_with : (e : Entry) (x : Extra) → IsEntry e → IsExtra x → IsEntry (with_extra x e)
+pub value_with : (e : Entry) (x : Extra) → IsEntry e → IsExtra x → IsEntry (with_extra x e)
 value_with e x value is = record {
   dump_id = value.dump_id;
   tableoid = value.tableoid;
@@ -123,7 +123,7 @@ value_with e x value is = record {
   extra = is;
 }
 
-can_with : (e : Entry) (x : Extra) → EntryCanBeWritten e → ExtraCanBeWritten x → EntryCanBeWritten (with_extra x e)
+pub can_with : (e : Entry) (x : Extra) → EntryCanBeWritten e → ExtraCanBeWritten x → EntryCanBeWritten (with_extra x e)
 can_with e x can is = record {
   dump_id = can.dump_id;
   section = can.section;

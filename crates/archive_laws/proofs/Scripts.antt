@@ -36,7 +36,7 @@ abbrev pub parts_text : Bool → (ℕ → Option (List ℕ)) → List Entry → 
 parts_text owners rows [] = []
 parts_text owners rows (e ∷ es) = part owners e (rows e.dump_id) ++ parts_text owners rows es
 
-at_seam : (pre : List Entry) (e : Entry) (es : List Entry) → slice_get (pre ++ (e ∷ es)) (length pre) ≡ Some e
+pub at_seam : (pre : List Entry) (e : Entry) (es : List Entry) → slice_get (pre ++ (e ∷ es)) (length pre) ≡ Some e
 at_seam [] e es = refl
 at_seam (x ∷ pre) e es = at_seam pre e es
 
@@ -114,19 +114,22 @@ same_head plain h v =
     ap (λ (s : List ℕ). title (codes "PostgreSQL database dump") ++ versions s h.dumper ++ session) (sym v.server)
     ∙ ap (λ (d : List ℕ). title (codes "PostgreSQL database dump") ++ versions plain.server d ++ session) (sym v.dumper)
 
+pub whole_text : (tree : Tree) (h : HeadFields) (es : List Entry) (held : ℕ → Option (List ℕ)) (plain : Head) (entries : List Entry) (needed : List DataFile) (o : Options)
+    → map bare es ≡ map bare entries → RowsAre tree held es needed → HasVersions plain h → LeavesNone o es
+    → head_text h ++ parts_at o.owners es held (wanted_places o es) ++ script_end ≡ (plain_out tree plain o.owners entries needed).text
+whole_text tree h es held plain entries needed o same rows v all =
+    let none = λ (i : ℕ) (not_wanted : wanted o es i ≡ false). left_out o.owners held (slice_get es i) (λ e found. all i e not_wanted found) in
+    ap (λ (t : List ℕ). head_text h ++ t ++ script_end) (filtered o.owners es held (wanted o es) (range_with_len 0 (length es)) none ∙ parts_all o.owners held es)
+    ∙ ap (λ (t : List ℕ). t ++ parts_text o.owners held es ++ script_end) (same_head plain h v)
+    ∙ append_assoc (script_head plain) (parts_text o.owners held es) script_end
+    ∙ ap (λ (t : List ℕ). script_head plain ++ t) (says_parts tree held o.owners script_end es entries needed same rows)
+    ∙ ap (λ (x : Output). x.text) (sym (plain-is tree plain o.owners entries needed))
+
 pub scripted : (tree : Tree) (custom : Custom) (plain : Head) (entries : List Entry) (needed : List DataFile) (o : Options)
     → map bare custom.entries ≡ map bare entries → RowsAre tree (custom_rows custom) custom.entries needed → HasVersions plain custom.head → LeavesNone o custom.entries
     → custom_script o.owners custom (wanted_places o custom.entries) ≡ (plain_out tree plain o.owners entries needed).text
 unfolding custom_script
-scripted tree custom plain entries needed o same rows v all =
-    let es = custom.entries in
-    let held = custom_rows custom in
-    let none = λ (i : ℕ) (not_wanted : wanted o es i ≡ false). left_out o.owners held (slice_get es i) (λ e found. all i e not_wanted found) in
-    ap (λ (t : List ℕ). head_text custom.head ++ t ++ script_end) (filtered o.owners es held (wanted o es) (range_with_len 0 (length es)) none ∙ parts_all o.owners held es)
-    ∙ ap (λ (t : List ℕ). t ++ parts_text o.owners held es ++ script_end) (same_head plain custom.head v)
-    ∙ append_assoc (script_head plain) (parts_text o.owners held es) script_end
-    ∙ ap (λ (t : List ℕ). script_head plain ++ t) (says_parts tree held o.owners script_end es entries needed same rows)
-    ∙ ap (λ (x : Output). x.text) (sym (plain-is tree plain o.owners entries needed))
+scripted tree custom plain entries needed o same rows v all = whole_text tree custom.head custom.entries (custom_rows custom) plain entries needed o same rows v all
 
 left_by : (o : Option Entry) (w : Entry) → option_map bare (Some w) ≡ option_map bare o → (e : Entry) × (o ≡ Some e) × (w.desc ≡ e.desc)
 left_by None w h = absurd cc

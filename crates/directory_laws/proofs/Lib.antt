@@ -1,0 +1,5 @@
+pub mod Names
+pub mod Saved
+pub mod Rows
+pub mod Parts
+pub mod Restoring
