@@ -1,0 +1,2 @@
+pub mod EntryLoops
+pub mod Owned
