@@ -1,0 +1,7 @@
+pub mod EntryLines
+pub mod Texts
+pub mod Notes
+pub mod Told
+pub mod Own
+pub mod OneWorker
+pub mod FirstStop

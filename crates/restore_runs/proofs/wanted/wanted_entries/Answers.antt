@@ -1,0 +1,11 @@
+use Rattle.std.proofs.Common.{ℕ, List, Result, subst}
+use Rattle.restore_plan.specs.declared.entry.Entry.{Entry}
+use Rattle.restore_steps.specs.declared.fault.PlanFault.{PlanFault}
+use Rattle.restore_steps.specs.Faults.{Gives}
+use Rattle.restore_runs.proofs.Texts.{same_entries}
+use Rattle.restore_runs.proofs.wanted.wanted_entries.Goals as goal
+
+pub returns : goal.returns
+returns c =
+    let P : Result (List Entry) PlanFault → Type 0 = λ (due : Result (List Entry) PlanFault). Gives (λ v. v.items) c.restored_entries.result due in
+    subst P (same_entries c.args.owners c.args.entries.now c.args.texts.items) c.restored_entries.ensures
