@@ -119,9 +119,9 @@ among owners [] fine id high = tt
 among owners (e ∷ before) fine id high =
     among_first owners before e id (e.dump_id == id) refl
     (λ is. takes_one owners (section_behind before e) (option_and_then (is_taken_among (all_taken owners) before) (first_dependency e)) e
-      (section_is (option_and_then (section_among before) (first_dependency e)) e (section_then (section_among before) (sections_are before fine.1) (first_dependency e)) fine.0.1)
-      (first_of owners before (among owners before fine.1) e.depends fine.0.0.needs)
-      (no_database e id fine.0.0 (eqb-true e.dump_id id is) high))
+    (section_is (option_and_then (section_among before) (first_dependency e)) e (section_then (section_among before) (sections_are before fine.1) (first_dependency e)) fine.0.1)
+    (first_of owners before (among owners before fine.1) e.depends fine.0.0.needs)
+    (no_database e id fine.0.0 (eqb-true e.dump_id id is) high))
     (among owners before fine.1 id high)
 
 pub taken : (owners : Bool) (before : List Entry) (e : Entry) → AllByRecursion IsFine before → IsFine e → is_one_of database_kinds e.desc ≡ false → is_taken_behind (all_taken owners) before e ≡ true
