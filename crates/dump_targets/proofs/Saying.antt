@@ -1,31 +1,26 @@
 -- The words of a dump don't ask for a target in its folder.
-use Rattle.std.proofs.Common.{◌≡◌, ℕ, Bool, true, false, ◌&&◌, List, [], ◌∷◌, Option, Some, None, Result, Ok, Err, cond, refl, sym, ap, subst, ◌∙◌, IsSome}
+use Rattle.std.proofs.Common.{◌≡◌, ℕ, Bool, true, false, List, [], ◌∷◌, Option, Some, None, Result, Ok, Err, cond, refl, subst, IsSome}
 use Rattle.std.specs.Bool.{⊤}
-use Rattle.std.specs.Prelude.{codes, is_none, is_some, if◌then◌else◌}
+use Rattle.std.specs.Prelude.{codes, is_some, if◌then◌else◌}
 use Rattle.std.specs.Str.{bytes_eq}
 use Rattle.cat_model.specs.Values.{Bytes}
-use Rattle.cat_model.specs.declared.words.What.TheVariants.{Unbuilt}
-use Rattle.command_line.specs.declared.command.Command.{Command}
-use Rattle.command_line.specs.declared.command.Command.TheVariants as command
 use Rattle.command_line.specs.declared.command.RestoreWords.{RestoreWords}
 use Rattle.command_line.specs.declared.options.Tool.{Tool}
 use Rattle.command_line.specs.declared.options.Tool.TheVariants.{PgDump, PgRestore, PgDumpall, Psql, PgCatcmp, PgClone, PgGen}
 use Rattle.command_line.specs.declared.options.Opt.TheVariants as opt
 use Rattle.command_line.specs.declared.usage.UsageFault.{UsageFault}
-use Rattle.command_line.specs.declared.usage.UsageKind.{UsageKind}
 use Rattle.command_line.specs.declared.usage.UsageKind.TheVariants as kinds
 use Rattle.command_line.specs.Reading.{Reading}
-use Rattle.command_line.specs.Mentions.{Place, last_of, other_of, is_given, fault_of}
+use Rattle.command_line.specs.Mentions.{Place, last_of, other_of, fault_of}
 use Rattle.command_line.specs.Checks.{first_of, fault_if, lies_in, is_in, folder_place, room, pg_dump_checks, checks, words_fault}
-use Rattle.command_line.specs.Complete.{HasNeeded}
-use Rattle.command_line.specs.Commands.{text_of, needed_text, folder_of, dump_of, restore_of, command_of}
+use Rattle.command_line.specs.Commands.{text_of, folder_of, dump_of, restore_of, command_of}
 use Rattle.command_line.specs.Usage.{tool_in, said_by, fault_with, or_command, command_by_tool, command_from}
 use Rattle.command_line.proofs.Completing.{needed_where_none}
 use Rattle.tool_words.specs.declared.outcome.Outcome.{Outcome}
 use Rattle.tool_words.specs.declared.words.Asked.{Asked}
 use Rattle.tool_words.specs.declared.words.Asked.TheVariants as asked
 use Rattle.tool_words.specs.declared.words.DumpAsked.{DumpAsked}
-use Rattle.tool_words.specs.Words.{folder_named, printed_or, dump_asked, archive_of, archive_asked, asked_of, built, asked_by, words_asked}
+use Rattle.tool_words.specs.Words.{folder_named, printed_or, dump_asked, archive_of, asked_of, built, asked_by, words_asked}
 use Rattle.dump_targets.specs.Targets.{IsOutside}
 
 -- ---- the checks of pg_dump

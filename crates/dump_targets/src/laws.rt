@@ -1,5 +1,5 @@
 //! Laws of the definitions, each the contract of a function that does nothing.
-ghost use Rattle.std.specs.Prelude.{◌≡◌, List, Option, Some, Ok};
+ghost use Rattle.std.specs.Prelude.{◌≡◌, List, Ok};
 ghost use Rattle.dump_ports.specs.Tree.{Tree};
 ghost use Rattle.cat_model.specs.Values.{Bytes};
 ghost use Rattle.cat_rows.specs.declared.catalogue.Catalogue.{Catalogue};
@@ -7,17 +7,18 @@ ghost use Rattle.obj_graph.specs.declared.select.Select.{Select};
 ghost use Rattle.tool_words.specs.declared.words.Asked.{Asked};
 ghost use Rattle.tool_words.specs.declared.words.DumpAsked.{DumpAsked};
 ghost use Rattle.tool_words.specs.Words.{words_asked};
-ghost use Rattle.dump_plain.specs.Stops.{AreApart};
+ghost use Rattle.dump_outputs.specs.declared.form.DumpForm.{DumpForm};
+ghost use Rattle.dump_outputs.specs.Forms.{IsClear};
 ghost use Rattle.dump_plans.specs.Plans.{Dumping, dumping_of};
-ghost use Rattle.dump_targets.specs.Targets.{IsOutside};
+ghost use Rattle.dump_targets.specs.Targets.{IsOutside, IsFormOutside};
 
 /// Words that read never ask for a dump into the folder that is dumped.
 pub fn a_dump_is_written_outside_of_its_folder()
     ensures { (words : List Bytes) (asked : DumpAsked) → words_asked words ≡ Ok (Asked.Dump asked) → IsOutside asked.folder asked.target }
 {}
 
-/// What is written outside of a folder is none of its data files.
+/// What is written outside of a folder is none of its data files, and neither is a file of an archive in a folder.
 pub fn what_is_outside_is_no_data_file()
-    ensures { (folder : Bytes) (target : Option Bytes) (select : Select) (cat : Catalogue) (tree : Tree) (dump : Dumping)
-        → IsOutside folder target → dumping_of folder select cat tree ≡ Ok dump → AreApart target dump.files }
+    ensures { (folder : Bytes) (form : DumpForm) (select : Select) (cat : Catalogue) (tree : Tree) (dump : Dumping)
+        → IsFormOutside folder form → dumping_of folder select cat tree ≡ Ok dump → IsClear form dump.files }
 {}
