@@ -1,9 +1,9 @@
 #!/usr/bin/env python3
-"""Measures psql, pg_catcmp and pg_dump on some 200 MB of rows, beside cp -r and cmp of the same files.
+"""Measures psql, pg_catcmp, and pg_dump in each format, on some 200 MB of rows, beside cp -r and cmp of the same files.
 
     docs/measure.py PROGRAM FOLDER
 
-PROGRAM is the built program (or ./pgtools), FOLDER a folder for what is made, with 1.5 GB of room. Each line tells the
+PROGRAM is the built program (or ./pgtools), FOLDER a folder for what is made, with 2.5 GB of room. Each line tells the
 seconds on the clock, the processor seconds and the most memory in MB of one run; each command is run three times.
 """
 import os
@@ -71,6 +71,10 @@ def main(program, folder):
     run("cp -r", ["cp", "-r", at["made"], at["copy"]], lambda: fresh("copy"))
     run("pg_catcmp", [program, "pg_catcmp", at["made"], at["copy"]])
     run("pg_dump", [program, "pg_dump", at["made"]], None, os.path.join(folder, "dump.sql"))
+    for kind, name in (("p", "file.sql"), ("c", "file.dump"), ("d", "directory")):
+        target = os.path.join(folder, name)
+        shutil.rmtree(target, ignore_errors=True)
+        run(f"pg_dump -F{kind} -f", [program, "pg_dump", f"-F{kind}", "-f", target, at["made"]])
     run("cmp", ["sh", "-c", f"for f in {at['made']}/data/*; do cmp $f {at['copy']}/data/$(basename $f); done"])
 
 

@@ -1,5 +1,5 @@
 -- What is due of pg_restore once its steps are done, and what a step takes of standard input.
-use Rattle.std.proofs.Common.{◌≡◌, ℕ, Bool, true, false, List, Option, Some, None, Result, Ok, Err, refl, ap, subst, sym, ◌∙◌}
+use Rattle.std.proofs.Common.{◌≡◌, Option, Some, None, Result, Ok, Err, refl, ap, subst, sym}
 use Rattle.std.specs.Prelude.{is_none}
 use Rattle.dump_ports.specs.Tree.{Tree}
 use Rattle.cat_model.specs.Values.{Bytes}
@@ -10,8 +10,9 @@ use Rattle.tool_words.specs.declared.outcome.Outcome.{Outcome}
 use Rattle.tool_words.specs.declared.words.ArchiveAsked.{ArchiveAsked}
 use Rattle.tool_words.specs.Answers.{◌>>=◌, IsDue, Gives}
 use Rattle.tool_words.proofs.Dues.{due_map}
-use Rattle.dump_tools.specs.Due.{Plan, Puts, one_piece, script_limit, input_of, text_of_input, text_of_archive, restore_due}
-use Rattle.dump_tools.specs.Inputs.{where_read, TellsLeft, HasTaken, TakesPart}
+use Rattle.dump_tools.specs.Due.{Puts, script_limit, input_of, text_of_input, text_of_archive, restore_due}
+use Rattle.dump_outputs.specs.Forms.{one_piece}
+use Rattle.dump_tools.specs.Inputs.{where_read, TellsLeft, TakesPart}
 use Rattle.dump_tools.specs.Runs.{StepTakes}
 
 -- ---- the archive that standard input is
@@ -56,12 +57,12 @@ told_left (Some path) left input e tells = absurd cc
 
 -- ---- the whole
 
-pub restore_read : (asked : ArchiveAsked) (tree : Tree) (input text : Bytes) → text_of_archive asked.archive asked.words tree input ≡ Ok text → restore_due asked tree input ≡ Ok (Puts (one_piece asked.target text))
+pub restore_read : (asked : ArchiveAsked) (tree : Tree) (input text : Bytes) → text_of_archive asked.archive asked.words tree input ≡ Ok text → restore_due asked tree input ≡ Ok (Puts (one_piece asked.target text None))
 unfolding restore_due
-restore_read asked tree input text e = ap (λ (r : Result Bytes Outcome). r >>= λ text. Ok (Puts (one_piece asked.target text))) e
+restore_read asked tree input text e = ap (λ (r : Result Bytes Outcome). r >>= λ text. Ok (Puts (one_piece asked.target text None))) e
 
 pub restore_refused : (outcome : Outcome) (asked : ArchiveAsked) (tree : Tree) (input : Bytes) → IsDue outcome (text_of_archive asked.archive asked.words tree input) → IsDue outcome (restore_due asked tree input)
 unfolding restore_due
 restore_refused outcome asked tree input d =
-    due_map outcome (text_of_archive asked.archive asked.words tree input) (text_of_archive asked.archive asked.words tree input >>= λ text. Ok (Puts (one_piece asked.target text)))
-    (λ o e. ap (λ (r : Result Bytes Outcome). r >>= λ text. Ok (Puts (one_piece asked.target text))) e) d
+    due_map outcome (text_of_archive asked.archive asked.words tree input) (text_of_archive asked.archive asked.words tree input >>= λ text. Ok (Puts (one_piece asked.target text None)))
+    (λ o e. ap (λ (r : Result Bytes Outcome). r >>= λ text. Ok (Puts (one_piece asked.target text None))) e) d

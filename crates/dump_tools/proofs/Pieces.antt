@@ -1,77 +1,58 @@
 -- Texts that are put where they are asked for.
-use Rattle.std.proofs.Common.{◌≡◌, ℕ, ◌≤◌, arith, List, [], ◌∷◌, ◌++◌, map, Option, Some, None, option_map, Result, Ok, Err, refl, sym, ap, subst, ◌∙◌, ◌⊎◌, inl, inr, append-nil}
+use Rattle.std.proofs.Common.{◌≡◌, ℕ, ◌≤◌, arith, List, [], ◌∷◌, ◌++◌, map, Option, Some, None, Ok, Err, refl, sym, ap, subst, ◌∙◌, ◌⊎◌, inl, inr}
 use Rattle.std.proofs.lemmas.List.{map-append}
 use Rattle.dump_ports.specs.Tree.{Tree}
 use Rattle.cat_model.specs.Values.{Bytes}
 use Rattle.dump_files.specs.declared.stop.DumpStop.{DumpStop}
 use Rattle.dump_files.specs.declared.stop.DumpStop.TheVariants as stops
 use Rattle.dump_files.specs.Stops.{IsLate as IsLateStop}
-use Rattle.dump_files.specs.Outlets.{Outside, outside, outputs, IsBegun as IsBegunOutside, CountsPut}
+use Rattle.dump_files.specs.Outlets.{Outside, outside}
 use Rattle.dump_ports.specs.Faults.{HasRisen}
-use Rattle.tool_words.specs.declared.outcome.Outcome.{Outcome}
 use Rattle.tool_words.specs.declared.outcome.Outcome.TheVariants.{Done}
 use Rattle.tool_words.specs.declared.words.Teller.{Teller}
 use Rattle.tool_words.specs.Lines.{Appends, AppendsPart}
 use Rattle.dump_plain.specs.Dumps.{BadRow}
 use Rattle.dump_plans.specs.Outcomes.{bad_row_outcome, stop_outcome}
-use Rattle.dump_tools.specs.Due.{Plan, Putting, Puts, one_piece, WerePut, were_put_by, dump_answer, dump_line, counts, Counted, CountsPuts}
-use Rattle.dump_tools.specs.Outputs.{World, world, Output, Stores, Writes, Tells, with_text, text_of, performed, all_performed, IsPart, IsCut, CutShort, Place, Printed, Stored, place_of, Piece, put_at, puts, AreBegun, IsFront}
-use Rattle.dump_tools.specs.Runs.{Run, run_of, IsEarly, HasCut}
+use Rattle.dump_outputs.specs.Counts.{CountsOut}
+use Rattle.dump_outputs.specs.Forms.{Putting}
+use Rattle.dump_outputs.specs.Pieces.{Place, Printed, Stored, Patched, Piece, put_out, all_out, AreBegun, IsFront, PartOut}
+use Rattle.dump_tools.specs.Due.{Puts, WerePut, were_put_by, dump_answer, dump_line, counts, Counted}
+use Rattle.dump_tools.specs.Outputs.{World, world, Output, Tells, with_text, text_of, performed, all_performed, IsPart, IsCut, CutShort, put_at, puts}
+use Rattle.dump_tools.specs.Runs.{run_of, IsEarly, HasCut}
 use Rattle.dump_tools.specs.Stays.{TakesNone, AllTakeNone}
 use Rattle.dump_tools.proofs.Counting.{alike}
 use Rattle.dump_tools.proofs.Taking.{Came, alone, performed_both}
 use Rattle.dump_tools.proofs.Putting.{told_part}
 
--- ---- one text
+-- ---- what stands once pieces are put out
 
-abbrev a_piece : Option Bytes → Bytes → Piece
-a_piece target text = record { place = place_of target; text = text }
+abbrev of_outside : Outside → Option Bytes → Option Bytes → World
+of_outside o left told = world o.tree left o.written told
 
--- it was put out
-pub was_put : (target : Option Bytes) (text : Bytes) (tree tree' : Option Tree) (out out' told : Option Bytes) → outside tree' out' ≡ outputs target text (outside tree out) → WerePut (puts (a_piece target text) ∷ []) tree tree' out out' told told
-was_put None text tree tree' out out' told e left = rw (ap (λ o. o.tree) e, ap (λ o. o.written) e) refl
-was_put (Some name) text tree tree' out out' told e left = rw (ap (λ o. o.tree) e, ap (λ o. o.written) e) refl
-
-pub one_front : (target : Option Bytes) (text part rest : Bytes) → text ≡ part ++ rest → IsFront (a_piece target text ∷ []) (a_piece target part ∷ [])
-one_front target text part rest e = record {
-  whole = [];
-  later = a_piece target text ∷ [];
-  split = refl;
-  last = a_piece target part ∷ [];
-  begun = inr (part, rest, e, refl);
-  is = refl;
-}
-
-pub no_front : (pieces : List Piece) → IsFront pieces []
-no_front pieces = record { whole = []; later = pieces; split = refl; last = []; begun = none pieces; is = refl }
+one_put : (piece : Piece) (o : Outside) (left told : Option Bytes) → performed (puts piece) (of_outside o left told) ≡ of_outside (put_out piece.place piece.text o) left told
+one_put piece o left told = by piece.place
   where
-    none : (later : List Piece) → AreBegun later []
-    none [] = refl
-    none (piece ∷ later) = inl refl
+    by : (place : Place) → performed (put_at place piece.text) (of_outside o left told) ≡ of_outside (put_out place piece.text o) left told
+    by Printed = refl
+    by (Stored name) = refl
+    by (Patched name) = refl
 
--- ---- some first part of texts was put out
+all_put : (pieces : List Piece) (o : Outside) (left told : Option Bytes) → all_performed (map puts pieces) (of_outside o left told) ≡ of_outside (all_out pieces o) left told
+all_put [] o left told = refl
+all_put (piece ∷ pieces) o left told = ap (λ w. all_performed (map puts pieces) w) (one_put piece o left told) ∙ all_put pieces (put_out piece.place piece.text o) left told
 
--- a first part of these, which is these
+-- all of them were
+pub were_put : (pieces : List Piece) (tree tree' : Option Tree) (out out' told : Option Bytes) → outside tree' out' ≡ all_out pieces (outside tree out) → WerePut (map puts pieces) tree tree' out out' told told
+were_put pieces tree tree' out out' told e left = ap (λ o. of_outside o left told) e ∙ sym (all_put pieces (outside tree out) left told)
+
+-- or some first part
 pub record PutFront (pieces : List Piece) (before after : Option Tree) (out out' told told' : Option Bytes) : Type 0 where
   pub front : List Piece
   pub is : IsFront pieces front
   pub put : WerePut (map puts front) before after out out' told told'
 
-pub nothing_put : (pieces : List Piece) (tree tree' : Option Tree) (out out' told : Option Bytes) → outside tree' out' ≡ outside tree out → PutFront pieces tree tree' out out' told told
-nothing_put pieces tree tree' out out' told e = record { front = []; is = no_front pieces; put = λ left. rw (ap (λ o. o.tree) e, ap (λ o. o.written) e) refl }
-
-pub begun_put : (target : Option Bytes) (text : Bytes) (tree tree' : Option Tree) (out out' told : Option Bytes) → IsBegunOutside target text (outside tree out) (outside tree' out') → PutFront (a_piece target text ∷ []) tree tree' out out' told told
-begun_put target text tree tree' out out' told (inl e) = nothing_put (a_piece target text ∷ []) tree tree' out out' told e
-begun_put target text tree tree' out out' told (inr h) = record {
-  front = a_piece target h.0 ∷ [];
-  is = one_front target text h.0 h.1 h.2;
-  put = was_put target h.0 tree tree' out out' told h.3;
-}
-
--- the place holds nothing, or is as it was
-pub begun_none : (target : Option Bytes) (text : Bytes) (before after : Outside) → (after ≡ before) ⊎ (after ≡ outputs target [] before) → IsBegunOutside target text before after
-begun_none target text before after (inl e) = inl e
-begun_none target text before after (inr e) = inr ([], text, refl, e)
+pub part_put : (pieces : List Piece) (tree tree' : Option Tree) (out out' told : Option Bytes) → PartOut pieces (outside tree out) (outside tree' out') → PutFront pieces tree tree' out out' told told
+part_put pieces tree tree' out out' told p = record { front = p.front; is = p.is; put = were_put p.front tree tree' out out' told p.put }
 
 -- what ends the putting of a text
 pub late_early : (stop : DumpStop) → IsLateStop stop → IsEarly (stop_outcome stop)
@@ -85,10 +66,12 @@ late_early stops.Memory late = tt
 text_put : (place : Place) (text : Bytes) → text_of (put_at place text) ≡ text
 text_put Printed text = refl
 text_put (Stored name) text = refl
+text_put (Patched name) text = refl
 
 other_put : (place : Place) (text other : Bytes) → with_text (put_at place text) other ≡ put_at place other
 other_put Printed text other = refl
 other_put (Stored name) text other = refl
+other_put (Patched name) text other = refl
 
 part_cut : (later last : List Piece) (between after : World) → AreBegun later last → after ≡ all_performed (map puts last) between → IsCut (map puts later) between after
 part_cut [] last between after b e = e ∙ ap (λ ps. all_performed (map puts ps) between) b
@@ -150,6 +133,17 @@ cut_put_line teller pieces bad before after left out out' told told' p q =
       };
     }
 
+-- ---- a row that fails, whose line was told
+
+told_behind : (front : List Piece) (before after : Option Tree) (out out' told told' : Option Bytes) (line : Bytes) → WerePut (map puts front) before after out out' told told → Appends line told told' → WerePut (map puts front ++ Tells line ∷ []) before after out out' told told'
+told_behind front before after out out' told told' line p said left =
+    ap (λ t. world after left out' t) said
+    ∙ ap (λ w. performed (Tells line) w) (p left)
+    ∙ sym (performed_both (map puts front) (Tells line ∷ []) (world before left out told))
+
+pub put_bad : (pieces : List Piece) (bad : BadRow) (before after : Option Tree) (out out' told told' : Option Bytes) → PutFront pieces before after out out' told told → Appends (dump_line (bad_row_outcome bad)) told told' → were_put_by pieces (Some bad) before after out out' told told'
+put_bad pieces bad before after out out' told told' p said = (p.front, p.is, told_behind p.front before after out out' told told' (dump_line (bad_row_outcome bad)) p.put said)
+
 -- ---- a run that has ended
 
 pub put_came : (teller : Teller) (pieces : List Piece) (bad : Option BadRow) (before after : Option Tree) (left out out' told told' : Option Bytes) → were_put_by pieces bad before after out out' told told'
@@ -172,6 +166,7 @@ put_came teller pieces (Some bad) before after left out out' told told' h = reco
 piece_none : (place : Place) (text : Bytes) → TakesNone (put_at place text)
 piece_none Printed text = tt
 piece_none (Stored name) text = tt
+piece_none (Patched name) text = tt
 
 pub pieces_none : (pieces : List Piece) (more : List Output) → AllTakeNone more → AllTakeNone (map puts pieces ++ more)
 pieces_none [] more h = h
@@ -183,40 +178,18 @@ all_none (piece ∷ pieces) = (piece_none piece.place piece.text, all_none piece
 
 -- ---- counts
 
-same_le : (a b : ℕ) → b ≡ a → a ≤ b
-same_le a b e = omega arith
-
-pub counted_whole : {X : Type 0} (x : X) (target : Option Bytes) (r r' i w w' p p' l : ℕ) → r' ≡ r → CountsPut target (Ok x) w w' p p' → counts r' i w' p' l ≡ counts r i w p l
-counted_whole x None r r' i w w' p p' l e c = alike r r' i i w w' p p' l l e refl c.0 c.1 refl
-counted_whole x (Some name) r r' i w w' p p' l e c = alike r r' i i w w' p p' l l e refl c.0 c.1 refl
-
--- wherever it is put
-pub puts_counts : (X : Type 0) (target : Option Bytes) (stop : DumpStop) (w w' p p' : ℕ) → CountsPut {X = X} target (Err stop) w w' p p' → CountsPuts stop w w' p p'
-puts_counts X None (stops.Missing name) w w' p p' c = c
-puts_counts X None (stops.TooLarge size) w w' p p' c = c
-puts_counts X None stops.ReadFault w w' p p' c = c
-puts_counts X None (stops.BadRows table first) w w' p p' c = c
-puts_counts X None stops.WriteFault w w' p p' c = (same_le w w' c.0, c.1.0, inr c.1.1)
-puts_counts X None stops.Memory w w' p p' c = c
-puts_counts X (Some file) (stops.Missing name) w w' p p' c = c
-puts_counts X (Some file) (stops.TooLarge size) w w' p p' c = c
-puts_counts X (Some file) stops.ReadFault w w' p p' c = c
-puts_counts X (Some file) (stops.BadRows table first) w w' p p' c = c
-puts_counts X (Some file) stops.WriteFault w w' p p' c = (c.0.0, same_le p p' c.1, inl c.0.1)
-puts_counts X (Some file) stops.Memory w w' p p' c = c
-
 -- a step that puts a text
-pub counted_put : (X : Type 0) (target : Option Bytes) (stop : DumpStop) (r r' i w w' p p' l : ℕ) → IsLateStop stop → r' ≡ r → CountsPut {X = X} target (Err stop) w w' p p' → Counted (stop_outcome stop) (counts r i w p l) (counts r' i w' p' l)
-counted_put X target stop r r' i w w' p p' l late e c = of stop late (puts_counts X target stop w w' p p' c)
+pub counted_put : (X : Type 0) (stop : DumpStop) (r r' i w w' p p' l : ℕ) → IsLateStop stop → r' ≡ r → CountsOut {X = X} (Err stop) w w' p p' → Counted (stop_outcome stop) (counts r i w p l) (counts r' i w' p' l)
+counted_put X (stops.Missing name) r r' i w w' p p' l late e k = elim late [ ]
+counted_put X (stops.TooLarge size) r r' i w w' p p' l late e k = elim late [ ]
+counted_put X stops.ReadFault r r' i w w' p p' l late e k = elim late [ ]
+counted_put X (stops.BadRows table first) r r' i w w' p p' l late e k = elim late [ ]
+counted_put X stops.WriteFault r r' i w w' p p' l late e k = (record { reads = same_le r r' e; inputs = same_le i i refl; writes = k.0; prints = k.1; lines = same_le l l refl }, either k.2)
   where
+    same_le : (a b : ℕ) → b ≡ a → a ≤ b
+    same_le a b e = omega arith
+
     either : HasRisen w w' ⊎ HasRisen p p' → HasRisen w w' ⊎ HasRisen p p' ⊎ HasRisen l l
     either (inl h) = inl h
     either (inr h) = inr (inl h)
-
-    of : (stop : DumpStop) → IsLateStop stop → CountsPuts stop w w' p p' → Counted (stop_outcome stop) (counts r i w p l) (counts r' i w' p' l)
-    of (stops.Missing name) h k = elim h [ ]
-    of (stops.TooLarge size) h k = elim h [ ]
-    of stops.ReadFault h k = elim h [ ]
-    of (stops.BadRows table first) h k = elim h [ ]
-    of stops.WriteFault h k = (record { reads = same_le r r' e; inputs = same_le i i refl; writes = k.0; prints = k.1; lines = same_le l l refl }, either k.2)
-    of stops.Memory h k = alike r r' i i w w' p p' l l e refl k.0 k.1 refl
+counted_put X stops.Memory r r' i w w' p p' l late e k = alike r r' i i w w' p p' l l e refl k.0 k.1 refl

@@ -7,7 +7,7 @@ use Rattle.cat_model.specs.Values.{Bytes}
 use Rattle.schema_folders.specs.declared.schemas.SchemaRow.{SchemaRow}
 use Rattle.schema_folders.specs.Naming.{boot, named}
 use Rattle.schema_folders.specs.Run.{catalogue_after, Grown}
-use Rattle.schema_folders.specs.Folder.{files_written, folder_saved, IsNamespaces}
+use Rattle.schema_folders.specs.Folder.{files_written, IsNamespaces}
 use Rattle.saved_folders.specs.Files.{File, saved, PartSaved}
 use Rattle.saved_folders.specs.Files.{IsCut as IsCutFile}
 use Rattle.tool_words.specs.declared.outcome.Outcome.{Outcome}
@@ -19,7 +19,7 @@ use Rattle.tool_words.specs.declared.words.Asked.{Asked}
 use Rattle.tool_words.specs.Answers.{◌>>=◌}
 use Rattle.tool_words.specs.Words.{words_asked}
 use Rattle.saved_folders.specs.Folders.{Texts, files_of}
-use Rattle.dump_tools.specs.Due.{asked_due, due, Plan, Applies, Running, Runs, Leaves, report_of_run, answer_of, answer_of_run, Prints, Compares, Application, Applied, IsCarriedOut, WasDue, report_of}
+use Rattle.dump_tools.specs.Due.{asked_due, due, Plan, Running, Runs, Leaves, report_of_run, answer_of_run, Prints, Application, report_of}
 use Rattle.dump_tools.specs.Outputs.{World, world, Output, Writes, Tells, all_performed, IsPart, IsCut, CutShort, stores}
 use Rattle.dump_tools.specs.Runs.{Run, run_of, IsApplied, MayCome, HasCut}
 use Rattle.dump_tools.proofs.Ending.{made_of, holds}

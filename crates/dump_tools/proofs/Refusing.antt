@@ -1,5 +1,5 @@
 -- No refusal that is due is Done.
-use Rattle.std.proofs.Common.{◌≡◌, ℕ, Bool, true, false, cond, ◌+◌, List, length, map, Option, Some, None, Result, Ok, Err, nat_le, ap}
+use Rattle.std.proofs.Common.{not, ◌≡◌, ℕ, Bool, true, false, cond, ◌+◌, List, length, map, Option, Some, None, Result, Ok, Err, nat_le, ap}
 use Rattle.dump_ports.specs.Tree.{Tree, text_at}
 use Rattle.cat_names.specs.declared.fault.CatFault.{CatFault}
 use Rattle.cat_names.specs.declared.fault.FaultKind.{FaultKind}
@@ -13,7 +13,6 @@ use Rattle.folder_io.specs.Folders.{bytes_of, catalogue_of}
 use Rattle.folder_rows.specs.Reading.{data_of}
 use Rattle.cat_rows.specs.declared.table.SysTable.TheVariants.{PgNamespace}
 use Rattle.cat_model.specs.Values.{Bytes}
-use Rattle.cat_model.specs.declared.words.What.TheVariants as what
 use Rattle.ddl_read.specs.declared.fault.DdlFault.{DdlFault}
 use Rattle.ddl_read.specs.declared.located.Located.{Located}
 use Rattle.ddl_read.specs.Reading.{statements_of}
@@ -21,7 +20,7 @@ use Rattle.schema_folders.specs.declared.schemas.SchemaRow.{SchemaRow}
 use Rattle.tool_words.specs.declared.outcome.Limit.{Limit}
 use Rattle.tool_words.specs.declared.outcome.Limit.TheVariants.{Script, Archive as ArchiveLimit}
 use Rattle.tool_words.specs.declared.outcome.Outcome.{Outcome}
-use Rattle.tool_words.specs.declared.outcome.Outcome.TheVariants.{Done, OutOfProfile, TooLarge}
+use Rattle.tool_words.specs.declared.outcome.Outcome.TheVariants.{Done, TooLarge}
 use Rattle.tool_words.specs.Answers.{◌>>=◌}
 use Rattle.command_line.specs.declared.command.Command.{Command}
 use Rattle.command_line.specs.declared.usage.UsageFault.{UsageFault}
@@ -47,6 +46,7 @@ use Rattle.dump_toc.specs.Toc.{Refusal, no_match, looping, too_many, toc}
 use Rattle.dump_files.specs.declared.stop.DumpStop.{DumpStop}
 use Rattle.dump_files.specs.declared.stop.DumpStop.TheVariants as stops
 use Rattle.dump_files.specs.Needed.{unready}
+use Rattle.dump_outputs.specs.declared.form.DumpForm.{DumpForm}
 use Rattle.dump_plans.specs.Choosing.{select_of}
 use Rattle.dump_plans.specs.Outcomes.{refusal_outcome, toc_told, ready_told}
 use Rattle.dump_plans.specs.Plans.{data_files, dumping_of}
@@ -62,7 +62,7 @@ use Rattle.schema_folders.specs.Folder.{is_bare, schemas_of, opening_in, opening
 use Rattle.tool_words.specs.Outcomes.{fault_outcome}
 use Rattle.exports.specs.Cells.{catalogue_with}
 use Rattle.exports.specs.Exports.{Exported, formed_of, told, well_formed, have_rows, export_with, export_of}
-use Rattle.dump_tools.specs.Due.{Plan, script_limit, input_of, source_of, scripted, script_read, schemas_for, runs_as, plan_with, plan_for, text_due, psql_due, database, dump_row, counted, whole_schemas, printed_due, is_printed_script, catalogue_due, folder_due, dump_due, text_of_input, text_of_archive, restore_due, second_due, compare_due, asked_due, due}
+use Rattle.dump_tools.specs.Due.{script_limit, input_of, source_of, scripted, script_read, schemas_for, runs_as, plan_with, plan_for, text_due, psql_due, database, dump_row, counted, whole_schemas, form_of, formed_due, printed_due, catalogue_due, dump_due, text_of_input, text_of_archive, restore_due, second_due, compare_due, asked_due, due}
 
 same : (A B : Type 0) (o : Outcome) → ◌≡◌ {A = Result B Outcome} (Err o) (Err Done) → ◌≡◌ {A = Result A Outcome} (Err o) (Err Done)
 same A B o e = ap Err (inner B o e)
@@ -219,22 +219,18 @@ unfolding dumping_of
 dumping_never folder select cat tree e =
     bind_never (toc_told (toc cat select)) _ (toc_never (toc cat select)) (λ entries h. ready_never _ (unready tree (data_files folder cat entries)) h) e
 
+formed_due_never : (asked : DumpAsked) (form : Option DumpForm) (moment : Moment) (cat : Catalogue) (tree : Tree) → formed_due asked form moment cat tree ≡ Err Done → ⊥
+formed_due_never asked None moment cat tree e = cc
+formed_due_never asked (Some form) moment cat tree e = bind_never (dumping_of asked.folder (select_of asked.choice) cat tree) _ (dumping_never asked.folder (select_of asked.choice) cat tree) (λ dump h. ok_never _ h) e
+
 printed_never : (asked : DumpAsked) (moment : Moment) (cat : Catalogue) (tree : Tree) (schemas : Option (List SchemaRow)) → printed_due asked moment cat tree schemas ≡ Err Done → ⊥
-printed_never asked moment cat tree None e = bind_never (dumping_of asked.folder (select_of asked.choice) cat tree) _ (dumping_never asked.folder (select_of asked.choice) cat tree) (λ dump h. ok_never _ h) e
+printed_never asked moment cat tree None e = formed_due_never asked (form_of asked.format asked.target (not asked.choice.no_owner)) moment cat tree e
 printed_never asked moment cat tree (Some rows) e = counted_never (dumped_script database boot moment (map dump_row rows)) (toc_due database boot (map dump_row rows)) e
 
-folder_due_never : (asked : DumpAsked) (moment : Moment) (tree : Tree) → folder_due asked moment tree ≡ Err Done → ⊥
-unfolding folder_due catalogue_due
-folder_due_never asked moment tree e =
-    bind_never (formed_of asked.folder tree) _ (formed_of_never asked.folder tree) (λ cat h. printed_never asked moment cat tree (whole_schemas asked cat) h) e
-
 dump_never : (asked : DumpAsked) (moment : Moment) (tree : Tree) → dump_due asked moment tree ≡ Err Done → ⊥
-unfolding dump_due
-dump_never asked moment tree e = by (is_printed_script asked) e
-  where
-    by : (b : Bool) → cond {A = Result Plan Outcome} b (folder_due asked moment tree) (Err (OutOfProfile what.Unbuilt)) ≡ Err Done → ⊥
-    by true h = folder_due_never asked moment tree h
-    by false h = cc
+unfolding dump_due catalogue_due
+dump_never asked moment tree e =
+    bind_never (formed_of asked.folder tree) _ (formed_of_never asked.folder tree) (λ cat h. printed_never asked moment cat tree (whole_schemas asked cat) h) e
 
 path_never : (words : RestoreWords) (path : Bytes) (tree : Tree) → path_text words path tree ≡ Err Done → ⊥
 unfolding path_text

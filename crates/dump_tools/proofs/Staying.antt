@@ -5,7 +5,8 @@ use Rattle.std.specs.declared.cmp.Ordering.TheVariants.{Less, Equal, Greater}
 use Rattle.std.specs.Ordering.{eq_by_cmp, is_eq}
 use Rattle.std.specs.FinMap.{get-insert, insert, nat_cmp-IsAntisymmetric, slice_cmp-IsAntisymmetric}
 use Rattle.std.specs.Cmp.Lexicographic.{nat_list_cmp_total}
-use Rattle.dump_ports.specs.Tree.{Tree, text_at}
+use Rattle.std.specs.Option.{option_map_or}
+use Rattle.dump_ports.specs.Tree.{Tree, text_at, overwritten, patched}
 use Rattle.cat_rows.specs.declared.table.SysTable.{SysTable}
 use Rattle.cat_model.specs.Values.{Bytes, bytes_cmp, Named}
 use Rattle.dump_plain.specs.Dumps.{BadRow}
@@ -13,13 +14,14 @@ use Rattle.tool_words.specs.declared.outcome.Outcome.{Outcome}
 use Rattle.tool_words.specs.declared.words.Teller.{Teller}
 use Rattle.schema_folders.specs.Folder.{IsElsewhere, all_tables, table_written, table_files, marker_written, files_written}
 use Rattle.saved_folders.specs.Files.{File}
-use Rattle.dump_tools.specs.Outputs.{World, Output, Stores, Writes, Tells, Takes, with_text, performed, all_performed, IsPart, IsCut, CutShort, stores, Piece}
+use Rattle.dump_tools.specs.Outputs.{World, Output, Stores, Patches, Writes, Tells, Takes, with_text, performed, all_performed, IsPart, IsCut, CutShort, stores}
 use Rattle.std.specs.List.{AllByRecursion}
 use Rattle.saved_folders.specs.Folders.{files_of}
-use Rattle.dump_tools.specs.Runs.{Run, IsCompared, dumped_by, put_by, MayBeRun, MayCome, MayRun}
-use Rattle.dump_tools.specs.Due.{Plan, Applies, Running, Runs, Prints, Dumps, Puts, Compares, dump_line, report_of, report_of_run}
+use Rattle.dump_tools.specs.Runs.{Run, IsCompared, put_by, MayBeRun, MayCome, MayRun}
+use Rattle.dump_tools.specs.Due.{Plan, Applies, Running, Runs, Prints, Puts, Compares, dump_line, report_of, report_of_run}
 use Rattle.dump_tools.specs.Stays.{IsOther, AreOthers, Keeps, IsSilent, AreSilent, TakesNone, AllTakeNone}
 use Rattle.dump_plans.specs.Outcomes.{bad_row_outcome}
+use Rattle.dump_outputs.specs.Pieces.{Piece}
 use Rattle.dump_tools.proofs.Taking.{came}
 use Rattle.dump_tools.proofs.Pieces.{pieces_none, all_none}
 
@@ -43,12 +45,22 @@ one_keeps name (Stores file text) w n = of w.tree
     of : (tree : Option Tree) → option_map (λ t. text_at t name) (option_map (λ t. insert t file text) tree) ≡ option_map (λ t. text_at t name) tree
     of None = refl
     of (Some t) = ap Some (other_text name file text t n)
+one_keeps name (Patches file text) w n = of w.tree
+  where
+    there : (t : Tree) (found : Option Bytes) → text_at (option_map_or (λ old. insert t file (overwritten 0 text old)) found t) name ≡ text_at t name
+    there t None = refl
+    there t (Some old) = other_text name file (overwritten 0 text old) t n
+
+    of : (tree : Option Tree) → option_map (λ t. text_at t name) (option_map (patched file 0 text) tree) ≡ option_map (λ t. text_at t name) tree
+    of None = refl
+    of (Some t) = ap Some (there t (text_at t file))
 one_keeps name (Writes text) w n = refl
 one_keeps name (Tells text) w n = refl
 one_keeps name (Takes text) w n = refl
 
 same_kind : (name : Bytes) (output : Output) (text : Bytes) → IsOther name output → IsOther name (with_text output text)
 same_kind name (Stores file old) text n = n
+same_kind name (Patches file old) text n = n
 same_kind name (Writes old) text n = tt
 same_kind name (Tells old) text n = tt
 same_kind name (Takes old) text n = tt
@@ -85,12 +97,14 @@ short_keeps outputs before after name s n =
 
 one_left : (output : Output) (w : World) → TakesNone output → (performed output w).left ≡ w.left
 one_left (Stores file text) w h = refl
+one_left (Patches file text) w h = refl
 one_left (Writes text) w h = refl
 one_left (Tells text) w h = refl
 one_left (Takes text) w h = elim h [ ]
 
 still_none : (output : Output) (text : Bytes) → TakesNone output → TakesNone (with_text output text)
 still_none (Stores file old) text h = tt
+still_none (Patches file old) text h = tt
 still_none (Writes old) text h = tt
 still_none (Tells old) text h = tt
 still_none (Takes old) text h = elim h [ ]
@@ -122,12 +136,14 @@ short_left outputs before after s n =
 
 one_printed : (output : Output) (w : World) → IsSilent output → (performed output w).printed ≡ w.printed
 one_printed (Stores file text) w h = refl
+one_printed (Patches file text) w h = refl
 one_printed (Writes text) w h = elim h [ ]
 one_printed (Tells text) w h = refl
 one_printed (Takes text) w h = refl
 
 still_silent : (output : Output) (text : Bytes) → IsSilent output → IsSilent (with_text output text)
 still_silent (Stores file old) text h = tt
+still_silent (Patches file old) text h = tt
 still_silent (Writes old) text h = elim h [ ]
 still_silent (Tells old) text h = tt
 still_silent (Takes old) text h = tt
@@ -190,10 +206,6 @@ compared_none : (teller : Teller) (a b : Named) (run : Run) → IsCompared telle
 compared_none teller a b run (inl h) = subst (λ (r : Run). AllTakeNone r.outputs) (sym h.1) tt
 compared_none teller a b run (inr h) = subst (λ (r : Run). AllTakeNone r.outputs) (sym h.2) (tt, tt)
 
-dumped_none : (text : Bytes) (bad : Option BadRow) (run : Run) → dumped_by text bad run → AllTakeNone run.outputs
-dumped_none text None run may = subst (λ (r : Run). AllTakeNone r.outputs) (sym may) (tt, tt)
-dumped_none text (Some bad) run may = subst (λ (r : Run). AllTakeNone r.outputs) (sym may.3) (tt, (tt, tt))
-
 put_none : (pieces : List Piece) (bad : Option BadRow) (run : Run) → put_by pieces bad run → AllTakeNone run.outputs
 put_none pieces None run may = subst (λ (r : Run). AllTakeNone r.outputs) (sym may) (all_none pieces)
 put_none pieces (Some bad) run may = subst (λ (r : Run). AllTakeNone r.outputs) (sym may.2) (pieces_none may.0 (Tells (dump_line (bad_row_outcome bad)) ∷ []) (tt, tt))
@@ -203,7 +215,6 @@ later_none teller (Err refusal) run may = subst (λ (r : Run). AllTakeNone r.out
 later_none teller (Ok (Applies plan)) run may = subst (λ (r : Run). AllTakeNone r.outputs) (sym may.is) (stored_none (files_written plan.folder may.text) (report_of plan))
 later_none teller (Ok (Runs plan)) run may = run_none teller plan run may
 later_none teller (Ok (Prints text)) run may = subst (λ (r : Run). AllTakeNone r.outputs) (sym may) (tt, tt)
-later_none teller (Ok (Dumps dump)) run may = dumped_none dump.text dump.bad run may
 later_none teller (Ok (Puts plan)) run may = put_none plan.pieces plan.bad run may
 later_none teller (Ok (Compares a b)) run may = compared_none teller a b run may
 

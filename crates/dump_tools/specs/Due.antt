@@ -1,6 +1,6 @@
 -- What is due for the words of a command line, the files and standard input: the first refusal of its steps in their
 -- order, or a plan that is carried out. And what the files hold once it is.
-use Rattle.std.specs.Prelude.{◌≡◌, Bool, true, ℕ, ◌+◌, ◌≤◌, List, [], ◌∷◌, ◌++◌, length, map, Option, Some, None, option_map, Result, Ok, Err, ◌⊎◌, codes, nat_le, not, is_none, ◌&&◌, if◌then◌else◌}
+use Rattle.std.specs.Prelude.{◌≡◌, Bool, true, ℕ, ◌+◌, ◌≤◌, List, [], ◌∷◌, ◌++◌, length, map, Option, Some, None, option_map, Result, Ok, Err, ◌⊎◌, codes, nat_le, not, ◌&&◌, unwrap_or, if◌then◌else◌}
 use Rattle.std.specs.List.{All, IsDistinct}
 use Rattle.std.specs.List.Sorted.{IsPermutation}
 use Rattle.cat_rows.specs.declared.table.SysTable.TheVariants.{PgNamespace}
@@ -23,7 +23,7 @@ use Rattle.cat_same.specs.Verdicts.{IsLeastDifference}
 use Rattle.schema_folders.specs.declared.schemas.SchemaRow.{SchemaRow}
 use Rattle.ddl_read.specs.declared.located.Located.{Located}
 use Rattle.tool_words.specs.declared.outcome.Limit.{Limit}
-use Rattle.tool_words.specs.declared.outcome.Limit.TheVariants.{Script, Entries, Archive as ArchiveLimit}
+use Rattle.tool_words.specs.declared.outcome.Limit.TheVariants.{Script as ScriptLimit, Entries, Archive as ArchiveLimit}
 use Rattle.tool_words.specs.declared.outcome.Outcome.{Outcome}
 use Rattle.tool_words.specs.declared.outcome.Outcome.TheVariants.{Done, ReadFault, WriteFault, BadScript, OutOfProfile, TooLarge, Differs, ScriptStopped, Memory}
 use Rattle.tool_words.specs.Answers.{◌>>=◌, IsDue}
@@ -35,8 +35,8 @@ use Rattle.tool_words.specs.declared.words.DumpAsked.{DumpAsked}
 use Rattle.tool_words.specs.declared.words.ArchiveAsked.{ArchiveAsked}
 use Rattle.command_line.specs.declared.command.RestoreWords.{RestoreWords}
 use Rattle.restore_outcomes.specs.Texts.{path_text, input_text}
-use Rattle.dump_tools.specs.Outputs.{Output, Tells, world, all_performed, Piece, place_of, puts, IsFront}
-use Rattle.tool_words.specs.Words.{is_plain, is_whole_script, words_asked}
+use Rattle.dump_tools.specs.Outputs.{Output, Tells, world, all_performed, puts}
+use Rattle.tool_words.specs.Words.{is_whole_script, words_asked}
 use Rattle.script_runs.specs.Stopping.{ending, told}
 use Rattle.dump_ports.specs.declared.moment.Moment.{Moment}
 use Rattle.toc_entry.specs.declared.entry.Entry.{Entry}
@@ -52,16 +52,21 @@ use Rattle.dump_tools.specs.declared.psql.Work.TheVariants as work
 use Rattle.dump_tools.specs.declared.psql.SchemaWork.{SchemaWork}
 use Rattle.dump_tools.specs.declared.psql.ScriptWork.{ScriptWork}
 use Rattle.schema_folders.specs.Folder.{opening_in, cells_of_row, schemas_alone, Holds, folder_saved}
-use Rattle.tool_words.specs.Lines.{Appends, AppendsPart}
+use Rattle.tool_words.specs.Lines.{Appends}
 use Rattle.schema_folders.specs.Naming.{boot, named}
 use Rattle.tool_words.specs.Messages.{Refusal, report, outcome_line}
 use Rattle.tool_words.specs.declared.words.Teller.TheVariants as teller
 use Rattle.command_line.specs.declared.options.Tool.TheVariants as tool
 use Rattle.toc_entry.specs.declared.head.Head.{Head}
 use Rattle.dump_schemas.specs.Scripts.{version}
-use Rattle.dump_files.specs.declared.stop.DumpStop.{DumpStop}
-use Rattle.dump_files.specs.declared.stop.DumpStop.TheVariants as stops
-use Rattle.dump_plain.specs.Dumps.{BadRow, Output as DumpOutput, plain_out}
+use Rattle.dump_plain.specs.Dumps.{BadRow}
+use Rattle.dump_toc.specs.Session.{current_database}
+use Rattle.dump_outputs.specs.declared.form.DumpForm.{DumpForm}
+use Rattle.dump_outputs.specs.declared.form.DumpForm.TheVariants.{Script, Custom, Directory}
+use Rattle.dump_outputs.specs.Forms.{Putting, one_piece, dump_put}
+use Rattle.dump_outputs.specs.Pieces.{Piece, IsFront}
+use Rattle.command_line.specs.declared.values.Format.{Format}
+use Rattle.command_line.specs.declared.values.Format.TheVariants as format
 use Rattle.obj_graph.specs.declared.select.Select.{Select}
 use Rattle.dump_plans.specs.Choosing.{select_of}
 use Rattle.dump_plans.specs.Outcomes.{bad_row_outcome}
@@ -83,16 +88,6 @@ pub record Running : Type 0 where
   pub statements : List Located
   pub opening : Exported
 
--- a dump, up to the first row that fails, if there is one
-pub record DumpText : Type 0 where
-  pub text : Bytes
-  pub bad : Option BadRow
-
--- texts that are put out one after another, up to the first row that fails, if there is one
-pub record Putting : Type 0 where
-  pub pieces : List Piece
-  pub bad : Option BadRow
-
 -- what a tool does once all is read
 pub data Plan : Type 0 where
   -- psql applies a script of schemas to a folder of schemas
@@ -101,9 +96,7 @@ pub data Plan : Type 0 where
   Runs : Running → Plan
   -- pg_dump prints a text
   Prints : Bytes → Plan
-  -- pg_dump prints a dump, up to a row that fails
-  Dumps : DumpText → Plan
-  -- pg_restore puts the list or the script of an archive where it is asked for
+  -- pg_dump puts a dump where it is asked for, up to a row that fails, and pg_restore the list or the script of an archive
   Puts : Putting → Plan
   -- pg_catcmp compares two catalogues by names
   Compares : Named → Named → Plan
@@ -117,8 +110,8 @@ input_of what limit input = if nat_le (length input) limit then Ok input else Er
 
 -- the text of a script, wherever it is read
 abbrev pub source_of : ScriptSource → Tree → Bytes → Result Bytes Outcome
-source_of (File name) tree input = file_of Script script_limit name tree
-source_of Input tree input = input_of Script script_limit input
+source_of (File name) tree input = file_of ScriptLimit script_limit name tree
+source_of Input tree input = input_of ScriptLimit script_limit input
 
 -- what a text is that was read: its first fault, or its statements
 abbrev pub scripted : Result (List Located) DdlFault → Result (List Located) Outcome
@@ -177,24 +170,41 @@ counted script (Err n) = Err (TooLarge Entries n)
 abbrev pub script_due : Moment → List SchemaRow → Result Plan Outcome
 script_due moment rows = counted (dumped_script database boot moment (map dump_row rows)) (toc_due database boot (map dump_row rows))
 
--- the head of a plain dump, of which the dump tells the two versions
-abbrev pub plain_head : Moment → Head
-plain_head moment = record { major = 1; minor = 15; revision = 0; format = 4; compression = 0; moment = moment; dbname = []; server = version; dumper = version }
+-- the head of a dump in the format of this code, which tells the two versions and the database's name
+abbrev pub head_of : ℕ → Bytes → Moment → Head
+head_of format name moment = record { major = 1; minor = 15; revision = 0; format = format; compression = 0; moment = moment; dbname = name; server = version; dumper = version }
 
--- what is put out of a dump
-abbrev pub text_of_dump : DumpOutput → DumpText
-text_of_dump out = record { text = out.text; bad = out.bad }
+-- the code of the format
+abbrev pub code_of : DumpForm → ℕ
+code_of (Script target owners) = 4
+code_of (Custom target) = 1
+code_of (Directory folder) = 3
 
-unfoldable pub dump_text : Moment → Tree → Bool → Dumping → DumpText
-dump_text moment tree owners dump = text_of_dump (plain_out tree (plain_head moment) owners dump.entries dump.files)
+-- the name of the current database, which a well-formed catalogue has
+abbrev pub database_name : Catalogue → Bytes
+database_name cat = unwrap_or (option_map (λ d. d.datname) (current_database cat)) []
 
--- what is selected of a catalogue, with its owners or without them
-abbrev pub selected_due : Bytes → Select → Bool → Moment → Catalogue → Tree → Result Plan Outcome
-selected_due folder select owners moment cat tree = dumping_of folder select cat tree >>= λ dump. Ok (Dumps (dump_text moment tree owners dump))
+-- how a dump is written, and where; a folder has to be named
+abbrev pub form_of : Format → Option Bytes → Bool → Option DumpForm
+form_of format.Plain target owners = Some (Script target owners)
+form_of format.Custom target owners = Some (Custom target)
+form_of format.Directory (Some folder) owners = Some (Directory folder)
+form_of format.Directory None owners = None
+
+unfoldable pub put_of : Tree → DumpForm → Head → Dumping → Putting
+put_of tree form head dump = dump_put tree form head dump.entries dump.files
+
+-- what is selected of a catalogue, in this form
+abbrev pub selected_due : Bytes → Select → DumpForm → Head → Catalogue → Tree → Result Plan Outcome
+selected_due folder select form head cat tree = dumping_of folder select cat tree >>= λ dump. Ok (Puts (put_of tree form head dump))
+
+abbrev pub formed_due : DumpAsked → Option DumpForm → Moment → Catalogue → Tree → Result Plan Outcome
+formed_due asked None moment cat tree = Err (OutOfProfile Unbuilt)
+formed_due asked (Some form) moment cat tree = selected_due asked.folder (select_of asked.choice) form (head_of (code_of form) (database_name cat) moment) cat tree
 
 -- what the words choose of it
 abbrev pub chosen_due : DumpAsked → Moment → Catalogue → Tree → Result Plan Outcome
-chosen_due asked moment cat tree = selected_due asked.folder (select_of asked.choice) (not asked.choice.no_owner) moment cat tree
+chosen_due asked moment cat tree = formed_due asked (form_of asked.format asked.target (not asked.choice.no_owner)) moment cat tree
 
 -- the schemas of a catalogue, where they are its only objects and all of it is asked for
 abbrev pub whole_schemas : DumpAsked → Catalogue → Option (List SchemaRow)
@@ -204,25 +214,13 @@ abbrev pub printed_due : DumpAsked → Moment → Catalogue → Tree → Option 
 printed_due asked moment cat tree None = chosen_due asked moment cat tree
 printed_due asked moment cat tree (Some rows) = script_due moment rows
 
--- a script is printed
-abbrev pub is_printed_script : DumpAsked → Bool
-is_printed_script asked = is_none asked.target && is_plain asked.format
-
 -- once the catalogue is read: the schemas, or what is chosen
 unfoldable pub catalogue_due : DumpAsked → Moment → Tree → Catalogue → Result Plan Outcome
 catalogue_due asked moment tree cat = printed_due asked moment cat tree (whole_schemas asked cat)
 
--- the folder's catalogue is read, and no data file
-unfoldable pub folder_due : DumpAsked → Moment → Tree → Result Plan Outcome
-folder_due asked moment tree = formed_of asked.folder tree >>= catalogue_due asked moment tree
-
--- pg_dump: a script that is printed is what is built of it
+-- pg_dump: the folder's catalogue is read, and no data file
 unfoldable pub dump_due : DumpAsked → Moment → Tree → Result Plan Outcome
-dump_due asked moment tree = if is_printed_script asked then folder_due asked moment tree else Err (OutOfProfile Unbuilt)
-
--- a text that is put where it is asked for
-abbrev pub one_piece : Option Bytes → Bytes → Putting
-one_piece target text = record { pieces = record { place = place_of target; text = text } ∷ []; bad = None }
+dump_due asked moment tree = formed_of asked.folder tree >>= catalogue_due asked moment tree
 
 -- what is written of the archive that all of standard input is
 unfoldable pub text_of_input : RestoreWords → Tree → Bytes → Result Bytes Outcome
@@ -235,7 +233,7 @@ text_of_archive None words tree input = text_of_input words tree input
 
 -- pg_restore, where no folder is restored into: the archive is read, whole, and what is asked for is put where it goes
 unfoldable pub restore_due : ArchiveAsked → Tree → Bytes → Result Plan Outcome
-restore_due asked tree input = text_of_archive asked.archive asked.words tree input >>= λ text. Ok (Puts (one_piece asked.target text))
+restore_due asked tree input = text_of_archive asked.archive asked.words tree input >>= λ text. Ok (Puts (one_piece asked.target text None))
 
 -- once the first is read: the second folder
 unfoldable pub second_due : Exported → Bytes → Tree → Result Plan Outcome
@@ -344,21 +342,12 @@ abbrev pub answer_of : Plan → Outcome
 answer_of (Applies plan) = Done
 answer_of (Runs plan) = answer_of_run plan
 answer_of (Prints text) = Done
-answer_of (Dumps dump) = dump_answer dump.bad
 answer_of (Puts plan) = dump_answer plan.bad
 answer_of (Compares a b) = Done
 
 -- pg_dump's line of an answer
 abbrev pub dump_line : Outcome → List ℕ
 dump_line answer = outcome_line (teller.Tool tool.PgDump) answer
-
--- a dump was printed; where a row fails some first part of what stands before it, and its line was told
-abbrev pub printed_by : Bytes → Option BadRow → Option (List ℕ) → Option (List ℕ) → Option (List ℕ) → Option (List ℕ) → Type 0
-printed_by text None out_before out_after told_before told_after = Appends text out_before out_after × (told_after ≡ told_before)
-printed_by text (Some bad) out_before out_after told_before told_after = AppendsPart text out_before out_after × Appends (dump_line (bad_row_outcome bad)) told_before told_after
-
-abbrev pub IsPrinted : DumpText → Option (List ℕ) → Option (List ℕ) → Option (List ℕ) → Option (List ℕ) → Type 0
-IsPrinted dump out_before out_after told_before told_after = printed_by dump.text dump.bad out_before out_after told_before told_after
 
 -- outputs were put out, one after another, and nothing else has changed, whatever is left of standard input
 abbrev pub WerePut : List Output → Option Tree → Option Tree → Option (List ℕ) → Option (List ℕ) → Option (List ℕ) → Option (List ℕ) → Type 0
@@ -371,8 +360,8 @@ were_put_by pieces (Some bad) before after out_before out_after told_before told
     (front : List Piece) × IsFront pieces front × WerePut (map puts front ++ Tells (dump_line (bad_row_outcome bad)) ∷ []) before after out_before out_after told_before told_after
 
 -- What stands of the files, of standard output and of standard error once a plan is carried out: a script was applied and
--- its report was written to standard error, or a text or a dump was written to standard output, or texts were put where
--- they were asked for, or two catalogues were the same, and nothing else changed.
+-- its report was written to standard error, or a text was written to standard output, or texts were put where they were
+-- asked for, or two catalogues were the same, and nothing else changed.
 abbrev pub IsCarriedOut : Plan → Option Tree → Option Tree → Option (List ℕ) → Option (List ℕ) → Option (List ℕ) → Option (List ℕ) → Type 0
 IsCarriedOut (Applies plan) before after out_before out_after told_before told_after =
     Applied plan before after × (out_after ≡ out_before) × Appends (report_of plan) told_before told_after
@@ -380,8 +369,6 @@ IsCarriedOut (Runs plan) before after out_before out_after told_before told_afte
     Ran plan before after × (out_after ≡ out_before) × Appends (report_of_run plan) told_before told_after
 IsCarriedOut (Prints text) before after out_before out_after told_before told_after =
     (after ≡ before) × Appends text out_before out_after × (told_after ≡ told_before)
-IsCarriedOut (Dumps dump) before after out_before out_after told_before told_after =
-    (after ≡ before) × IsPrinted dump out_before out_after told_before told_after
 IsCarriedOut (Puts plan) before after out_before out_after told_before told_after =
     were_put_by plan.pieces plan.bad before after out_before out_after told_before told_after
 IsCarriedOut (Compares a b) before after out_before out_after told_before told_after =
@@ -472,11 +459,6 @@ Counted _ before after = after ≡ before
 abbrev pub CountsStep : {X : Type 0} → Result X Outcome → Counts → Counts → Type 0
 CountsStep (Ok x) before after = after ≡ before
 CountsStep (Err outcome) before after = Counted outcome before after
-
--- the same of the writes of what is put to files or to standard output
-abbrev pub CountsPuts : DumpStop → ℕ → ℕ → ℕ → ℕ → Type 0
-CountsPuts stops.WriteFault a b c d = (a ≤ b) × (c ≤ d) × (HasRisen a b ⊎ HasRisen c d)
-CountsPuts _ a b c d = (b ≡ a) × (d ≡ c)
 
 -- the same of the writes alone, of files and to standard error
 abbrev pub CountsWrites : {X : Type 0} → Result X Outcome → ℕ → ℕ → ℕ → ℕ → Type 0

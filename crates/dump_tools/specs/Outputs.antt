@@ -1,9 +1,10 @@
 -- What a call of the program puts out: a list of outputs in order. And what the outside holds once some of them were put
 -- out, whole or in part. What is taken of standard input stands among them, at its place in the order.
-use Rattle.std.specs.Prelude.{◌≡◌, ◌++◌, List, [], ◌∷◌, length, drop, Option, Some, None, option_map, ◌⊎◌}
+use Rattle.std.specs.Prelude.{◌≡◌, ◌++◌, List, [], ◌∷◌, length, drop, Option, option_map, ◌⊎◌}
 use Rattle.std.specs.FinMap.{insert}
-use Rattle.dump_ports.specs.Tree.{Tree}
+use Rattle.dump_ports.specs.Tree.{Tree, patched}
 use Rattle.cat_model.specs.Values.{Bytes}
+use Rattle.dump_outputs.specs.Pieces.{Place, Printed, Stored, Patched, Piece}
 use Rattle.saved_folders.specs.Files.{File}
 
 -- What stands outside of the program, as far as each object tells it: the texts of the files, what is left of standard
@@ -17,10 +18,11 @@ pub record World : Type 0 where
 abbrev pub world : Option Tree → Option Bytes → Option Bytes → Option Bytes → World
 world tree left printed told = record { tree = tree; left = left; printed = printed; told = told }
 
--- a file is made anew and its text added, a text is printed, a text is told on standard error; and a text is taken off
--- standard input
+-- a file is made anew and its text added, a text is written over the first bytes of a file, a text is printed, a text is
+-- told on standard error; and a text is taken off standard input
 pub data Output : Type 0 where
   Stores : Bytes → Bytes → Output
+  Patches : Bytes → Bytes → Output
   Writes : Bytes → Output
   Tells : Bytes → Output
   Takes : Bytes → Output
@@ -28,6 +30,7 @@ pub data Output : Type 0 where
 -- the text of an output
 abbrev pub text_of : Output → Bytes
 text_of (Stores name text) = text
+text_of (Patches name text) = text
 text_of (Writes text) = text
 text_of (Tells text) = text
 text_of (Takes text) = text
@@ -35,6 +38,7 @@ text_of (Takes text) = text
 -- the same output with another text
 abbrev pub with_text : Output → Bytes → Output
 with_text (Stores name text) other = Stores name other
+with_text (Patches name text) other = Patches name other
 with_text (Writes text) other = Writes other
 with_text (Tells text) other = Tells other
 with_text (Takes text) other = Takes other
@@ -42,6 +46,7 @@ with_text (Takes text) other = Takes other
 -- once an output was put out
 abbrev pub performed : Output → World → World
 performed (Stores name text) w = world (option_map (λ tree. insert tree name text) w.tree) w.left w.printed w.told
+performed (Patches name text) w = world (option_map (patched name 0 text) w.tree) w.left w.printed w.told
 performed (Writes text) w = world w.tree w.left (option_map (λ printed. printed ++ text) w.printed) w.told
 performed (Tells text) w = world w.tree w.left w.printed (option_map (λ told. told ++ text) w.told)
 performed (Takes text) w = world w.tree (option_map (λ left. drop (length text) left) w.left) w.printed w.told
@@ -80,38 +85,10 @@ stores file = Stores file.name file.text
 
 -- ---- texts that are put where they are asked for
 
--- standard output, or a file that is made anew
-pub data Place : Type 0 where
-  Printed : Place
-  Stored : Bytes → Place
-
--- the file of this name, or standard output where none is told
-abbrev pub place_of : Option Bytes → Place
-place_of None = Printed
-place_of (Some name) = Stored name
-
--- a text and its place
-pub record Piece : Type 0 where
-  pub place : Place
-  pub text : Bytes
-
 abbrev pub put_at : Place → Bytes → Output
 put_at Printed text = Writes text
 put_at (Stored name) text = Stores name text
+put_at (Patched name) text = Patches name text
 
 abbrev pub puts : Piece → Output
 puts piece = put_at piece.place piece.text
-
--- none of the first of these pieces, or a first part of its text
-abbrev pub AreBegun : List Piece → List Piece → Type 0
-AreBegun [] begun = begun ≡ []
-AreBegun (piece ∷ later) begun = (begun ≡ []) ⊎ ((part : Bytes) × (rest : Bytes) × (piece.text ≡ part ++ rest) × (begun ≡ record { place = piece.place; text = part } ∷ []))
-
--- some first pieces, whole, and then none or a first part of the next one
-pub record IsFront (pieces front : List Piece) : Type 0 where
-  pub whole : List Piece
-  pub later : List Piece
-  pub split : pieces ≡ whole ++ later
-  pub last : List Piece
-  pub begun : AreBegun later last
-  pub is : front ≡ whole ++ last

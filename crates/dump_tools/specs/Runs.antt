@@ -17,9 +17,11 @@ use Rattle.cat_model.specs.declared.words.What.TheVariants.{Unbuilt}
 use Rattle.saved_folders.specs.Folders.{Texts, files_of}
 use Rattle.dump_plain.specs.Dumps.{BadRow}
 use Rattle.dump_plans.specs.Outcomes.{bad_row_outcome}
-use Rattle.dump_tools.specs.Due.{Application, Running, Plan, Applies, Runs, Prints, DumpText, Dumps, Putting, Puts, Compares, dump_line, Comes, Leaves, report_of, report_of_run, answer_of_run, due}
+use Rattle.dump_tools.specs.Due.{Application, Running, Plan, Applies, Runs, Prints, Puts, Compares, dump_line, Comes, Leaves, report_of, report_of_run, answer_of_run, due}
 use Rattle.dump_tools.specs.Inputs.{where_read, IsTaken, HasTaken}
-use Rattle.dump_tools.specs.Outputs.{World, Output, Writes, Tells, Takes, all_performed, IsPart, CutShort, stores, Piece, puts, IsFront}
+use Rattle.dump_tools.specs.Outputs.{World, Output, Writes, Tells, Takes, all_performed, IsPart, CutShort, stores, puts}
+use Rattle.dump_outputs.specs.Forms.{Putting}
+use Rattle.dump_outputs.specs.Pieces.{Piece, IsFront}
 
 -- what is put out, in order, and the answer
 pub record Run : Type 0 where
@@ -58,14 +60,6 @@ IsUnmadeAnswer answer = ⊥
 abbrev pub MayBeRun : Teller → Running → Run → Type 0
 MayBeRun teller plan run = IsRan plan run ⊎ ((answer : Outcome) × IsUnmadeAnswer answer × (run ≡ told_run teller answer))
 
--- A dump is printed; where a row fails some first part of what stands before it, and its line is told.
-abbrev pub dumped_by : Bytes → Option BadRow → Run → Type 0
-dumped_by text None run = run ≡ run_of (Writes text ∷ []) Done
-dumped_by text (Some bad) run = (front : Bytes) × (rest : Bytes) × (text ≡ front ++ rest) × (run ≡ run_of (Writes front ∷ Tells (dump_line (bad_row_outcome bad)) ∷ []) (bad_row_outcome bad))
-
-abbrev pub IsDumped : DumpText → Run → Type 0
-IsDumped dump run = dumped_by dump.text dump.bad run
-
 -- Texts are put out; where a row fails some first part of them, and its line is told.
 abbrev pub put_by : List Piece → Option BadRow → Run → Type 0
 put_by pieces None run = run ≡ run_of (map puts pieces) Done
@@ -84,7 +78,6 @@ MayCome teller (Err refusal) run = run ≡ told_run teller refusal
 MayCome teller (Ok (Applies plan)) run = IsApplied plan run
 MayCome teller (Ok (Runs plan)) run = MayBeRun teller plan run
 MayCome teller (Ok (Prints text)) run = run ≡ run_of (Writes text ∷ []) Done
-MayCome teller (Ok (Dumps dump)) run = IsDumped dump run
 MayCome teller (Ok (Puts plan)) run = IsPut plan run
 MayCome teller (Ok (Compares a b)) run = IsCompared teller a b run
 

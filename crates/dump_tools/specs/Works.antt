@@ -1,22 +1,22 @@
--- What is to be printed of a dump, as the code has it.
-use Rattle.std.specs.Prelude.{◌≡◌, ℕ, ◌≤◌, Bool, List, length, None}
+-- What is to be put out of a dump, as the code has it.
+use Rattle.std.specs.Prelude.{◌≡◌, ◌≤◌, length, None}
 use Rattle.dump_ports.specs.Tree.{Tree}
-use Rattle.dump_ports.specs.declared.moment.Moment.{Moment}
 use Rattle.dump_files.specs.Needed.{unready}
+use Rattle.dump_outputs.specs.Forms.{IsClear}
 use Rattle.dump_plans.specs.Plans.{dumping}
 use Rattle.dump_tools.specs.declared.dumps.DumpWork.{DumpWork}
 use Rattle.dump_tools.specs.declared.dumps.DumpWork.TheVariants.{Script, Rows}
-use Rattle.dump_tools.specs.Due.{Plan, Prints, Dumps, dump_text}
+use Rattle.dump_tools.specs.Due.{Plan, Prints, Puts, put_of}
 
-abbrev pub plan_of_work : Moment → Tree → DumpWork → Plan
-plan_of_work moment tree (Script text) = Prints text.items
-plan_of_work moment tree (Rows plan owners) = Dumps (dump_text moment tree owners (dumping plan))
+abbrev pub plan_of_work : Tree → DumpWork → Plan
+plan_of_work tree (Script text) = Prints text.items
+plan_of_work tree (Rows plan form head) = Puts (put_of tree form head (dumping plan))
 
--- the data files are there, and none is too large
+-- the data files are there, none is too large, and none is one that is written
 abbrev pub IsReady : Tree → DumpWork → Type 0
 IsReady tree (Script text) = Unit {0}
-IsReady tree (Rows plan owners) = unready tree plan.files.items ≡ None
+IsReady tree (Rows plan form head) = (unready tree plan.files.items ≡ None) × IsClear form plan.files.items
 
 abbrev pub IsFew : DumpWork → Type 0
 IsFew (Script text) = Unit {0}
-IsFew (Rows plan owners) = length plan.files.items ≤ 200000
+IsFew (Rows plan form head) = length plan.files.items ≤ 200000

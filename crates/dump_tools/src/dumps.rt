@@ -1,37 +1,118 @@
-//! What is to be printed of a dump.
-ghost use Rattle.std.specs.Prelude.{◌≡◌, ℕ, Some, None, IfOk};
+//! What is to be put out of a dump.
+ghost use Rattle.std.specs.Prelude.{◌≡◌, ℕ, Option, Some, None, option_map, IfOk, IfSome};
 ghost use Rattle.std.specs.Result.{result_ok};
 ghost use Rattle.dump_ports.specs.Tree.{Tree};
 ghost use Rattle.tool_words.specs.Answers.{Gives, CountsRead};
-ghost use Rattle.dump_tools.specs.Due.{selected_due, script_due, whole_schemas, printed_due, chosen_due, catalogue_due, folder_due, is_printed_script, dump_due};
+ghost use Rattle.cat_model.specs.Values.{Bytes};
+ghost use Rattle.dump_plans.specs.Choosing.{select_of};
+ghost use Rattle.dump_schemas.specs.Scripts.{version};
+ghost use Rattle.dump_toc.specs.Session.{current_database};
+ghost use Rattle.dump_targets.specs.Targets.{IsOutside, IsFormOutside};
+ghost use Rattle.dump_tools.specs.Due.{selected_due, script_due, whole_schemas, printed_due, chosen_due, catalogue_due, dump_due, code_of, form_of, head_of, database_name};
 ghost use Rattle.dump_tools.specs.Works.{plan_of_work, IsReady, IsFew};
 
 use crate::dumping::dump_text;
 use cat_model::What;
-use cat_rows::Catalogue;
-use command_line::Format;
+use cat_rows::{Catalogue, DatabaseRow};
+use command_line::{Choice, Format};
 use copy_text::Text;
+use dump_outputs::DumpForm;
 use dump_plans::{DumpPlan, read_dump, select_of};
 use dump_ports::{Files, Moment};
+use dump_stmts::{empty_text, text_of};
+use dump_targets::laws::what_is_outside_is_no_data_file;
 use exports::read_formed;
 use obj_graph::Select;
 use schema_folders::{Schemas, bare_schemas};
 use std::alloc::{AllocError, Global};
+use toc_entry::Head;
 use tool_words::{DumpAsked, Outcome, is_whole_script};
 use well_formed::WellFormed;
 
-/// What is to be printed: a text, or a dump whose rows are read while it is written, with its owners or without them.
+/// What is to be put out: a text on standard output, or a dump whose rows are read while it is written, with its owners or
+/// without them, to a file or to standard output.
 #[derive(Drop)]
 pub(crate) enum DumpWork {
     Script(Vec<u8>),
-    Rows(DumpPlan, bool),
+    Rows(DumpPlan, DumpForm, Head),
 }
 
-/// Whether a script is printed.
-fn is_printed_script(asked: &DumpAsked) -> bool
-    ensures { result ≡ is_printed_script asked.now }
+/// The version that a dump tells.
+fn version(alloc: Global) -> Result<Text, AllocError>
+    ensures { IfOk result (λ text. text ≡ version) }
 {
-    asked.target.is_none() && matches!(asked.format, Format::Plain)
+    match Text::new(b"16.0".to_vec(alloc)?) {
+        Some(text) => Ok(text),
+        None => unreachable!(),
+    }
+}
+
+/// The code of the format.
+fn code_of(form: &DumpForm) -> u8
+    ensures { result ≡ code_of form.now }
+{
+    match form {
+        DumpForm::Script { .. } => 4,
+        DumpForm::Custom { .. } => 1,
+        DumpForm::Directory { .. } => 3,
+    }
+}
+
+/// The current database.
+fn current_database(cat: &Catalogue) -> Option<&DatabaseRow>
+    ensures { option_map (λ d. d.now) result ≡ current_database cat.now }
+{
+    cat.pg_database.as_slice().iter().find(|row| row.datcurrent)
+}
+
+/// The name of the current database.
+fn database_name(alloc: Global, cat: &Catalogue) -> Result<Text, AllocError>
+    ensures { IfOk result (λ name. name ≡ database_name cat.now) }
+{
+    match current_database(cat) {
+        Some(row) => text_of(alloc, row.datname.as_bytes()),
+        None => empty_text(alloc),
+    }
+}
+
+/// The head of a dump.
+fn head_of(
+    alloc: Global,
+    form: &DumpForm,
+    cat: &Catalogue,
+    moment: Moment,
+) -> Result<Head, AllocError>
+    ensures { IfOk result (λ head. head ≡ head_of (code_of form.now) (database_name cat.now) moment) }
+{
+    let dbname = database_name(alloc, cat)?;
+    let server = version(alloc)?;
+    let dumper = version(alloc)?;
+    Ok(Head {
+        major: 1,
+        minor: 15,
+        revision: 0,
+        format: code_of(form),
+        compression: 0,
+        moment,
+        dbname,
+        server,
+        dumper,
+    })
+}
+
+/// How a dump is written, and where; a folder has to be named.
+fn form_of(format: Format, target: Option<Text>, owners: bool) -> Option<DumpForm>
+    ensures exact { result ≡ form_of format target owners }
+    ensures outside { (folder : Bytes) → IsOutside folder target → IfSome result (IsFormOutside folder) }
+{
+    match format {
+        Format::Plain => Some(DumpForm::Script { target, owners }),
+        Format::Custom => Some(DumpForm::Custom { target }),
+        Format::Directory => {
+            let folder = target?;
+            Some(DumpForm::Directory { folder })
+        }
+    }
 }
 
 /// The schemas of a catalogue, where they are its only objects and all of it is asked for.
@@ -51,7 +132,7 @@ fn whole_schemas(
 
 /// The script of these schemas.
 fn schemas_work(alloc: Global, schemas: Schemas, moment: Moment) -> Result<DumpWork, Outcome>
-    ensures due { (tree : Tree) → Gives (plan_of_work moment tree) result (script_due moment schemas) }
+    ensures due { (tree : Tree) → Gives (plan_of_work tree) result (script_due moment schemas) }
     ensures ready { (tree : Tree) → IfOk result (IsReady tree) }
     ensures few { IfOk result IsFew }
     ensures count { (n : ℕ) → CountsRead result n n }
@@ -60,24 +141,50 @@ fn schemas_work(alloc: Global, schemas: Schemas, moment: Moment) -> Result<DumpW
     Ok(DumpWork::Script(text))
 }
 
-/// What is selected of a catalogue.
+/// What is selected of a catalogue, in this form.
 fn selected_work<F: Files>(
     alloc: Global,
     files: &mut F,
     folder: &Text,
     cat: &WellFormed,
     select: &Select,
-    owners: bool,
+    form: DumpForm,
+    head: Head,
 ) -> Result<DumpWork, Outcome>
-    ensures due { (tree : Tree) (moment : Moment) → F.tree files.old ≡ Some tree → Gives (plan_of_work moment tree) result (selected_due folder.now select.now owners moment cat.now tree) }
+    requires { IsFormOutside folder.now form }
+    ensures due { (tree : Tree) → F.tree files.old ≡ Some tree → Gives (plan_of_work tree) result (selected_due folder.now select.now form head cat.now tree) }
     ensures ready { (tree : Tree) → F.tree files.old ≡ Some tree → IfOk result (IsReady tree) }
     ensures few { IfOk result IsFew }
     ensures kept { F.tree files.new ≡ F.tree files.old }
     ensures read_count { CountsRead result (F.read_faults files.old) (F.read_faults files.new) }
     ensures write_count { F.write_faults files.new ≡ F.write_faults files.old }
 {
+    what_is_outside_is_no_data_file();
     let plan = read_dump(alloc, files, folder, cat, select)?;
-    Ok(DumpWork::Rows(plan, owners))
+    Ok(DumpWork::Rows(plan, form, head))
+}
+
+/// What the words choose of a catalogue, in this form.
+fn formed_work<F: Files>(
+    alloc: Global,
+    files: &mut F,
+    folder: &Text,
+    choice: Choice,
+    cat: &WellFormed,
+    form: DumpForm,
+    moment: Moment,
+) -> Result<DumpWork, Outcome>
+    requires { IsFormOutside folder.now form }
+    ensures due { (tree : Tree) → F.tree files.old ≡ Some tree → Gives (plan_of_work tree) result (selected_due folder.now (select_of choice) form (head_of (code_of form) (database_name cat.now) moment) cat.now tree) }
+    ensures ready { (tree : Tree) → F.tree files.old ≡ Some tree → IfOk result (IsReady tree) }
+    ensures few { IfOk result IsFew }
+    ensures kept { F.tree files.new ≡ F.tree files.old }
+    ensures read_count { CountsRead result (F.read_faults files.old) (F.read_faults files.new) }
+    ensures write_count { F.write_faults files.new ≡ F.write_faults files.old }
+{
+    let head = head_of(alloc, &form, cat.rows(), moment)?;
+    let select = select_of(alloc, choice)?;
+    selected_work(alloc, files, folder, cat, &select, form, head)
 }
 
 /// What is chosen of a catalogue.
@@ -86,18 +193,29 @@ fn chosen_work<F: Files>(
     files: &mut F,
     asked: DumpAsked,
     cat: &WellFormed,
+    moment: Moment,
 ) -> Result<DumpWork, Outcome>
-    ensures due { (tree : Tree) (moment : Moment) → F.tree files.old ≡ Some tree → Gives (plan_of_work moment tree) result (chosen_due asked moment cat.now tree) }
+    requires { IsOutside asked.folder asked.target }
+    ensures due { (tree : Tree) → F.tree files.old ≡ Some tree → Gives (plan_of_work tree) result (chosen_due asked moment cat.now tree) }
     ensures ready { (tree : Tree) → F.tree files.old ≡ Some tree → IfOk result (IsReady tree) }
     ensures few { IfOk result IsFew }
     ensures kept { F.tree files.new ≡ F.tree files.old }
     ensures read_count { CountsRead result (F.read_faults files.old) (F.read_faults files.new) }
     ensures write_count { F.write_faults files.new ≡ F.write_faults files.old }
 {
-    let DumpAsked { folder, choice, .. } = asked;
-    let owners = !choice.no_owner;
-    let select = select_of(alloc, choice)?;
-    selected_work(alloc, files, &folder, cat, &select, owners)
+    let DumpAsked {
+        folder,
+        choice,
+        format,
+        target,
+    } = asked;
+    match form_of(format, target, !choice.no_owner) {
+        Some(form) => formed_work(alloc, files, &folder, choice, cat, form, moment),
+        None => {
+            drop(choice);
+            Err(Outcome::OutOfProfile(What::Unbuilt))
+        }
+    }
 }
 
 /// The script of the schemas that were found, or what is chosen.
@@ -109,7 +227,8 @@ fn found_work<F: Files>(
     schemas: Option<Schemas>,
     moment: Moment,
 ) -> Result<DumpWork, Outcome>
-    ensures due { (tree : Tree) → F.tree files.old ≡ Some tree → Gives (plan_of_work moment tree) result (printed_due asked moment cat.now tree schemas) }
+    requires { IsOutside asked.folder asked.target }
+    ensures due { (tree : Tree) → F.tree files.old ≡ Some tree → Gives (plan_of_work tree) result (printed_due asked moment cat.now tree schemas) }
     ensures ready { (tree : Tree) → F.tree files.old ≡ Some tree → IfOk result (IsReady tree) }
     ensures few { IfOk result IsFew }
     ensures kept { F.tree files.new ≡ F.tree files.old }
@@ -118,7 +237,7 @@ fn found_work<F: Files>(
 {
     match schemas {
         Some(schemas) => schemas_work(alloc, schemas, moment),
-        None => chosen_work(alloc, files, asked, cat),
+        None => chosen_work(alloc, files, asked, cat, moment),
     }
 }
 
@@ -131,7 +250,8 @@ fn catalogue_work<F: Files>(
     cat: &WellFormed,
     moment: Moment,
 ) -> Result<DumpWork, Outcome>
-    ensures due { (tree : Tree) → F.tree files.old ≡ Some tree → Gives (plan_of_work moment tree) result (catalogue_due asked moment tree cat.now) }
+    requires { IsOutside asked.folder asked.target }
+    ensures due { (tree : Tree) → F.tree files.old ≡ Some tree → Gives (plan_of_work tree) result (catalogue_due asked moment tree cat.now) }
     ensures ready { (tree : Tree) → F.tree files.old ≡ Some tree → IfOk result (IsReady tree) }
     ensures few { IfOk result IsFew }
     ensures kept { F.tree files.new ≡ F.tree files.old }
@@ -142,15 +262,16 @@ fn catalogue_work<F: Files>(
     found_work(alloc, files, asked, cat, schemas, moment)
 }
 
-/// What is to be printed of a folder.
-#[tactic(auto, unfolding(crate::specs::Due::folder_due))]
-fn folder_work<F: Files>(
+/// What is to be put out of a dump that is asked for.
+#[tactic(auto, unfolding(crate::specs::Due::dump_due))]
+pub(crate) fn dump_work<F: Files>(
     alloc: Global,
     files: &mut F,
     asked: DumpAsked,
     moment: Moment,
 ) -> Result<DumpWork, Outcome>
-    ensures due { (tree : Tree) → F.tree files.old ≡ Some tree → Gives (plan_of_work moment tree) result (folder_due asked moment tree) }
+    requires { IsOutside asked.folder asked.target }
+    ensures due { (tree : Tree) → F.tree files.old ≡ Some tree → Gives (plan_of_work tree) result (dump_due asked moment tree) }
     ensures ready { (tree : Tree) → F.tree files.old ≡ Some tree → IfOk result (IsReady tree) }
     ensures few { IfOk result IsFew }
     ensures kept { F.tree files.new ≡ F.tree files.old }
@@ -159,26 +280,4 @@ fn folder_work<F: Files>(
 {
     let cat = read_formed(alloc, files, &asked.folder)?;
     catalogue_work(alloc, files, asked, &cat, moment)
-}
-
-/// What is to be printed of a dump that is asked for.
-#[tactic(auto, unfolding(crate::specs::Due::dump_due))]
-pub(crate) fn dump_work<F: Files>(
-    alloc: Global,
-    files: &mut F,
-    asked: DumpAsked,
-    moment: Moment,
-) -> Result<DumpWork, Outcome>
-    ensures due { (tree : Tree) → F.tree files.old ≡ Some tree → Gives (plan_of_work moment tree) result (dump_due asked moment tree) }
-    ensures ready { (tree : Tree) → F.tree files.old ≡ Some tree → IfOk result (IsReady tree) }
-    ensures few { IfOk result IsFew }
-    ensures kept { F.tree files.new ≡ F.tree files.old }
-    ensures read_count { CountsRead result (F.read_faults files.old) (F.read_faults files.new) }
-    ensures write_count { F.write_faults files.new ≡ F.write_faults files.old }
-{
-    if is_printed_script(&asked) {
-        folder_work(alloc, files, asked, moment)
-    } else {
-        Err(Outcome::OutOfProfile(What::Unbuilt))
-    }
 }

@@ -12,6 +12,7 @@ ghost use Rattle.tool_words.specs.Messages.{outcome_line};
 ghost use Rattle.schema_folders.specs.Statements.{are_taken};
 ghost use Rattle.exports.specs.Exports.{export_of};
 ghost use Rattle.openings.specs.Openings.{export_named, opened_folder};
+ghost use Rattle.dump_targets.specs.Targets.{IsOutside};
 ghost use Rattle.dump_tools.specs.Due.{IsFinal, IsCarriedOut, answer_of, dump_due, second_due, compare_due, IsUnequal, due, IsAnswerDue, WasDue, counts, NoneRose, Counted, CountsStep};
 ghost use Rattle.dump_tools.specs.Inputs.{where_read, TellsLeft};
 ghost use Rattle.dump_tools.specs.Outputs.{world};
@@ -19,13 +20,14 @@ ghost use Rattle.dump_tools.specs.Works.{plan_of_work, IsReady, IsFew};
 ghost use Rattle.dump_tools.specs.Runs.{IsEarly, read_by, StepTakes, HasCut, Ended, Answered};
 
 use crate::dumps::{DumpWork, dump_work};
-use crate::printing::print_dump;
+use crate::printing::put_dump;
 use crate::psql::psql;
 use crate::restoring::pg_restore;
 use cat_model::Key;
 use cat_same::{Verdict, compare_maps};
 use copy_text::Text;
 use dump_ports::{Failed, Files, Gate, Moment, Sink, Source};
+use dump_targets::laws::a_dump_is_written_outside_of_its_folder;
 use exports::{Export, read_export};
 use openings::{Opening, open_export, read_opening};
 use same_folders::{have_one_opening, opens_alike};
@@ -57,31 +59,30 @@ pub(crate) fn write_report<S: Sink>(
     }
 }
 
-/// Prints what is to be printed of a dump.
-fn print_work<F: Files, O: Sink, E: Sink>(
+/// Puts out what is to be put out of a dump.
+fn put_work<F: Files, O: Sink, E: Sink>(
     alloc: Global,
     files: &mut F,
     out: &mut O,
     err: &mut E,
     work: &DumpWork,
-    moment: Moment,
 ) -> Result<Outcome, Outcome>
     requires { IsFew work.now }
     ensures ends { IfOk result IsFinal }
     ensures early { IfErr result IsEarly }
-    ensures answers { (tree : Tree) → F.tree files.old ≡ Some tree → IsReady tree work.now → IfOk result (λ answer. answer ≡ answer_of (plan_of_work moment tree work.now)) }
-    ensures ok { (tree : Tree) → F.tree files.old ≡ Some tree → IsReady tree work.now → OnOk result (IsCarriedOut (plan_of_work moment tree work.now) (F.tree files.old) (F.tree files.new) (O.written out.old) (O.written out.new) (E.written err.old) (E.written err.new)) }
+    ensures answers { (tree : Tree) → F.tree files.old ≡ Some tree → IsReady tree work.now → IfOk result (λ answer. answer ≡ answer_of (plan_of_work tree work.now)) }
+    ensures ok { (tree : Tree) → F.tree files.old ≡ Some tree → IsReady tree work.now → OnOk result (IsCarriedOut (plan_of_work tree work.now) (F.tree files.old) (F.tree files.new) (O.written out.old) (O.written out.new) (E.written err.old) (E.written err.new)) }
     ensures silent { IfErr result (λ outcome. IsTold outcome → E.written err.new ≡ E.written err.old) }
-    ensures cut { (tree : Tree) → F.tree files.old ≡ Some tree → IsReady tree work.now → OnErr result ((teller : Teller) (left : Option (List ℕ)) → HasCut None teller (Ok (plan_of_work moment tree work.now)) (world (F.tree files.old) left (O.written out.old) (E.written err.old)) (world (F.tree files.new) left (O.written out.new) (E.written err.new))) }
+    ensures cut { (tree : Tree) → F.tree files.old ≡ Some tree → IsReady tree work.now → OnErr result ((teller : Teller) (left : Option (List ℕ)) → HasCut None teller (Ok (plan_of_work tree work.now)) (world (F.tree files.old) left (O.written out.old) (E.written err.old)) (world (F.tree files.new) left (O.written out.new) (E.written err.new))) }
     ensures counted { (inputs : ℕ) → CountsStep result (counts (F.read_faults files.old) inputs (F.write_faults files.old) (O.faults out.old) (E.faults err.old)) (counts (F.read_faults files.new) inputs (F.write_faults files.new) (O.faults out.new) (E.faults err.new)) }
 {
     match work {
         DumpWork::Script(text) => write_report(out, text, Outcome::Done),
-        DumpWork::Rows(plan, owners) => print_dump(alloc, files, out, err, plan, *owners, moment),
+        DumpWork::Rows(plan, form, head) => put_dump(alloc, files, out, err, form, head, plan),
     }
 }
 
-/// Prints the dump of a folder.
+/// Puts the dump of a folder where it is asked for.
 fn pg_dump<F: Files, O: Sink, E: Sink>(
     alloc: Global,
     files: &mut F,
@@ -90,6 +91,7 @@ fn pg_dump<F: Files, O: Sink, E: Sink>(
     asked: DumpAsked,
     moment: Moment,
 ) -> Result<Outcome, Outcome>
+    requires { IsOutside asked.folder asked.target }
     ensures ends { IfOk result IsFinal }
     ensures done { IfOk result (λ answer. (tree : Tree) → F.tree files.old ≡ Some tree → WasDue (dump_due asked moment tree) answer (F.tree files.old) (F.tree files.new) (O.written out.old) (O.written out.new) (E.written err.old) (E.written err.new)) }
     ensures refused { IfErr result (λ outcome. (tree : Tree) → F.tree files.old ≡ Some tree → IsDue outcome (dump_due asked moment tree)) }
@@ -100,7 +102,7 @@ fn pg_dump<F: Files, O: Sink, E: Sink>(
     ensures counted { (inputs : ℕ) → CountsStep result (counts (F.read_faults files.old) inputs (F.write_faults files.old) (O.faults out.old) (E.faults err.old)) (counts (F.read_faults files.new) inputs (F.write_faults files.new) (O.faults out.new) (E.faults err.new)) }
 {
     let work = dump_work(alloc, files, asked, moment)?;
-    print_work(alloc, files, out, err, &work, moment)
+    put_work(alloc, files, out, err, &work)
 }
 
 /// Compares what two folders stand for by names, with the rows of their tables.
@@ -249,6 +251,7 @@ fn perform<F: Files, I: Source, O: Sink, E: Sink>(
     ensures silent { IfErr result (λ outcome. IsTold outcome → E.written err.new ≡ E.written err.old) }
     ensures counted { CountsStep result (counts (F.read_faults files.old) (I.faults input.old) (F.write_faults files.old) (O.faults out.old) (E.faults err.old)) (counts (F.read_faults files.new) (I.faults input.new) (F.write_faults files.new) (O.faults out.new) (E.faults err.new)) }
 {
+    a_dump_is_written_outside_of_its_folder();
     let asked = read_asked(alloc, words)?;
     match asked {
         Asked::Psql {

@@ -13,9 +13,10 @@ A folder holds one database: a COPY file for each system table and each table of
 
 Tools:
   psql        applies a script to a folder
-  pg_dump     writes a folder as a script
+  pg_dump     writes a folder as a script or an archive
+  pg_restore  writes the list or the script of an archive
   pg_catcmp   compares two folders
-  pg_restore, pg_dumpall, pg_clone, pg_gen
+  pg_dumpall, pg_clone, pg_gen
               read their words, and are not built yet
 
 pgtools TOOL --help tells the options of a tool.
@@ -37,7 +38,7 @@ Without -f, or with -f -, the script is standard input.
 A refused statement changes nothing; its line stands on standard error.
 ";
 
-const PG_DUMP: &str = "pg_dump writes a folder as a script
+const PG_DUMP: &str = "pg_dump writes a folder as a script or an archive
 
 Usage: pgtools pg_dump [OPTION]... [FOLDER]
 
@@ -53,8 +54,6 @@ Usage: pgtools pg_dump [OPTION]... [FOLDER]
       --section=pre-data|data|post-data
       --strict-names    each pattern has to hit
   -Z, --compress=0|none
-
-Built so far: scripts, to standard output.
 ";
 
 const PG_RESTORE: &str = "pg_restore restores an archive into a folder, or shows it
@@ -72,7 +71,7 @@ Usage: pgtools pg_restore [OPTION]... [ARCHIVE]
   -n, --schema=NAME   -N, --exclude-schema=NAME   -t, --table=NAME
   -O, --no-owner   -x, --no-privileges   --no-comments
 
-Not built yet.
+Built so far: lists and scripts.
 ";
 
 const PG_DUMPALL: &str = "pg_dumpall writes the roles and the database of a folder as a script

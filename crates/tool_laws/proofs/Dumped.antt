@@ -1,10 +1,9 @@
 -- What pg_dump prints of a folder of schemas.
-use Rattle.std.proofs.Common.{◌≡◌, ℕ, Bool, true, false, cond, List, map, Option, None, Result, Ok, Err, sym, ap, ◌∙◌}
+use Rattle.std.proofs.Common.{◌≡◌, ℕ, Bool, true, false, cond, List, map, Option, None, Result, Ok, Err, not, sym, ap, ◌∙◌}
 use Rattle.std.specs.Result.{result_ok}
 use Rattle.dump_ports.specs.Tree.{Tree}
 use Rattle.dump_ports.specs.declared.moment.Moment.{Moment}
 use Rattle.cat_model.specs.Values.{Bytes}
-use Rattle.cat_model.specs.declared.words.What.TheVariants.{Unbuilt}
 use Rattle.cat_rows.specs.declared.catalogue.Catalogue.{Catalogue}
 use Rattle.cat_names.specs.DataSets.{TextsByOid}
 use Rattle.well_formed.specs.Catalogues.{catalogue_fault}
@@ -14,10 +13,10 @@ use Rattle.folder_rows.specs.Reading.{data_of}
 use Rattle.toc_entry.specs.declared.entry.Entry.{Entry}
 use Rattle.dump_schemas.specs.Toc.{toc_due}
 use Rattle.dump_schemas.specs.Scripts.{script_of as dumped_script}
+use Rattle.dump_outputs.specs.declared.form.DumpForm.{DumpForm}
 use Rattle.dump_plans.specs.Choosing.{select_of}
 use Rattle.dump_plans.specs.Plans.{dumping_of}
 use Rattle.tool_words.specs.declared.outcome.Outcome.{Outcome}
-use Rattle.tool_words.specs.declared.outcome.Outcome.TheVariants.{OutOfProfile}
 use Rattle.tool_words.specs.declared.words.DumpAsked.{DumpAsked}
 use Rattle.tool_words.specs.Answers.{◌>>=◌}
 use Rattle.tool_words.specs.Words.{is_whole_script}
@@ -26,7 +25,7 @@ use Rattle.exports.specs.Exports.{Exported, told, well_formed, have_rows, export
 use Rattle.schema_folders.specs.declared.schemas.SchemaRow.{SchemaRow}
 use Rattle.schema_folders.specs.Folder.{opening_in, opening_of}
 use Rattle.schema_folders.specs.Naming.{boot}
-use Rattle.dump_tools.specs.Due.{Plan, Prints, database, dump_row, counted, script_due, chosen_due, printed_due, is_printed_script, catalogue_due, folder_due, dump_due}
+use Rattle.dump_tools.specs.Due.{Plan, Prints, database, dump_row, counted, script_due, form_of, formed_due, chosen_due, printed_due, catalogue_due, dump_due}
 use Rattle.tool_laws.proofs.Opened.{bind_ok}
 
 -- the catalogue of an export is the one that pg_dump reads
@@ -49,15 +48,21 @@ printed script text (Ok entries) e = cc
 printed script text (Err n) e = absurd cc
 
 -- what is chosen isn't printed as a text
-none_chosen : (asked : DumpAsked) (moment : Moment) (cat : Catalogue) (tree : Tree) (text : Bytes) → chosen_due asked moment cat tree ≡ Ok (Prints text) → ⊥
-none_chosen asked moment cat tree text e =
+none_formed : (asked : DumpAsked) (form : Option DumpForm) (moment : Moment) (cat : Catalogue) (tree : Tree) (text : Bytes) → formed_due asked form moment cat tree ≡ Ok (Prints text) → ⊥
+none_formed asked None moment cat tree text e = cc
+none_formed asked (Some form) moment cat tree text e =
     let dump = bind_ok (dumping_of asked.folder (select_of asked.choice) cat tree) _ (Prints text) e in
     let h = dump.2 in cc
 
+none_chosen : (asked : DumpAsked) (moment : Moment) (cat : Catalogue) (tree : Tree) (text : Bytes) → chosen_due asked moment cat tree ≡ Ok (Prints text) → ⊥
+none_chosen asked moment cat tree text e = none_formed asked (form_of asked.format asked.target (not asked.choice.no_owner)) moment cat tree text e
+
 -- a text that is printed is the script of the schemas
 pub dumped : (asked : DumpAsked) (moment : Moment) (first : Tree) (rows : List SchemaRow) (text : Bytes) → opening_of asked.folder first ≡ Ok rows → dump_due asked moment first ≡ Ok (Prints text) → dumped_script database boot moment (map dump_row rows) ≡ text
-unfolding dump_due folder_due catalogue_due opening_of
-dumped asked moment first rows text opened e = printing (is_printed_script asked) e
+unfolding dump_due catalogue_due opening_of
+dumped asked moment first rows text opened e =
+    whole (is_whole_script asked)
+    (ap (λ (r : Result Catalogue Outcome). r >>= catalogue_due asked moment first) (sym (export_formed asked.folder first export.0 export.1)) ∙ e)
   where
     export : (x : Exported) × (export_of asked.folder first ≡ Ok x) × (opening_in x.cat ≡ Ok rows)
     export = bind_ok (export_of asked.folder first) (λ x. opening_in x.cat) rows opened
@@ -67,9 +72,3 @@ dumped asked moment first rows text opened e = printing (is_printed_script asked
         printed (dumped_script database boot moment (map dump_row rows)) text (toc_due database boot (map dump_row rows))
         (ap (λ (r : Result (List SchemaRow) Outcome). printed_due asked moment export.0.cat first (result_ok r)) (sym export.2) ∙ h)
     whole false h = elim (none_chosen asked moment export.0.cat first text h) [ ]
-
-    printing : (b : Bool) → cond {A = Result Plan Outcome} b (formed_of asked.folder first >>= catalogue_due asked moment first) (Err (OutOfProfile Unbuilt)) ≡ Ok (Prints text) → dumped_script database boot moment (map dump_row rows) ≡ text
-    printing true h =
-        whole (is_whole_script asked)
-        (ap (λ (r : Result Catalogue Outcome). r >>= catalogue_due asked moment first) (sym (export_formed asked.folder first export.0 export.1)) ∙ h)
-    printing false h = absurd cc

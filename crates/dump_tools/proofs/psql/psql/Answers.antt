@@ -1,4 +1,4 @@
-use Rattle.std.proofs.Common.{None, Ok, Result, inl, refl, sym, subst, ◌∙◌}
+use Rattle.std.proofs.Common.{None, Result, inl, refl, sym, subst, ◌∙◌}
 use Rattle.std.proofs.lemmas.Result.{IfOk-weaker, IfErr-weaker, on_err_weaker, err_from_is_err_and}
 use Rattle.tool_words.specs.declared.outcome.Outcome.{Outcome}
 use Rattle.tool_words.proofs.Lining.{always_err}

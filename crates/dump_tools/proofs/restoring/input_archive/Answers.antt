@@ -1,4 +1,3 @@
-use Rattle.std.proofs.Common.{Err, refl, ◌∙◌}
 use Rattle.std.proofs.lemmas.Result.{err_from_is_err_and}
 use Rattle.tool_words.specs.declared.outcome.Limit.TheVariants.{Archive as ArchiveLimit}
 use Rattle.dump_tools.proofs.Archives.{input_read, input_refused}

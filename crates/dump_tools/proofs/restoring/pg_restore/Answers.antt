@@ -1,7 +1,8 @@
-use Rattle.std.proofs.Common.{None, refl, ◌∙◌}
+use Rattle.std.proofs.Common.{None, refl}
 use Rattle.std.proofs.lemmas.Result.{IfOk-weaker, IfErr-weaker, on_err_weaker, err_from_is_err_and}
 use Rattle.tool_words.proofs.Lining.{always_err}
-use Rattle.dump_tools.specs.Due.{Puts, one_piece}
+use Rattle.dump_outputs.specs.Forms.{one_piece}
+use Rattle.dump_tools.specs.Due.{Puts}
 use Rattle.dump_tools.proofs.Archives.{restore_read, restore_refused}
 use Rattle.dump_tools.proofs.Counting.{step_behind}
 use Rattle.dump_tools.proofs.Ending.{both_ok, early_due}
@@ -42,7 +43,7 @@ returns-clause-counted g c = λ lines.
 pub returns-clause-done : goal.returns-clause-done
 returns-clause-done g c =
     IfOk-weaker c.put_text.result _ _ (λ answer h tree bytes told known tells. record {
-      plan = Puts (one_piece c.args.asked.now.target c.in_ok-text.text.items);
+      plan = Puts (one_piece c.args.asked.now.target c.in_ok-text.text.items None);
       is_due = restore_read c.args.asked.now tree bytes c.in_ok-text.text.items (c.in_ok-text.ensures.due tree bytes known tells);
       answers = h.0;
       carried = rw c.in_ok-text.ensures.kept at (rw c.deref.ensures.value at (h.1 told));

@@ -1,4 +1,4 @@
-use Rattle.std.proofs.Common.{None, refl, ap, subst, ◌∙◌}
+use Rattle.std.proofs.Common.{None, Ok, refl, ap, subst, ◌∙◌}
 use Rattle.std.proofs.lemmas.Result.{on_err_weaker, err_from_is_err_and}
 use Rattle.tool_words.specs.declared.words.Asked.{Asked}
 use Rattle.tool_words.specs.Words.{asks_for_input}
@@ -56,3 +56,7 @@ returns-in-Compare-clause-cut g c =
     let reads = reads_asked c.args.words.now c.in_ok-asked.asked c.in_ok-asked.ensures.due ∙ ap asks_for_input c.in-Compare.is in
     always_err c.pg_catcmp.result (λ teller tree bytes known tells.
     cut_due teller _ None _ _ _ _ (ap (λ b. where_read b bytes) reads) refl (cut_kept teller _ _ _ _ _ _ c.pg_catcmp.ensures.kept))
+
+-- the words don't ask for a dump into its folder
+pub pg_dump-requires : goal.pg_dump-requires
+pg_dump-requires g c = c.a_dump_is_written_outside_of_its_folder.ensures c.args.words.now c.in-Dump.asked (c.in_ok-asked.ensures.due ∙ ap (λ (a : Asked). Ok a) c.in-Dump.is)
