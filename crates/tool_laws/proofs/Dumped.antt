@@ -1,5 +1,5 @@
 -- What pg_dump prints of a folder of schemas.
-use Rattle.std.proofs.Common.{◌≡◌, ℕ, Bool, true, false, cond, List, map, Option, None, Result, Ok, Err, not, sym, ap, ◌∙◌}
+use Rattle.std.proofs.Common.{◌≡◌, ℕ, Bool, true, false, cond, List, map, Option, None, Some, Result, Ok, Err, not, sym, ap, ◌∙◌}
 use Rattle.std.specs.Result.{result_ok}
 use Rattle.dump_ports.specs.Tree.{Tree}
 use Rattle.dump_ports.specs.declared.moment.Moment.{Moment}
@@ -25,7 +25,7 @@ use Rattle.exports.specs.Exports.{Exported, told, well_formed, have_rows, export
 use Rattle.schema_folders.specs.declared.schemas.SchemaRow.{SchemaRow}
 use Rattle.schema_folders.specs.Folder.{opening_in, opening_of}
 use Rattle.schema_folders.specs.Naming.{boot}
-use Rattle.dump_tools.specs.Due.{Plan, Prints, database, dump_row, counted, script_due, form_of, formed_due, chosen_due, printed_due, catalogue_due, dump_due}
+use Rattle.dump_tools.specs.Due.{Prints, database, dump_row, counted, form_of, formed_due, chosen_due, printed_due, catalogue_due, dump_due}
 use Rattle.tool_laws.proofs.Opened.{bind_ok}
 
 -- the catalogue of an export is the one that pg_dump reads

@@ -1,5 +1,5 @@
 -- The schemas of a folder that was read as an opening.
-use Rattle.std.proofs.Common.{◌≡◌, ℕ, suc, Bool, true, false, cond, not, ◌||◌, ◌==◌, List, [], ◌∷◌, ◌++◌, map, filter_map, take, Option, Some, None, Result, Ok, Err, option_and_then, refl, sym, ap, subst, ◌∙◌}
+use Rattle.std.proofs.Common.{◌≡◌, ℕ, suc, Bool, true, false, cond, not, ◌||◌, ◌==◌, List, [], ◌∷◌, ◌++◌, map, filter_map, Option, Some, None, Result, Ok, Err, option_and_then, refl, sym, ap, subst, ◌∙◌}
 use Rattle.std.specs.List.{AllByRecursion, IsDistinct, slice_get}
 use Rattle.copy_text.specs.Texts.{IsName}
 use Rattle.dump_ports.specs.Tree.{Tree}
@@ -9,7 +9,6 @@ use Rattle.cat_rows.specs.declared.fault.TableFault.{TableFault}
 use Rattle.cat_rows.specs.declared.catalogue.Catalogue.{Catalogue}
 use Rattle.cat_rows.specs.declared.cell.Cell.{Cell}
 use Rattle.cat_rows.specs.declared.cell.Cell.TheVariants as cell
-use Rattle.cat_rows.specs.declared.roles.AuthidRow.{AuthidRow}
 use Rattle.cat_rows.specs.declared.schemas.NamespaceRow.{NamespaceRow}
 use Rattle.cat_rows.specs.Cells.{IsCell}
 use Rattle.cat_rows.specs.Reading.{table_of}

@@ -1,5 +1,5 @@
 -- What psql has to do where a folder's only objects are schemas and the statements are all of schemas.
-use Rattle.std.proofs.Common.{◌≡◌, ℕ, Bool, true, false, cond, not, ◌&&◌, List, Option, Some, None, Result, Ok, Err, refl, sym, ap, subst, ◌∙◌}
+use Rattle.std.proofs.Common.{◌≡◌, Bool, true, false, cond, not, ◌&&◌, List, Option, Some, None, Result, Ok, Err, refl, ap, subst, ◌∙◌}
 use Rattle.std.specs.Result.{result_ok}
 use Rattle.dump_ports.specs.Tree.{Tree}
 use Rattle.cat_rows.specs.declared.catalogue.Catalogue.{Catalogue}
@@ -23,7 +23,7 @@ use Rattle.schema_folders.specs.declared.schemas.SchemaRow.{SchemaRow}
 use Rattle.schema_folders.specs.Folder.{opening_in, opening_of, schemas_alone}
 use Rattle.schema_folders.specs.Statements.{are_taken, script_of}
 use Rattle.schema_folders.specs.Statements.{scripted as taken_of}
-use Rattle.dump_tools.specs.Due.{Plan, Application, Applies, Running, Runs, scripted, script_read, schemas_for, runs_as, running, plan_with, plan_for, source_of, text_due, psql_due}
+use Rattle.dump_tools.specs.Due.{Application, Applies, scripted, script_read, schemas_for, runs_as, running, plan_with, plan_for, source_of, text_due, psql_due}
 use Rattle.tool_laws.proofs.Opened.{bind_ok}
 
 -- ---- a script of schemas

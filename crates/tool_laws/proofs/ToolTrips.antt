@@ -1,18 +1,14 @@
 -- What pg_dump prints of a folder, applied by psql to a fresh one.
-use Rattle.std.proofs.Common.{◌≡◌, ℕ, false, List, [], ◌++◌, length, drop, map, Option, Some, None, option_map, Result, Ok, Err, refl, sym, ap, subst, ◌∙◌}
+use Rattle.std.proofs.Common.{◌≡◌, ℕ, false, List, [], ◌++◌, length, drop, map, Option, Some, None, option_map, Result, Ok, refl, sym, ap, subst, ◌∙◌}
 use Rattle.dump_ports.specs.Tree.{Tree}
 use Rattle.dump_ports.specs.declared.moment.Moment.{Moment}
-use Rattle.toc_entry.specs.declared.entry.Entry.{Entry}
 use Rattle.cat_model.specs.Values.{Bytes}
-use Rattle.ddl_read.specs.declared.located.Located.{Located}
 use Rattle.dump_schemas.specs.Scripts.{script_of as dumped_script}
-use Rattle.dump_schemas.specs.Toc.{toc_due}
 use Rattle.schema_folders.specs.declared.schemas.SchemaRow.{SchemaRow}
 use Rattle.tool_words.specs.declared.words.ScriptSource.{ScriptSource}
 use Rattle.tool_words.specs.Words.{is_input}
 use Rattle.tool_words.specs.declared.outcome.Outcome.{Outcome}
-use Rattle.tool_words.specs.Answers.{◌>>=◌}
-use Rattle.dump_tools.specs.Due.{Plan, Application, Applies, Prints, source_of, psql_due, database, dump_row, report_of}
+use Rattle.dump_tools.specs.Due.{Plan, Application, psql_due, database, dump_row, report_of}
 use Rattle.tool_laws.proofs.Dumped.{dumped}
 use Rattle.dump_tools.specs.Inputs.{where_read, HasTaken}
 use Rattle.dump_tools.specs.Outputs.{World, world, Output, all_performed}

@@ -19,7 +19,7 @@ use Rattle.cat_model.specs.KeyLaws.{key_cmp_total, key_cmp-IsAntisymmetric}
 use Rattle.cat_model.specs.Grants.{owner_only, schema_rights}
 use Rattle.cat_model.specs.declared.value.Value.TheVariants as value
 use Rattle.cat_model.specs.declared.value.Value.{Value}
-use Rattle.cat_model.specs.Values.{Bytes, bytes_cmp, Named}
+use Rattle.cat_model.specs.Values.{Bytes, bytes_cmp}
 use Rattle.cat_names.specs.Grants.{grants_of}
 use Rattle.cat_names.specs.Lookups.{role_name}
 use Rattle.cat_names.specs.Naming.{Entry, schema_entries}

@@ -1,5 +1,5 @@
 -- What a script leaves: the schemas that were there and those that were made, in a folder that is an export.
-use Rattle.std.proofs.Common.{◌≡◌, ℕ, Bool, false, refl, ◌≤◌, List, [], ◌∷◌, ◌++◌, map, Ok, Result, subst, ap, ◌∙◌, arith}
+use Rattle.std.proofs.Common.{◌≡◌, ℕ, Bool, false, refl, ◌≤◌, List, [], ◌∷◌, ◌++◌, map, Ok, Result, ap, ◌∙◌, arith}
 use Rattle.std.specs.FinMap.{nat_cmp-IsAntisymmetric}
 use Rattle.std.specs.declared.cmp.Ordering.{Ordering}
 use Rattle.std.specs.declared.cmp.Ordering.TheVariants.{Less, Equal, Greater}
@@ -21,7 +21,7 @@ use Rattle.exports.specs.Exports.{Exported, export_of}
 use Rattle.tool_words.specs.Answers.{◌>>=◌}
 use Rattle.tool_words.specs.declared.words.ScriptSource.{ScriptSource}
 use Rattle.tool_words.specs.declared.outcome.Outcome.{Outcome}
-use Rattle.dump_tools.specs.Due.{Plan, Application, Applies, Comes, source_of, script_read, plan_for, text_due, psql_due}
+use Rattle.dump_tools.specs.Due.{Application, Applies, Comes, source_of, script_read, plan_for, text_due, psql_due}
 use Rattle.tool_laws.proofs.Planning.{planned_rows}
 use Rattle.tool_laws.specs.Opening.{AreSchemas, WereRead}
 use Rattle.tool_laws.proofs.Opened.{bind_ok}
