@@ -6,7 +6,7 @@ use copy_text::Name;
 use std::marker::Model;
 
 /// What one role, or PUBLIC, was granted by another.
-#[derive(Debug, Drop)]
+#[derive(Drop)]
 pub struct AclItem {
     /// Who has the rights; `None` is PUBLIC.
     pub grantee: Option<Name>,
@@ -17,7 +17,7 @@ pub struct AclItem {
 }
 
 /// A list of rights. A contract sees it as the list of its items.
-#[derive(Debug, Drop)]
+#[derive(Drop)]
 pub struct Acl {
     items: Vec<AclItem>,
 }

@@ -4,7 +4,7 @@ ghost use Rattle.std.specs.Prelude.{◌≡◌};
 use std::marker::Model;
 
 /// A right on an object, in the order in which PostgreSQL writes their letters.
-#[derive(Clone, Copy, Debug, PartialEq, Eq)]
+#[derive(Clone, Copy)]
 pub enum Privilege {
     /// `a`: INSERT.
     Insert,
@@ -27,7 +27,7 @@ pub enum Privilege {
 }
 
 /// A right as it was granted.
-#[derive(Clone, Copy, Debug, PartialEq, Eq)]
+#[derive(Clone, Copy)]
 pub struct Right {
     /// The right.
     pub privilege: Privilege,
@@ -36,7 +36,7 @@ pub struct Right {
 }
 
 /// Rights in the order of their letters. A contract sees them as a list.
-#[derive(Debug, Drop)]
+#[derive(Drop)]
 pub struct Rights {
     rights: Vec<Right>,
 }

@@ -13,7 +13,7 @@ use toc_entry::Entry;
 const BETWEEN: &str = " / ";
 
 /// The format in which an archive's bytes are read.
-#[derive(Clone, Copy, Debug, PartialEq, Eq)]
+#[derive(Clone, Copy)]
 enum Format {
     /// A custom archive.
     Custom,

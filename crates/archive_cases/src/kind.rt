@@ -1,7 +1,7 @@
 //! The kinds of cases of archives.
 
 /// What the cases of a block are of.
-#[derive(Clone, Copy, Debug, PartialEq, Eq)]
+#[derive(Clone, Copy)]
 pub enum ArchiveKind {
     /// Whole archives: what they hold, and what changes of them answer.
     Archive,

@@ -65,7 +65,7 @@ impl<'a> RowKeys<'a> {
 }
 
 /// The conditions beside a catalogue that a row doesn't meet.
-#[derive(Debug, Drop)]
+#[derive(Drop)]
 pub struct Unmet {
     /// An oid leads to no row of the right kind, or a row that the row needs isn't there.
     pub dangles: bool,

@@ -22,7 +22,7 @@ use table_rows::table_oids;
 use well_formed::WellFormed;
 
 /// The rows of a table that don't meet it.
-#[derive(Debug, Drop)]
+#[derive(Drop)]
 pub struct LoadFault {
     /// The table's oid.
     pub table: u32,
@@ -31,7 +31,7 @@ pub struct LoadFault {
 }
 
 /// Why a catalogue with its rows isn't taken in.
-#[derive(Debug, Drop)]
+#[derive(Drop)]
 pub enum LoadError {
     /// The rows of a table don't meet it; the first table by its oid.
     Fault(LoadFault),

@@ -4,7 +4,7 @@ use copy_text::{CopyFault, Name};
 
 /// Why a statement is refused. Rows, columns and fields count from 1; a column is its number among the
 /// table's columns, and a row is a row of the text, but in `Duplicate` a row of the table as it would be.
-#[derive(Debug, Clone, PartialEq, Eq, Drop)]
+#[derive(Drop)]
 pub enum Cause {
     /// What would be made is there already.
     Exists(Key),

@@ -6,7 +6,7 @@ use crate::object::QName;
 use copy_text::Name;
 
 /// Some of the keys, together with those that aren't there yet.
-#[derive(Debug, Clone, PartialEq, Eq, Drop)]
+#[derive(Drop)]
 pub enum Class {
     /// The constraints of a table.
     Constraints(QName),
@@ -21,7 +21,7 @@ pub enum Class {
 }
 
 /// What a statement reads or writes: one key, or the keys of a class.
-#[derive(Debug, Clone, PartialEq, Eq, Drop)]
+#[derive(Drop)]
 pub enum Mark {
     /// A key.
     Key(Key),

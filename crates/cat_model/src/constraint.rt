@@ -1,7 +1,7 @@
 //! Kinds of constraints and sequences.
 
 /// What a constraint of a table is.
-#[derive(Debug, Clone, Copy, PartialEq, Eq)]
+#[derive(Clone, Copy)]
 pub enum ConstraintKind {
     /// A primary key.
     Primary,
@@ -14,7 +14,7 @@ pub enum ConstraintKind {
 }
 
 /// The type of a sequence's numbers.
-#[derive(Debug, Clone, Copy, PartialEq, Eq)]
+#[derive(Clone, Copy)]
 pub enum SequenceKind {
     /// 16 bits.
     SmallInt,
@@ -25,7 +25,7 @@ pub enum SequenceKind {
 }
 
 /// The encoding of a database.
-#[derive(Debug, Clone, Copy, PartialEq, Eq)]
+#[derive(Clone, Copy)]
 pub enum Encoding {
     /// UTF-8.
     Utf8,

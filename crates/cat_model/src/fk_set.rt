@@ -6,7 +6,7 @@ use std::alloc::{AllocError, Global};
 use std::marker::Model;
 
 /// Pairs of a table and a parent of one of its foreign keys. A contract sees them as the list of the pairs.
-#[derive(Debug, Drop)]
+#[derive(Drop)]
 pub struct FkSet {
     pairs: Vec<(QName, QName)>,
 }

@@ -3,7 +3,7 @@ use crate::class::Mark;
 use crate::items::Items;
 
 /// What a statement reads and what it writes.
-#[derive(Debug, Clone, PartialEq, Eq, Drop)]
+#[derive(Drop)]
 pub struct Footprint {
     /// What it reads.
     pub reads: Items<Mark>,

@@ -3,7 +3,7 @@ use crate::object::QName;
 use copy_text::Name;
 
 /// A set of rights.
-#[derive(Debug, Clone, Copy, PartialEq, Eq)]
+#[derive(Clone, Copy, PartialEq, Eq)]
 pub struct Rights {
     /// SELECT.
     pub select: bool,
@@ -26,7 +26,7 @@ pub struct Rights {
 }
 
 /// Whom rights are granted to.
-#[derive(Debug, Clone, PartialEq, Eq, Drop)]
+#[derive(Drop)]
 pub enum Grantee {
     /// Every role.
     Public,
@@ -35,7 +35,7 @@ pub enum Grantee {
 }
 
 /// What rights are granted on, as the statement says it.
-#[derive(Debug, Clone, PartialEq, Eq, Drop)]
+#[derive(Drop)]
 pub enum Granted {
     /// A table or a view.
     Table(QName),
@@ -48,7 +48,7 @@ pub enum Granted {
 }
 
 /// What gets an owner, as the statement says it.
-#[derive(Debug, Clone, PartialEq, Eq, Drop)]
+#[derive(Drop)]
 pub enum Owned {
     /// A schema.
     Schema(Name),
@@ -67,7 +67,7 @@ pub enum Owned {
 }
 
 /// What gets a comment, as the statement says it.
-#[derive(Debug, Clone, PartialEq, Eq, Drop)]
+#[derive(Drop)]
 pub enum Commented {
     /// A schema.
     Schema(Name),

@@ -11,7 +11,7 @@ use std::alloc::AllocError;
 use std::cmp::Ordering;
 
 /// Who has rights on an object; they are ordered as they are listed, roles by their names' bytes.
-#[derive(Debug, Drop)]
+#[derive(Drop)]
 pub enum Holder {
     /// Its owner, whoever that is.
     Owner,
@@ -22,7 +22,7 @@ pub enum Holder {
 }
 
 /// The rights that one has on an object.
-#[derive(Debug, Clone, Copy, PartialEq, Eq)]
+#[derive(Clone, Copy, PartialEq, Eq)]
 pub struct Item {
     /// All of them.
     pub rights: Rights,

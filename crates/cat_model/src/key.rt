@@ -7,7 +7,7 @@ use copy_text::Name;
 use std::alloc::AllocError;
 
 /// What the catalogue by names is keyed by: 16 kinds, each object by its path.
-#[derive(Debug, Hash, Drop)]
+#[derive(Hash, Drop)]
 pub enum Key {
     /// A role.
     Role(Name),

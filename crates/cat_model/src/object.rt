@@ -5,7 +5,7 @@ use copy_text::Name;
 use std::alloc::AllocError;
 
 /// The path of an object in a schema.
-#[derive(Debug, PartialEq, Eq, PartialOrd, Ord, Hash, Drop)]
+#[derive(PartialEq, Eq, PartialOrd, Ord, Hash, Drop)]
 pub struct QName {
     /// The schema.
     pub schema: Name,
@@ -14,7 +14,7 @@ pub struct QName {
 }
 
 /// An object that may have an owner, grants or a comment, by its path.
-#[derive(Debug, PartialEq, Eq, PartialOrd, Ord, Hash, Drop)]
+#[derive(PartialEq, Eq, PartialOrd, Ord, Hash, Drop)]
 pub enum Object {
     /// A schema.
     Schema(Name),

@@ -88,7 +88,8 @@ impl TableRows {
 
     /// The rows as their text: a line each.
     pub fn text(&self) -> &[u8]
-        ensures { result.now ≡ spell_rows self.now }
+        ensures spelled { result.now ≡ spell_rows self.now }
+        ensures held { rows_held result.now ≡ self.now }
     {
         &self.text
     }

@@ -10,7 +10,7 @@ use copy_text::{Name, Text};
 /// A statement of PostgreSQL's dump scripts, with what its text says: 29 kinds. A path is a qualified name; a kept
 /// text, as an expression or a view's body, runs from its first token to its last.
 /// <https://www.postgresql.org/docs/16/sql-commands.html>
-#[derive(Debug, Clone, PartialEq, Eq, Drop)]
+#[derive(Drop)]
 pub enum Stmt {
     /// SET: a setting of the session.
     Set {

@@ -3,7 +3,7 @@ use crate::type_name::TypeName;
 use copy_text::{Name, Text};
 
 /// A column of a new table.
-#[derive(Debug, Clone, PartialEq, Eq, Drop)]
+#[derive(Drop)]
 pub struct ColumnDef {
     /// The column.
     pub name: Name,
@@ -16,7 +16,7 @@ pub struct ColumnDef {
 }
 
 /// A check of a table or a domain.
-#[derive(Debug, Clone, PartialEq, Eq, Drop)]
+#[derive(Drop)]
 pub struct CheckDef {
     /// The check.
     pub name: Name,
@@ -25,7 +25,7 @@ pub struct CheckDef {
 }
 
 /// The attributes of a role that a statement names; the others stay.
-#[derive(Debug, Clone, PartialEq, Eq, Drop)]
+#[derive(Drop)]
 pub struct RoleChanges {
     /// SUPERUSER.
     pub superuser: Option<bool>,

@@ -6,7 +6,7 @@ use copy_text::Text;
 use std::alloc::AllocError;
 
 /// A type as a statement names it.
-#[derive(Debug, PartialEq, Eq, Drop)]
+#[derive(PartialEq, Eq, Drop)]
 pub enum TypeName {
     /// Words, as `character varying(20)`: the text from its first token to its last.
     Words(Text),

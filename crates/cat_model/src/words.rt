@@ -2,7 +2,7 @@
 use copy_text::Text;
 
 /// Something that is left out, by name.
-#[derive(Debug, Clone, PartialEq, Eq, Drop)]
+#[derive(Debug, Drop)]
 pub enum What {
     /// An archive or a member compressed with gzip.
     Gzip,
@@ -45,7 +45,7 @@ pub enum What {
 }
 
 /// Which sections of an archive are chosen.
-#[derive(Debug, Clone, Copy, PartialEq, Eq)]
+#[derive(Clone, Copy)]
 pub struct Sections {
     /// What comes before the data.
     pub pre: bool,

@@ -12,7 +12,7 @@ use std::alloc::{AllocError, AllocFailed};
 use thiserror::Error;
 
 /// What is wrong with a row. At one line the kinds count in this order.
-#[derive(Debug, PartialEq, Eq, Drop)]
+#[derive(Debug, Drop)]
 pub enum FaultKind {
     /// An earlier line has the same oid.
     RepeatedOid,
@@ -27,7 +27,7 @@ pub enum FaultKind {
 }
 
 /// The first fault of a catalogue.
-#[derive(Debug, PartialEq, Eq, Drop)]
+#[derive(Debug, Drop)]
 pub struct CatFault {
     /// The table.
     pub table: SysTable,
@@ -38,7 +38,7 @@ pub struct CatFault {
 }
 
 /// The first fault of a table.
-#[derive(Debug, Drop)]
+#[derive(Drop)]
 pub struct LineFault {
     /// The line, counted from 1.
     pub line: u64,
@@ -47,7 +47,7 @@ pub struct LineFault {
 }
 
 /// What is wrong with a row, kind by kind.
-#[derive(Debug, Drop)]
+#[derive(Drop)]
 pub struct Findings {
     /// An earlier line has the same oid.
     pub repeated_oid: bool,
@@ -81,7 +81,7 @@ impl Findings {
 }
 
 /// Why a table isn't well-formed.
-#[derive(Debug, Drop)]
+#[derive(Drop)]
 pub enum LineError {
     /// It has this fault.
     Fault(LineFault),

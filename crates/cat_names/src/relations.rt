@@ -5,7 +5,7 @@ ghost use Rattle.cat_names.specs.Kinds.{relation_kind};
 use cat_rows::Letter;
 
 /// What a relation is. <https://www.postgresql.org/docs/16/catalog-pg-class.html>
-#[derive(Debug, Clone, Copy, PartialEq, Eq)]
+#[derive(Clone, Copy)]
 pub enum RelationKind {
     /// A table, `r`.
     Table,

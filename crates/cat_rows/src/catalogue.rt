@@ -19,7 +19,7 @@ use crate::types::{EnumRow, TypeRow};
 use std::alloc::{AllocError, Global};
 
 /// The rows of the system tables, each in the order of its text.
-#[derive(Debug, Drop)]
+#[derive(Drop)]
 pub struct Catalogue {
     /// The roles.
     pub pg_authid: Rows<AuthidRow>,

@@ -7,7 +7,7 @@ use copy_text::{Name, Text};
 use std::marker::Model;
 
 /// A field of a system table, of one of the kinds of columns.
-#[derive(Debug, Drop)]
+#[derive(Drop)]
 pub enum Cell {
     /// A number below 2^32.
     Oid(u32),
@@ -28,7 +28,7 @@ pub enum Cell {
 }
 
 /// The cells of a row, N of them. A contract sees them as a list.
-#[derive(Debug, Drop)]
+#[derive(Drop)]
 pub struct Cells<const N: usize> {
     cells: Vec<Cell>,
 }

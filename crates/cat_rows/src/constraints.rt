@@ -12,7 +12,7 @@ use copy_text::{Name, Text};
 use std::alloc::AllocError;
 
 /// A constraint of a table or a domain. See <https://www.postgresql.org/docs/16/catalog-pg-constraint.html>.
-#[derive(Debug, Drop)]
+#[derive(Drop)]
 pub struct ConstraintRow {
     pub oid: u32,
     pub conname: Name,

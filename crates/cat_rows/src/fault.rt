@@ -25,7 +25,7 @@ pub enum RowFault {
 }
 
 /// The first fault of a table's text.
-#[derive(Clone, Copy, Debug, PartialEq, Eq, Error)]
+#[derive(Clone, Copy, Debug, Error)]
 #[error("line {line}: {fault}")]
 pub struct TableFault {
     /// The line, counted from 1.

@@ -43,7 +43,7 @@ impl ColKind {
 }
 
 /// The columns of a system table, in order.
-#[derive(Clone, Copy, Debug)]
+#[derive(Clone, Copy)]
 pub struct TableSpec<const N: usize> {
     /// The table.
     pub table: SysTable,

@@ -4,7 +4,7 @@ ghost use Rattle.std.specs.Prelude.{◌≡◌, ◌<◌, IsSome, IfSome, ◌↔�
 use std::marker::Model;
 
 /// One byte of ASCII. A contract sees a letter as that byte.
-#[derive(Debug, Drop)]
+#[derive(Drop)]
 pub struct Letter {
     byte: u8,
 }

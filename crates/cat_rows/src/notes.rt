@@ -12,7 +12,7 @@ use copy_text::Text;
 use std::alloc::AllocError;
 
 /// A comment. See <https://www.postgresql.org/docs/16/catalog-pg-description.html>.
-#[derive(Debug, Drop)]
+#[derive(Drop)]
 pub struct DescriptionRow {
     /// The object.
     pub objoid: u32,
@@ -63,7 +63,7 @@ impl TableRow for DescriptionRow {
 }
 
 /// A dependency that no other table tells. See <https://www.postgresql.org/docs/16/catalog-pg-depend.html>.
-#[derive(Debug, Drop)]
+#[derive(Drop)]
 pub struct DependRow {
     /// The table that the dependent object's row stands in.
     pub classid: u32,

@@ -13,7 +13,7 @@ use copy_text::{Name, Text};
 use std::alloc::AllocError;
 
 /// A table, view, sequence or index. See <https://www.postgresql.org/docs/16/catalog-pg-class.html>.
-#[derive(Debug, Drop)]
+#[derive(Drop)]
 pub struct ClassRow {
     pub oid: u32,
     pub relname: Name,
@@ -74,7 +74,7 @@ impl TableRow for ClassRow {
 }
 
 /// A column of a table or view. See <https://www.postgresql.org/docs/16/catalog-pg-attribute.html>.
-#[derive(Debug, Drop)]
+#[derive(Drop)]
 pub struct AttributeRow {
     /// The table or view.
     pub attrelid: u32,
@@ -130,7 +130,7 @@ impl TableRow for AttributeRow {
 }
 
 /// The default of a column. See <https://www.postgresql.org/docs/16/catalog-pg-attrdef.html>.
-#[derive(Debug, Drop)]
+#[derive(Drop)]
 pub struct AttrdefRow {
     pub oid: u32,
     /// The table.
@@ -176,7 +176,7 @@ impl TableRow for AttrdefRow {
 }
 
 /// An index that stands for no constraint. See <https://www.postgresql.org/docs/16/catalog-pg-index.html>.
-#[derive(Debug, Drop)]
+#[derive(Drop)]
 pub struct IndexRow {
     /// The index.
     pub indexrelid: u32,
@@ -223,7 +223,7 @@ impl TableRow for IndexRow {
 }
 
 /// The query of a view. See <https://www.postgresql.org/docs/16/catalog-pg-rewrite.html>.
-#[derive(Debug, Drop)]
+#[derive(Drop)]
 pub struct RewriteRow {
     pub oid: u32,
     /// The view.

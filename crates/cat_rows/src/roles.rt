@@ -11,7 +11,7 @@ use copy_text::{Name, Text};
 use std::alloc::AllocError;
 
 /// A role. See <https://www.postgresql.org/docs/16/catalog-pg-authid.html>.
-#[derive(Debug, Drop)]
+#[derive(Drop)]
 pub struct AuthidRow {
     pub oid: u32,
     pub rolname: Name,
@@ -97,7 +97,7 @@ impl TableRow for AuthidRow {
 }
 
 /// A membership of one role in another. See <https://www.postgresql.org/docs/16/catalog-pg-auth-members.html>.
-#[derive(Debug, Drop)]
+#[derive(Drop)]
 pub struct AuthMembersRow {
     pub oid: u32,
     /// The role that has the member.
@@ -159,7 +159,7 @@ impl TableRow for AuthMembersRow {
 }
 
 /// A database of the cluster. See <https://www.postgresql.org/docs/16/catalog-pg-database.html>.
-#[derive(Debug, Drop)]
+#[derive(Drop)]
 pub struct DatabaseRow {
     pub oid: u32,
     pub datname: Name,

@@ -5,7 +5,7 @@ use std::alloc::{AllocFailed, Global};
 use std::marker::Model;
 
 /// The rows of a table, in the order of its text. A contract sees them as a list.
-#[derive(Debug, Drop)]
+#[derive(Drop)]
 pub struct Rows<R> {
     rows: Vec<R>,
 }

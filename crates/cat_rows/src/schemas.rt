@@ -12,7 +12,7 @@ use copy_text::Name;
 use std::alloc::AllocError;
 
 /// A schema. See <https://www.postgresql.org/docs/16/catalog-pg-namespace.html>.
-#[derive(Debug, Drop)]
+#[derive(Drop)]
 pub struct NamespaceRow {
     pub oid: u32,
     pub nspname: Name,

@@ -11,7 +11,7 @@ use copy_text::Text;
 use std::alloc::AllocError;
 
 /// The parameters and the value of a sequence. See <https://www.postgresql.org/docs/16/catalog-pg-sequence.html>.
-#[derive(Debug, Drop)]
+#[derive(Drop)]
 pub struct SequenceRow {
     /// The sequence.
     pub seqrelid: u32,

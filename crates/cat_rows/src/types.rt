@@ -13,7 +13,7 @@ use copy_text::{Name, Text};
 use std::alloc::AllocError;
 
 /// An enum or a domain. See <https://www.postgresql.org/docs/16/catalog-pg-type.html>.
-#[derive(Debug, Drop)]
+#[derive(Drop)]
 pub struct TypeRow {
     pub oid: u32,
     pub typname: Name,
@@ -89,7 +89,7 @@ impl TableRow for TypeRow {
 }
 
 /// A label of an enum. See <https://www.postgresql.org/docs/16/catalog-pg-enum.html>.
-#[derive(Debug, Drop)]
+#[derive(Drop)]
 pub struct EnumRow {
     pub oid: u32,
     /// The enum.

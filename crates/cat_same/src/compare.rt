@@ -16,7 +16,7 @@ use std::alloc::{AllocError, Global};
 use well_formed::WellFormed;
 
 /// What a comparison comes to.
-#[derive(Debug, Drop)]
+#[derive(Drop)]
 pub enum Verdict {
     /// Both stand for the same by names.
     Same,

@@ -5,7 +5,7 @@ use crate::values::Format;
 use copy_text::Text;
 
 /// What the words ask for: one variant a tool, with the values of its options and its other words.
-#[derive(Debug, Drop)]
+#[derive(Drop)]
 pub enum Command {
     /// Writes a folder as an archive or a script.
     PgDump(DumpWords),
@@ -24,7 +24,7 @@ pub enum Command {
 }
 
 /// A folder, as it was named.
-#[derive(Debug, Drop)]
+#[derive(Drop)]
 pub enum Folder {
     /// By `-d`.
     Dbname(Text),
@@ -33,7 +33,7 @@ pub enum Folder {
 }
 
 /// Which objects are dumped, and how.
-#[derive(Debug, Drop)]
+#[derive(Drop)]
 pub struct Choice {
     /// `-a`: rows and values of sequences alone.
     pub data_only: bool,
@@ -62,7 +62,7 @@ pub struct Choice {
 }
 
 /// The words of pg_dump. <https://www.postgresql.org/docs/16/app-pgdump.html>
-#[derive(Debug, Drop)]
+#[derive(Drop)]
 pub struct DumpWords {
     /// The folder.
     pub folder: Folder,
@@ -77,7 +77,7 @@ pub struct DumpWords {
 }
 
 /// The words of pg_restore. <https://www.postgresql.org/docs/16/app-pgrestore.html>
-#[derive(Debug, Drop)]
+#[derive(Drop)]
 pub struct RestoreWords {
     /// `-d`: the folder that is restored into.
     pub dbname: Option<Text>,
@@ -118,7 +118,7 @@ pub struct RestoreWords {
 }
 
 /// The words of pg_dumpall. <https://www.postgresql.org/docs/16/app-pg-dumpall.html>
-#[derive(Debug, Drop)]
+#[derive(Drop)]
 pub struct DumpallWords {
     /// `-d`: the folder.
     pub dbname: Text,
@@ -137,7 +137,7 @@ pub struct DumpallWords {
 }
 
 /// The words of psql. <https://www.postgresql.org/docs/16/app-psql.html>
-#[derive(Debug, Drop)]
+#[derive(Drop)]
 pub struct PsqlWords {
     /// The folder.
     pub folder: Folder,
@@ -148,7 +148,7 @@ pub struct PsqlWords {
 }
 
 /// The words of pg_catcmp.
-#[derive(Debug, Drop)]
+#[derive(Drop)]
 pub struct CompareWords {
     /// The first folder.
     pub first: Text,
@@ -157,7 +157,7 @@ pub struct CompareWords {
 }
 
 /// The words of pg_clone.
-#[derive(Debug, Drop)]
+#[derive(Drop)]
 pub struct CloneWords {
     /// `-F`: the format, a script where it is absent.
     pub format: Option<Format>,
@@ -174,7 +174,7 @@ pub struct CloneWords {
 }
 
 /// The words of pg_gen.
-#[derive(Debug, Drop)]
+#[derive(Drop)]
 pub struct GenWords {
     /// `-n`: the number of tables, 1 to 20,000.
     pub tables: u16,

@@ -9,7 +9,7 @@ use std::alloc::{AllocError, Global};
 use std::marker::Model;
 
 /// A pattern, with the word or the part of a word that it was read from.
-#[derive(Debug, Drop)]
+#[derive(Drop)]
 pub struct PatternWord {
     /// As it was written.
     pub text: Text,
@@ -18,7 +18,7 @@ pub struct PatternWord {
 }
 
 /// Patterns, in the order of their mention. A contract sees them as their list.
-#[derive(Debug, Drop)]
+#[derive(Drop)]
 pub struct Patterns {
     patterns: Vec<PatternWord>,
 }
@@ -72,7 +72,7 @@ impl Patterns {
 }
 
 /// Names that are taken as they are, in the order of their mention. A contract sees them as the list of their bytes.
-#[derive(Debug, Drop)]
+#[derive(Drop)]
 pub struct Names {
     names: Vec<Text>,
 }
@@ -113,7 +113,7 @@ impl Names {
 }
 
 /// Sections, in the order of their mention. None stands for all three. A contract sees them as their list.
-#[derive(Debug, Drop)]
+#[derive(Drop)]
 pub struct SectionList {
     sections: Vec<Section>,
 }

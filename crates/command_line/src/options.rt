@@ -4,7 +4,7 @@ ghost use Rattle.command_line.specs.Options.{tool_of, tool_name, takes, pg_dump_
 ghost use Rattle.command_line.specs.Spellings.{found_letter, is_named, option_of_letter, option_of_name};
 
 /// The tools.
-#[derive(Clone, Copy, Debug, PartialEq, Eq)]
+#[derive(Clone, Copy)]
 pub enum Tool {
     /// Writes a folder as an archive or a script.
     PgDump,
@@ -23,7 +23,7 @@ pub enum Tool {
 }
 
 /// The options of all tools.
-#[derive(Clone, Copy, Debug, PartialEq, Eq)]
+#[derive(Clone, Copy)]
 pub enum Opt {
     /// `-d`, `--dbname`: the folder.
     Dbname,
@@ -88,7 +88,7 @@ pub enum Opt {
 }
 
 /// What a tool takes of an option.
-#[derive(Clone, Copy, Debug, PartialEq, Eq)]
+#[derive(Clone, Copy)]
 pub enum Takes {
     /// The tool lacks the option.
     Lacking,
@@ -101,7 +101,7 @@ pub enum Takes {
 }
 
 /// Which values an option takes.
-#[derive(Clone, Copy, Debug, PartialEq, Eq)]
+#[derive(Clone, Copy)]
 pub enum ValueKind {
     /// Any: a file, a folder or a name.
     Any,

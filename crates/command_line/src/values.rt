@@ -7,7 +7,7 @@ use crate::usage::UsageKind;
 use patterns::pattern_fault;
 
 /// The format of a dump.
-#[derive(Clone, Copy, Debug, PartialEq, Eq)]
+#[derive(Clone, Copy)]
 pub enum Format {
     /// A script of SQL.
     Plain,
@@ -18,7 +18,7 @@ pub enum Format {
 }
 
 /// A section of an archive.
-#[derive(Clone, Copy, Debug, PartialEq, Eq)]
+#[derive(Clone, Copy)]
 pub enum Section {
     /// What comes before the data.
     PreData,

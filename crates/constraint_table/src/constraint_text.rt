@@ -11,7 +11,7 @@ use ddl_read::{Located, ReadStmtsError, read_stmts};
 use std::alloc::{AllocError, Global};
 
 /// What the text of a constraint says.
-#[derive(Debug, Drop)]
+#[derive(Drop)]
 pub enum ConstraintText {
     /// PRIMARY KEY: its columns.
     Primary(Items<Name>),

@@ -8,7 +8,7 @@ use thiserror::Error;
 
 /// What is wrong with a row of a table's data. Where both are wrong, `BadRow` counts. See
 /// <https://www.postgresql.org/docs/16/sql-copy.html>.
-#[derive(Debug, PartialEq, Eq, Drop, Error)]
+#[derive(Debug, Drop, Error)]
 pub enum DataFault {
     /// The line is no COPY text; this is its first fault.
     #[error("{0}")]
@@ -19,7 +19,7 @@ pub enum DataFault {
 }
 
 /// The first row of a text that the table can't hold. See <https://www.postgresql.org/docs/16/sql-copy.html>.
-#[derive(Debug, PartialEq, Eq, Drop, Error)]
+#[derive(Debug, Drop, Error)]
 #[error("row {row}: {fault}")]
 pub struct RowsFault {
     /// The row, counted from 1.

@@ -10,7 +10,7 @@ use std::alloc::{AllocError, AllocFailed, Global};
 use thiserror::Error;
 
 /// The rows of a COPY, as a text of lines.
-#[derive(Debug, Drop)]
+#[derive(Drop)]
 pub struct Rows {
     /// The lines, each with its line feed; a last row without one was given one.
     pub rows: Vec<u8>,

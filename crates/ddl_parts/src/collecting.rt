@@ -8,7 +8,7 @@ use sql_lex::{LexFault, next_token};
 use std::alloc::{AllocError, Global};
 
 /// The tokens of a statement, the end of the last, and the fault behind them where no semicolon ends them.
-#[derive(Debug, Drop)]
+#[derive(Drop)]
 pub struct Run {
     /// The tokens.
     pub pieces: Vec<Piece>,

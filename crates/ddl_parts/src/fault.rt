@@ -5,7 +5,7 @@ ghost use Rattle.ddl_parts.specs.declared.fault.ReadError.TheVariants.{Halted, M
 use std::alloc::{AllocError, AllocFailed};
 
 /// The first token with which nothing goes on.
-#[derive(Clone, Copy, Debug, PartialEq, Eq)]
+#[derive(Clone, Copy)]
 pub struct Halt {
     /// Whether it is a name but for its length.
     pub long: bool,
@@ -14,7 +14,7 @@ pub struct Halt {
 }
 
 /// Why tokens could not be read.
-#[derive(Debug, Drop)]
+#[derive(Drop)]
 pub enum ReadError {
     /// Nothing goes on with a token.
     Halted(Halt),

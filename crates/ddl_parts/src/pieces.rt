@@ -23,7 +23,7 @@ use std::marker::Model;
 const LONGEST_NAME: usize = 63;
 
 /// A token, and where the one before it ends.
-#[derive(Clone, Copy, Debug, PartialEq, Eq)]
+#[derive(Clone, Copy)]
 pub struct Piece {
     /// The end of the token before, or where reading began.
     pub from: usize,
@@ -32,7 +32,7 @@ pub struct Piece {
 }
 
 /// The tokens of a statement in a text. A contract sees each with its bytes.
-#[derive(Debug, Drop)]
+#[derive(Drop)]
 pub struct Pieces<'a> {
     text: &'a [u8],
     pieces: Vec<Piece>,

@@ -15,7 +15,7 @@ use sql_lex::{TokenKind, is_keyword};
 use std::alloc::{AllocError, Global};
 
 /// An open bracket.
-#[derive(Clone, Copy, Debug, PartialEq, Eq)]
+#[derive(Clone, Copy)]
 pub enum Bracket {
     /// A round one.
     Round,
@@ -24,7 +24,7 @@ pub enum Bracket {
 }
 
 /// Where a run stands outside brackets.
-#[derive(Clone, Copy, Debug, PartialEq, Eq)]
+#[derive(Clone, Copy)]
 pub enum Spot {
     /// Before its first token.
     First,

@@ -18,7 +18,7 @@ use sql_lex::{TokenKind, is_keyword};
 use std::alloc::{AllocError, Global};
 
 /// Where reading a type stands.
-#[derive(Clone, Copy, Debug, PartialEq, Eq)]
+#[derive(Clone, Copy)]
 pub enum TypeSpot {
     /// Before its first token.
     Begin,

@@ -13,7 +13,7 @@ use ddl_parts::{Halt, Pieces, ReadError, qualified_name};
 use std::alloc::Global;
 
 /// What a constraint of a table says.
-#[derive(Debug, Drop)]
+#[derive(Drop)]
 pub enum Constraint {
     /// CHECK with its expression.
     Check(Text),
@@ -26,7 +26,7 @@ pub enum Constraint {
 }
 
 /// What changes of a table.
-#[derive(Debug, Drop)]
+#[derive(Drop)]
 pub enum TableChange {
     /// Its owner.
     Owner(Name),

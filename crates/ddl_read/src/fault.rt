@@ -8,7 +8,7 @@ use std::alloc::{AllocError, AllocFailed};
 use thiserror::Error;
 
 /// Why a text doesn't read as statements. Places count bytes from 0, and the least place is told.
-#[derive(Clone, Copy, Debug, PartialEq, Eq, Error)]
+#[derive(Clone, Copy, Debug, Error)]
 pub enum DdlFault {
     /// The text has no tokens from here on.
     #[error("{0}")]

@@ -5,7 +5,7 @@ use cat_model::Stmt;
 ///
 /// Its semicolon is among them, and so are the rows of a COPY with the line `\.` that ends them. A line that begins with
 /// a backslash ends before its line feed.
-#[derive(Debug, Drop)]
+#[derive(Drop)]
 pub struct Located {
     /// What it says.
     pub stmt: Stmt,

@@ -12,7 +12,7 @@ use ddl_parts::{Halt, Pieces, ReadError};
 use std::alloc::{AllocError, Global};
 
 /// Where reading what follows the columns of a key, or those of a foreign key's parents, stands.
-#[derive(Clone, Copy, Debug, PartialEq, Eq)]
+#[derive(Clone, Copy)]
 pub enum RestSpot {
     /// Before its first word.
     Begin,

@@ -14,7 +14,7 @@ use ddl_write::{usual_max, usual_min};
 use std::alloc::Global;
 
 /// A bound of a sequence, as far as it was said.
-#[derive(Clone, Copy, Debug, PartialEq, Eq)]
+#[derive(Clone, Copy)]
 pub enum Bound {
     /// Nothing was said of it.
     Unsaid,
@@ -25,7 +25,7 @@ pub enum Bound {
 }
 
 /// What a number of a sequence is.
-#[derive(Clone, Copy, Debug, PartialEq, Eq)]
+#[derive(Clone, Copy)]
 pub enum Field {
     /// Where it starts.
     First,
@@ -40,7 +40,7 @@ pub enum Field {
 }
 
 /// The bounds that may follow NO.
-#[derive(Clone, Copy, Debug, PartialEq, Eq)]
+#[derive(Clone, Copy)]
 pub enum Open {
     /// Each of them.
     Both,
@@ -51,7 +51,7 @@ pub enum Open {
 }
 
 /// Where reading the clauses of a sequence stands.
-#[derive(Clone, Copy, Debug, PartialEq, Eq)]
+#[derive(Clone, Copy)]
 pub enum ClauseSpot {
     /// Behind a clause, or before the first.
     Between,
@@ -70,7 +70,7 @@ pub enum ClauseSpot {
 }
 
 /// The clauses of a sequence so far.
-#[derive(Clone, Copy, Debug, PartialEq, Eq)]
+#[derive(Clone, Copy)]
 pub struct Clauses {
     kind: Option<SequenceKind>,
     start: Option<i64>,
@@ -82,7 +82,7 @@ pub struct Clauses {
 }
 
 /// The clauses so far, and where reading them stands.
-#[derive(Clone, Copy, Debug, PartialEq, Eq)]
+#[derive(Clone, Copy)]
 pub struct Reached {
     clauses: Clauses,
     spot: ClauseSpot,

@@ -14,7 +14,7 @@ use ddl_parts::{Halt, Pieces, ReadError, qualified_name};
 use std::alloc::{AllocError, Global};
 
 /// Where a list of a table's columns and checks stands.
-#[derive(Clone, Copy, Debug, PartialEq, Eq)]
+#[derive(Clone, Copy)]
 pub enum Spot {
     /// Behind its opening bracket.
     Opening,
@@ -25,7 +25,7 @@ pub enum Spot {
 }
 
 /// What a list of a table's columns and checks has.
-#[derive(Debug, Drop)]
+#[derive(Drop)]
 pub enum TableElement {
     /// A column.
     Column(ColumnDef),

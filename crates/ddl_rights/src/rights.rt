@@ -11,7 +11,7 @@ use ddl_parts::{Halt, Pieces, ReadError, qualified_name};
 use std::alloc::Global;
 
 /// A right on an object.
-#[derive(Clone, Copy, Debug, PartialEq, Eq)]
+#[derive(Clone, Copy)]
 pub enum Right {
     /// SELECT.
     Select,
@@ -34,7 +34,7 @@ pub enum Right {
 }
 
 /// A kind of object that has rights.
-#[derive(Clone, Copy, Debug, PartialEq, Eq)]
+#[derive(Clone, Copy)]
 pub enum Kind {
     /// Tables and views.
     Tables,
@@ -47,7 +47,7 @@ pub enum Kind {
 }
 
 /// The rights that a statement names.
-#[derive(Clone, Copy, Debug, PartialEq, Eq)]
+#[derive(Clone, Copy)]
 pub enum Wanted {
     /// All that the kind of object has.
     All,

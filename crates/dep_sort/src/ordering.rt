@@ -37,7 +37,7 @@ impl From<AllocError> for OrderError {
 
 /// Objects in an order in which each stands behind those that it needs. A contract sees the objects, and of each the places
 /// of those.
-#[derive(Debug, Drop)]
+#[derive(Drop)]
 pub struct Ordered {
     objects: Vec<Obj>,
     depends: Vec<Vec<u32>>,

@@ -11,7 +11,7 @@ use toc_entry::Entry;
 use well_formed::WellFormed;
 
 /// The rows of a table that an entry of a dump has.
-#[derive(Clone, Copy, Debug, PartialEq, Eq)]
+#[derive(Clone, Copy)]
 pub struct TableData {
     /// The dump id of the entry.
     pub dump_id: u32,

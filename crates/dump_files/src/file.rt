@@ -9,7 +9,7 @@ use copy_text::Text;
 use dump_ports::{Failed, Files};
 
 /// The data file of a table: the table's oid, the file's whole path, and how many columns the table has.
-#[derive(Debug, Drop)]
+#[derive(Drop)]
 pub struct DataFile {
     /// The oid of the table.
     pub table: u32,

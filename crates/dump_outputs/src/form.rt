@@ -2,7 +2,7 @@
 use copy_text::Text;
 
 /// How a dump is written, and where.
-#[derive(Debug, Drop)]
+#[derive(Drop)]
 pub enum DumpForm {
     /// A script.
     Script {

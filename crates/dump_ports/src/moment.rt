@@ -3,7 +3,7 @@ ghost use Rattle.dump_ports.specs.Moment.{IsPart};
 
 /// A point in time, broken down as C's `struct tm` has it: months count from 0, years from 1900, and `isdst` tells
 /// of daylight saving. Each part lies strictly between -2^32 and 2^32.
-#[derive(Clone, Copy, Debug, PartialEq, Eq)]
+#[derive(Clone, Copy)]
 pub struct Moment {
     /// Seconds of the minute.
     pub sec: i64,

@@ -6,7 +6,7 @@ use std::alloc::{AllocError, AllocFailed};
 use thiserror::Error;
 
 /// Why a dump isn't made.
-#[derive(Debug, Clone, Copy, PartialEq, Eq, Error, Drop)]
+#[derive(Debug, Clone, Copy, Error, Drop)]
 pub enum DumpError {
     /// It would have more than 200,000 entries; their number.
     #[error("{0} entries")]

@@ -2,7 +2,7 @@
 use copy_text::Name;
 
 /// A schema: its name and its oid in `pg_namespace`. Schemas are ordered by name, and then by oid.
-#[derive(Debug, PartialEq, Eq, PartialOrd, Ord, Drop)]
+#[derive(PartialEq, Eq, PartialOrd, Ord, Drop)]
 pub struct SchemaRow {
     /// Its name.
     pub name: Name,
@@ -11,7 +11,7 @@ pub struct SchemaRow {
 }
 
 /// The database that is dumped: its name and its oid in `pg_database`.
-#[derive(Debug, PartialEq, Eq, Drop)]
+#[derive(Drop)]
 pub struct DatabaseRow {
     /// Its name.
     pub name: Name,

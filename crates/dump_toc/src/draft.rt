@@ -12,7 +12,7 @@ use graph_parts::Obj;
 use std::alloc::{AllocError, Global};
 
 /// An entry without its number, which names the objects that it needs by their places in the order of the dump.
-#[derive(Debug, Drop)]
+#[derive(Drop)]
 pub struct Draft {
     /// The oid of the system table that holds the object, or 0.
     pub tableoid: u32,

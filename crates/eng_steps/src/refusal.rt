@@ -6,7 +6,7 @@ use cat_model::{Cause, Key};
 use std::alloc::{AllocError, AllocFailed};
 
 /// Why a statement isn't carried out.
-#[derive(Debug, Drop)]
+#[derive(Drop)]
 pub enum ApplyError {
     /// It is refused.
     Refused(Cause),

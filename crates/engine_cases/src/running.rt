@@ -19,7 +19,7 @@ use table_rows::{CheckValuesError, check_values};
 use well_formed::WellFormed;
 
 /// What a case of a script shows.
-#[derive(Clone, Copy, Debug, PartialEq, Eq)]
+#[derive(Clone, Copy)]
 pub enum Shown {
     /// What each statement answers, and the keys that are there then, once all was written to a folder and read again.
     Keys,

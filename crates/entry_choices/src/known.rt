@@ -1,7 +1,7 @@
 //! What is known of an entry that was passed.
 
 /// What is known of an entry that was passed.
-#[derive(Debug, Clone, Copy, PartialEq, Eq)]
+#[derive(Clone, Copy)]
 pub struct Known {
     /// Its section, or that of its first dependency.
     pub section: u8,

@@ -4,7 +4,7 @@ use copy_text::Text;
 
 /// Which entries of an archive a restore takes, and what it makes of them. Names are exact: no sign stands for others.
 /// <https://www.postgresql.org/docs/16/app-pgrestore.html>
-#[derive(Debug, Drop)]
+#[derive(Drop)]
 pub struct Options {
     /// Neither rows nor the values of sequences.
     pub schema_only: bool,

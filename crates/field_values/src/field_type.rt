@@ -9,7 +9,7 @@ use crate::compared::trimmed;
 use crate::number::is_number;
 
 /// A type of fields; the last takes any text.
-#[derive(Debug, Clone, Copy, PartialEq, Eq)]
+#[derive(Clone, Copy)]
 pub(crate) enum FieldType {
     /// `boolean`: `t` or `f`.
     Boolean,

@@ -7,7 +7,7 @@ use toc_layout::ArchiveFault;
 use toc_parts::FieldFault;
 
 /// What is wrong with a block; places are told by the bytes that are left.
-#[derive(Clone, Copy, Debug, PartialEq, Eq)]
+#[derive(Clone, Copy)]
 pub(crate) enum BlockHalt {
     /// The bytes end within the block.
     Short,
@@ -65,7 +65,7 @@ impl From<FieldFault> for BlockHalt {
 }
 
 /// Why blocks could not be read: one is at fault, or memory ran out.
-#[derive(Debug, Drop)]
+#[derive(Drop)]
 pub(crate) enum BlockStop {
     /// A block is at fault.
     Halt(BlockHalt),

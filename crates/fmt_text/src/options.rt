@@ -1,7 +1,7 @@
 //! How a script is written.
 
 /// How a script is written.
-#[derive(Debug, Clone, Copy, PartialEq, Eq)]
+#[derive(Clone, Copy)]
 pub struct Options {
     /// Whether the script says who owns what: by its owner statements and in its comments.
     pub owners: bool,

@@ -12,7 +12,7 @@ use std::alloc::{AllocError, Global};
 use toc_entry::Entry;
 
 /// A kind of entry whose object has an owner.
-#[derive(Debug, Clone, Copy, PartialEq, Eq)]
+#[derive(Clone, Copy)]
 pub enum OwnedKind {
     Schema,
     Type,

@@ -22,7 +22,7 @@ pub enum ExportKind {
 }
 
 /// What has a limit of bytes.
-#[derive(Clone, Copy, Debug, PartialEq, Eq)]
+#[derive(Clone, Copy, Debug)]
 pub enum FolderLimit {
     /// The file of one system table.
     TableFile,

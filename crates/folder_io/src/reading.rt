@@ -13,7 +13,7 @@ use dump_ports::Files;
 use std::alloc::Global;
 
 /// What reading a folder's catalogue gives.
-#[derive(Debug, Drop)]
+#[derive(Drop)]
 pub struct ReadCatalogue {
     /// The catalogue.
     pub cat: Catalogue,

@@ -6,7 +6,7 @@ use crate::object::Obj;
 use std::marker::Model;
 
 /// That one object needs another: the other has to be there first.
-#[derive(Debug, Drop)]
+#[derive(Drop)]
 pub struct Edge {
     /// The place of the object that needs the other, from 0.
     pub from: u32,
@@ -20,7 +20,7 @@ pub struct Edge {
 }
 
 /// The objects of a dump, and which of them need which. A contract sees the list of the objects and that of the edges.
-#[derive(Debug, Drop)]
+#[derive(Drop)]
 pub struct Graph {
     objects: Vec<Obj>,
     edges: Vec<Edge>,

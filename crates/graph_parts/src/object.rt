@@ -17,7 +17,7 @@ pub struct ObjId {
 }
 
 /// What kind of object it is.
-#[derive(Debug, Clone, Copy, PartialEq, Eq)]
+#[derive(Clone, Copy)]
 pub enum ObjKind {
     /// A schema.
     Schema,
@@ -52,7 +52,7 @@ pub enum ObjKind {
 }
 
 /// An object with the names by which a dump orders objects.
-#[derive(Debug, Drop)]
+#[derive(Drop)]
 pub struct Obj {
     /// The row that stands for it.
     pub id: ObjId,

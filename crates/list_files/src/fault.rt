@@ -6,7 +6,7 @@ use std::alloc::{AllocError, AllocFailed};
 use thiserror::Error;
 
 /// The first line of a list file that names no entry. Lines count from 1.
-#[derive(Debug, Clone, Copy, PartialEq, Eq, Error)]
+#[derive(Debug, Clone, Copy, Error)]
 pub enum ListFault {
     /// What stands before the line's first semicolon isn't a number.
     #[error("line {0} names no number")]
@@ -17,7 +17,7 @@ pub enum ListFault {
 }
 
 /// Why a list file was not read.
-#[derive(Debug, Clone, Copy, PartialEq, Eq, Error)]
+#[derive(Debug, Clone, Copy, Error)]
 pub enum EditError {
     /// A line names no entry.
     #[error("{0}")]

@@ -4,7 +4,7 @@ use copy_text::Name;
 use graph_parts::ObjId;
 
 /// A key of a table, to which foreign keys may refer.
-#[derive(Debug, Drop)]
+#[derive(Drop)]
 pub struct KeyOf {
     /// The table.
     pub table: u32,

@@ -2,7 +2,7 @@
 use graph_parts::{Obj, ObjId};
 
 /// That one object depends on another, whether a dump chooses them or not.
-#[derive(Debug, Drop)]
+#[derive(Drop)]
 pub struct Link {
     /// The object that depends.
     pub from: ObjId,

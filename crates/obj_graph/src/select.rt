@@ -7,7 +7,7 @@ use patterns::Pattern;
 use std::alloc::AllocError;
 
 /// Which objects a dump chooses.
-#[derive(Debug, Drop)]
+#[derive(Drop)]
 pub struct Select {
     /// The schemas that are taken; none stands for all.
     pub schemas: Items<Pattern>,
@@ -36,7 +36,7 @@ pub struct Select {
 }
 
 /// Why nothing is chosen.
-#[derive(Debug, Clone, Copy, PartialEq, Eq)]
+#[derive(Debug, Clone, Copy)]
 pub enum SelectFault {
     /// The pattern of this place, counted from 0, hits no schema.
     NoSchemas(usize),
@@ -45,7 +45,7 @@ pub enum SelectFault {
 }
 
 /// Why there is no graph.
-#[derive(Debug, Clone, Copy, PartialEq, Eq)]
+#[derive(Clone, Copy)]
 pub enum ObjectsError {
     /// A pattern is refused.
     Fault(SelectFault),

@@ -144,7 +144,7 @@ pub fn owner_to(
 }
 
 /// What a statement changes of the rights that a grantee has on an object.
-#[derive(Debug, Clone, Copy)]
+#[derive(Clone, Copy)]
 pub enum GrantChange {
     /// GRANT: these rights more, WITH GRANT OPTION or not.
     Grant(Rights, bool),

@@ -124,7 +124,7 @@ fn needs_grantor(named: &NamedMap, grantor: &Option<Name>) -> Result<(), ApplyEr
 }
 
 /// What a membership allows, as GRANT says it.
-#[derive(Debug, Clone, Copy)]
+#[derive(Clone, Copy)]
 pub struct MemberOptions {
     /// ADMIN.
     pub admin: bool,

@@ -6,7 +6,7 @@ use std::path::Path;
 use std::{fs, io, rt};
 
 /// How a run uses a folder.
-#[derive(Clone, Copy, Debug, PartialEq, Eq)]
+#[derive(Clone, Copy, Debug)]
 pub enum Hold {
     /// It reads there, as others may.
     Shared,

@@ -41,7 +41,7 @@ struct NewFile<F> {
 }
 
 /// What a file holds at first.
-#[derive(Clone, Copy, PartialEq, Eq)]
+#[derive(Clone, Copy)]
 pub(crate) enum Start {
     /// Nothing.
     Empty,

@@ -5,7 +5,7 @@ use std::alloc::{AllocError, Global};
 use std::marker::Model;
 
 /// What a place of a pattern stands for.
-#[derive(Clone, Copy, Debug, PartialEq, Eq)]
+#[derive(Clone, Copy)]
 pub enum Atom {
     /// This byte.
     Byte(u8),
@@ -16,7 +16,7 @@ pub enum Atom {
 }
 
 /// The schema part or the name part of a pattern. A contract sees it as the list of its atoms.
-#[derive(Debug, Drop)]
+#[derive(Drop)]
 pub struct Part {
     atoms: Vec<Atom>,
 }

@@ -5,7 +5,7 @@ ghost use Rattle.patterns.specs.Marks.{opened, bare_mark, mark_of, quotes_behind
 use crate::atom::Atom;
 
 /// How a place of a pattern stands to its quotes. The numbers are the places where the quotes opened.
-#[derive(Clone, Copy, Debug)]
+#[derive(Clone, Copy)]
 pub(crate) enum Quotes {
     /// Outside.
     Outside,
@@ -16,7 +16,7 @@ pub(crate) enum Quotes {
 }
 
 /// What a byte of a pattern stands for, where it stands for something.
-#[derive(Clone, Copy, Debug)]
+#[derive(Clone, Copy)]
 pub(crate) enum Mark {
     /// The dot between schema and name.
     Dot,

@@ -6,7 +6,7 @@ use crate::atom::Part;
 use std::marker::Model;
 
 /// A pattern that was read. A contract sees it as its two parts.
-#[derive(Debug, Drop)]
+#[derive(Drop)]
 pub struct Pattern {
     schema: Option<Part>,
     name: Part,

@@ -10,7 +10,7 @@ use std::env::{Env, FillError};
 const ROOM: usize = 256;
 
 /// Why the words weren't read.
-#[derive(Debug, Drop)]
+#[derive(Drop)]
 pub enum ArgumentFault {
     /// This word, counted from 0, is the first that isn't UTF-8.
     NotText(usize),

@@ -11,7 +11,7 @@ use cat_rows::DescriptionRow;
 use std::alloc::{AllocError, Global};
 
 /// What a comment is on, by the system table that the object's row stands in.
-#[derive(Debug, Clone, Copy, PartialEq, Eq)]
+#[derive(Clone, Copy)]
 pub(crate) enum CommentClass {
     Schema,
     Type,

@@ -15,7 +15,7 @@ use toc_entry::Entry;
 
 /// The entries of an archive in the order of a list, and what each of them comes to in its place. A contract sees the two
 /// lists.
-#[derive(Debug, Drop)]
+#[derive(Drop)]
 pub struct Plan {
     entries: Vec<Entry>,
     planned: Vec<Planned>,

@@ -8,7 +8,7 @@ use std::path::PathBuf;
 use std::{fs, io, rt};
 
 /// Which calls fail: those behind the first so many, or of these the first alone.
-#[derive(Clone, Copy, Debug, PartialEq, Eq)]
+#[derive(Clone, Copy, Debug)]
 pub enum Cut {
     /// All: the run has ended there.
     All,

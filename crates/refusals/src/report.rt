@@ -9,7 +9,7 @@ use std::alloc::AllocError;
 use std::marker::Model;
 
 /// A statement of a script that was refused. A contract sees it as its place and the cause.
-#[derive(Debug, Drop)]
+#[derive(Drop)]
 pub struct Refusal {
     at: usize,
     cause: Cause,

@@ -220,7 +220,7 @@ pub fn owned_by(
 }
 
 /// What setval says that a sequence gave out last.
-#[derive(Debug, Clone, Copy)]
+#[derive(Clone, Copy)]
 pub struct LastValue {
     /// The number.
     pub value: i64,

@@ -1,6 +1,6 @@
 //! What may happen next in a restore.
 /// What may happen next in a restore. Entries are counted from 0 in the order of the list.
-#[derive(Debug, Clone, Copy, PartialEq, Eq)]
+#[derive(Clone, Copy)]
 pub enum Event {
     /// A worker starts an entry.
     Start {

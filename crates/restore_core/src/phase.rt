@@ -5,7 +5,7 @@ ghost use Rattle.restore_core.specs.Phases.{has_ended as the_ended, is_waiting a
 use restore_plan::EntryStatus;
 
 /// Where an entry is in a restore.
-#[derive(Debug, Clone, PartialEq, Eq, Drop)]
+#[derive(Drop)]
 pub enum Phase {
     /// It hasn't begun.
     Waiting,

@@ -7,7 +7,7 @@ use tool_words::RestoreStop;
 
 /// What a restore does where a statement of an entry is refused.
 /// <https://www.postgresql.org/docs/16/app-pgrestore.html>
-#[derive(Debug, Clone, Copy, PartialEq, Eq)]
+#[derive(Clone, Copy)]
 pub enum OnRefusal {
     /// It goes on with the next entry that it may restore.
     GoOn,

@@ -2,7 +2,7 @@
 use toc_entry::Entry;
 
 /// The entries that a restore takes, in the order in which it restores them, and the rows of each.
-#[derive(Debug, Drop)]
+#[derive(Drop)]
 pub struct RestoreInput {
     /// The entries.
     pub entries: Vec<Entry>,

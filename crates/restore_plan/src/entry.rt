@@ -4,7 +4,7 @@ use crate::step::Step;
 use cat_model::Items;
 
 /// An entry of an archive, as a restore sees it. <https://www.postgresql.org/docs/16/app-pgrestore.html>
-#[derive(Debug, Drop)]
+#[derive(Drop)]
 pub struct Entry {
     /// The number by which other entries name it.
     pub id: u32,

@@ -4,7 +4,7 @@ ghost use Rattle.restore_plan.specs.Entries.{is_locked as the_locked, takes_lock
 
 /// What kind of entry it is, as far as the order of a restore looks at it.
 /// <https://www.postgresql.org/docs/16/app-pgrestore.html>
-#[derive(Debug, Clone, Copy, PartialEq, Eq)]
+#[derive(Clone, Copy)]
 pub enum Kind {
     /// TABLE.
     Table,

@@ -8,7 +8,7 @@ use crate::step::Step;
 use cat_model::{Footprint, Items, conflicts};
 
 /// An entry in its place in a list.
-#[derive(Debug, Drop)]
+#[derive(Drop)]
 pub struct Planned {
     /// Its dump id.
     pub id: u32,

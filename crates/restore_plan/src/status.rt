@@ -5,7 +5,7 @@ ghost use Rattle.restore_plan.specs.Serial.{blocks as the_blocking};
 use cat_model::Cause;
 
 /// What came of an entry.
-#[derive(Debug, Clone, PartialEq, Eq, Drop)]
+#[derive(Drop)]
 pub enum EntryStatus {
     /// Its statements ran.
     Done,
@@ -24,7 +24,7 @@ pub enum EntryStatus {
 }
 
 /// An entry's owner statement that was refused; the entry went on.
-#[derive(Debug, Clone, PartialEq, Eq, Drop)]
+#[derive(Drop)]
 pub struct Note {
     /// The entry.
     pub dump_id: u32,

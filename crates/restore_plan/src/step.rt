@@ -2,7 +2,7 @@
 use cat_model::Stmt;
 
 /// A statement of an entry.
-#[derive(Debug, Drop)]
+#[derive(Drop)]
 pub struct Step {
     /// The statement.
     pub statement: Stmt,

@@ -17,7 +17,7 @@ use toc_entry::Entry as Archived;
 use tool_words::RestoreStop;
 
 /// What is told of a restore.
-#[derive(Debug, Drop)]
+#[derive(Drop)]
 pub struct RestoreTold {
     /// The lines of its entries that were refused or skipped, and how many errors there were; or the line of the entry at
     /// which it stopped.

@@ -7,7 +7,7 @@ use ddl_read::DdlFault;
 use std::alloc::{AllocError, AllocFailed};
 
 /// Why an entry can't be restored.
-#[derive(Debug, PartialEq, Eq, Drop)]
+#[derive(Drop)]
 pub enum PlanFault {
     /// The texts of the entry with this dump id don't read as statements. The place counts in its definition, or in its
     /// COPY statement followed by its rows.
@@ -17,7 +17,7 @@ pub enum PlanFault {
 }
 
 /// Why no plan is made.
-#[derive(Debug, Drop)]
+#[derive(Drop)]
 pub enum PlanError {
     /// An entry can't be restored.
     Fault(PlanFault),

@@ -1,7 +1,7 @@
 //! What is asked of an archive.
 
 /// What is written of the entries that are chosen.
-#[derive(Debug, Clone, Copy, PartialEq, Eq)]
+#[derive(Clone, Copy)]
 pub enum Wish {
     /// Their list.
     List,
@@ -10,7 +10,7 @@ pub enum Wish {
 }
 
 /// The format of an archive.
-#[derive(Debug, Clone, Copy, PartialEq, Eq)]
+#[derive(Clone, Copy)]
 pub enum ArchiveFormat {
     /// A file in the custom format.
     Custom,

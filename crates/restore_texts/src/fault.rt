@@ -10,7 +10,7 @@ use std::alloc::{AllocError, AllocFailed};
 use toc_layout::{ArchiveFault, ReadArchiveError};
 
 /// What has a limit in bytes.
-#[derive(Debug, Clone, Copy, PartialEq, Eq)]
+#[derive(Debug, Clone, Copy)]
 pub enum TextLimit {
     /// A custom archive, or the files of a directory archive together.
     Archive,
@@ -19,7 +19,7 @@ pub enum TextLimit {
 }
 
 /// Why the list or the script of an archive isn't written.
-#[derive(Debug, Drop)]
+#[derive(Drop)]
 pub enum TextFault {
     /// A read failed.
     Failed,

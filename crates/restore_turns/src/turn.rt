@@ -1,7 +1,7 @@
 //! What a worker does next.
 
 /// What a worker of a restore does next. Entries are counted from 0 in the order of the list.
-#[derive(Debug, Clone, Copy)]
+#[derive(Clone, Copy)]
 pub enum Turn {
     /// It runs this entry.
     Run {

@@ -5,7 +5,7 @@ use copy_text::Row;
 use std::marker::Model;
 
 /// The rows of a table, and behind them those that a statement adds. A contract sees the list of all.
-#[derive(Debug, Drop)]
+#[derive(Drop)]
 pub struct JoinedRows<'a> {
     first: &'a [Row],
     added: &'a [Row],

@@ -11,7 +11,7 @@ use ddl_parts::{Pieces, ReadError, qualified_name};
 use std::alloc::{AllocError, Global};
 
 /// What the text of an index says.
-#[derive(Debug, Drop)]
+#[derive(Drop)]
 pub struct IndexText {
     /// Whether it is unique.
     pub unique: bool,

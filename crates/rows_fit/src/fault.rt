@@ -6,7 +6,7 @@ use cat_model::Cause;
 use copy_text::CopyFault;
 
 /// Why a line is no row of a table. Columns and fields count from 1.
-#[derive(Debug, Clone, Copy, PartialEq, Eq)]
+#[derive(Clone, Copy, PartialEq, Eq)]
 pub(crate) enum RowFault {
     /// The field of this column is no value of its type.
     BadValue(u64),

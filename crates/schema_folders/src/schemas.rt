@@ -25,14 +25,14 @@ use std::marker::Model;
 const FIRST_OID: u32 = 16384;
 
 /// A row of `pg_namespace` of plain form: its owner is the role of oid 10, its grants are the default.
-#[derive(Debug, Drop)]
+#[derive(Drop)]
 pub struct SchemaRow {
     pub oid: u32,
     pub name: Name,
 }
 
 /// Why a statement is refused.
-#[derive(Debug, Drop)]
+#[derive(Drop)]
 pub enum SchemaCause {
     /// The schema that would be made is there already, or is the system's own.
     Exists(Name),
@@ -43,7 +43,7 @@ pub enum SchemaCause {
 }
 
 /// Why a statement has no effect.
-#[derive(Debug, Drop)]
+#[derive(Drop)]
 pub enum ApplyFault {
     /// The catalogue refuses it.
     Refused(SchemaCause),

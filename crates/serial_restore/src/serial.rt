@@ -10,7 +10,7 @@ use std::alloc::{AllocError, Global};
 use std::collections::BTreeSet;
 
 /// What came of the entries of a restore.
-#[derive(Debug, Drop)]
+#[derive(Drop)]
 pub struct Report {
     /// The status of each, in the order of the list.
     pub statuses: Items<EntryStatus>,

@@ -11,7 +11,7 @@ use crate::fault::LexFault;
 use crate::token::TokenKind;
 
 /// A token, or white space or a comment, which have no kind, up to its end.
-#[derive(Clone, Copy, Debug, PartialEq, Eq)]
+#[derive(Clone, Copy)]
 pub struct Piece {
     pub kind: Option<TokenKind>,
     pub end: usize,

@@ -1,7 +1,7 @@
 //! What a token is.
 
 /// The kinds of tokens.
-#[derive(Clone, Copy, Debug, PartialEq, Eq)]
+#[derive(Clone, Copy)]
 pub enum TokenKind {
     /// A bare word: a key word or a name.
     Word,
@@ -19,7 +19,7 @@ pub enum TokenKind {
 }
 
 /// A token of a text: the bytes from `start` up to `end`, counted from 0.
-#[derive(Clone, Copy, Debug, PartialEq, Eq)]
+#[derive(Clone, Copy)]
 pub struct Token {
     pub kind: TokenKind,
     pub start: usize,

@@ -10,21 +10,21 @@ use text_cases::{decoded, table_of};
 const LIMIT: u64 = 1 << 27;
 
 /// A system table's text.
-#[derive(Debug, Drop)]
+#[derive(Drop)]
 pub struct TableText {
     pub table: SysTable,
     pub text: Vec<u8>,
 }
 
 /// The text of the rows of the table of an oid.
-#[derive(Debug, Drop)]
+#[derive(Drop)]
 pub struct RowsText {
     pub oid: u32,
     pub text: Vec<u8>,
 }
 
 /// Texts of system tables, and rows of tables. Of two texts of a table the later counts.
-#[derive(Debug, Drop)]
+#[derive(Drop)]
 pub struct Base {
     pub tables: Vec<TableText>,
     pub rows: Vec<RowsText>,

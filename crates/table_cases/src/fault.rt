@@ -3,7 +3,7 @@ use dump_ports::{Failed, WholeFault};
 use std::alloc::AllocError;
 
 /// Why the cases weren't all answered.
-#[derive(Debug, Drop)]
+#[derive(Drop)]
 pub enum TrialFault {
     /// Memory ran out.
     Memory,

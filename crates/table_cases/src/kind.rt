@@ -1,7 +1,7 @@
 //! The tables that a case checks.
 
 /// The tables that are checked together.
-#[derive(Clone, Copy, Debug, PartialEq, Eq)]
+#[derive(Clone, Copy)]
 pub enum Checked {
     /// Roles, memberships, databases and schemas.
     Cluster,

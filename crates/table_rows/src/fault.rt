@@ -8,7 +8,7 @@ use thiserror::Error;
 
 /// The first row of the first text that its table can't hold. See
 /// <https://www.postgresql.org/docs/16/sql-copy.html>.
-#[derive(Debug, PartialEq, Eq, Drop, Error)]
+#[derive(Debug, Drop, Error)]
 #[error("table {table}, row {row}: {fault}")]
 pub struct ValuesFault {
     /// The table's oid.

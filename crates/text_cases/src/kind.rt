@@ -2,7 +2,7 @@
 use cat_rows::SysTable;
 
 /// What a case of a text is of.
-#[derive(Clone, Copy, Debug, PartialEq, Eq)]
+#[derive(Clone, Copy)]
 pub enum TextKind {
     /// A line of COPY text: its row, and the row written again.
     Rows,
@@ -39,7 +39,7 @@ pub enum TextKind {
 }
 
 /// A part of a statement, and what its first token is behind.
-#[derive(Clone, Copy, Debug, PartialEq, Eq)]
+#[derive(Clone, Copy)]
 pub enum Part {
     /// A type.
     Type,

@@ -9,7 +9,7 @@ use refusals::{Refusal, write_report};
 use std::alloc::{AllocError, AllocFailed, Global};
 
 /// Why a line gives no refused statements.
-#[derive(Debug, Drop)]
+#[derive(Drop)]
 enum Unread {
     /// The line is no case.
     NoCase,

@@ -12,12 +12,38 @@ pub(crate) fn put_spelling(stmt: &Stmt, out: &mut Vec<u8>) -> Result<(), AllocEr
     }
 }
 
-// The kind of a statement, by its name.
-fn put_kind(alloc: Global, stmt: &Stmt, out: &mut Vec<u8>) -> Result<(), AllocError> {
-    let shown = format!(in alloc; "{stmt:?}")?;
-    match shown.as_str().split_once(' ') {
-        Some((kind, _)) => out.extend_from_slice(kind.as_bytes()),
-        None => out.extend_from_slice(shown.as_bytes()),
+// The name of a statement's kind.
+fn kind_name(stmt: &Stmt) -> &'static str {
+    match stmt {
+        Stmt::Set { .. } => "Set",
+        Stmt::SetConfig { .. } => "SetConfig",
+        Stmt::CreateSchema { .. } => "CreateSchema",
+        Stmt::CreateEnum { .. } => "CreateEnum",
+        Stmt::CreateDomain { .. } => "CreateDomain",
+        Stmt::AddDomainCheck { .. } => "AddDomainCheck",
+        Stmt::CreateTable { .. } => "CreateTable",
+        Stmt::CreateSequence { .. } => "CreateSequence",
+        Stmt::OwnedBy { .. } => "OwnedBy",
+        Stmt::SetVal { .. } => "SetVal",
+        Stmt::CreateView { .. } => "CreateView",
+        Stmt::ReplaceView { .. } => "ReplaceView",
+        Stmt::SetDefault { .. } => "SetDefault",
+        Stmt::AddPrimary { .. } => "AddPrimary",
+        Stmt::AddUnique { .. } => "AddUnique",
+        Stmt::AddForeign { .. } => "AddForeign",
+        Stmt::AddCheck { .. } => "AddCheck",
+        Stmt::CreateIndex { .. } => "CreateIndex",
+        Stmt::CreateUniqueIndex { .. } => "CreateUniqueIndex",
+        Stmt::CopyRows { .. } => "CopyRows",
+        Stmt::Grant { .. } => "Grant",
+        Stmt::Revoke { .. } => "Revoke",
+        Stmt::Comment { .. } => "Comment",
+        Stmt::OwnerTo { .. } => "OwnerTo",
+        Stmt::CreateRole { .. } => "CreateRole",
+        Stmt::AlterRole { .. } => "AlterRole",
+        Stmt::GrantRole { .. } => "GrantRole",
+        Stmt::CreateDatabase { .. } => "CreateDatabase",
+        Stmt::Connect { .. } => "Connect",
     }
 }
 
@@ -33,7 +59,7 @@ fn put_statements(
         if i > 0 {
             out.extend_from_slice(b" / ")?;
         }
-        put_kind(alloc, &located.stmt, out)?;
+        out.extend_from_slice(kind_name(&located.stmt).as_bytes())?;
         let span = format!(in alloc; " {}..{} ", located.start, located.end)?;
         out.extend_from_slice(span.as_bytes())?;
         put_spelling(&located.stmt, out)?;

@@ -7,7 +7,7 @@ use std::alloc::AllocError;
 use std::marker::Model;
 
 /// Dump ids, in the order in which an entry lists them. A contract sees them as a list of numbers.
-#[derive(Debug, Drop)]
+#[derive(Drop)]
 pub struct DumpIds {
     ids: Vec<u32>,
 }

@@ -6,7 +6,7 @@ use copy_text::Text;
 ///
 /// A text that is `None` isn't there; an empty text is one of length 0. Statements end with `;` and a line feed.
 /// <https://www.postgresql.org/docs/16/app-pgrestore.html>
-#[derive(Debug, PartialEq, Eq, Drop)]
+#[derive(Drop)]
 pub struct Entry {
     /// The number by which other entries and lists name it, from 1. No two entries of an archive share one.
     pub dump_id: u32,
@@ -43,7 +43,7 @@ pub struct Entry {
 }
 
 /// Where an archive keeps the rows of an entry.
-#[derive(Debug, PartialEq, Eq, Drop)]
+#[derive(Drop)]
 pub enum Extra {
     /// In the custom format: a place of the same file.
     Place {

@@ -4,7 +4,7 @@ use dump_ports::Moment;
 
 /// What an archive says of itself before its entries. A plain script shows the two versions of it alone.
 /// <https://www.postgresql.org/docs/16/app-pgdump.html>
-#[derive(Debug, PartialEq, Eq, Drop)]
+#[derive(Drop)]
 pub struct Head {
     /// The format's version, first number; a dump writes 1.
     pub major: u8,

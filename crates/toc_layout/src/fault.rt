@@ -12,7 +12,7 @@ use thiserror::Error;
 use toc_parts::{FieldError, FieldFault};
 
 /// What is wrong with an entry, and how many bytes are left from the first one of the field on.
-#[derive(Clone, Copy, Debug, PartialEq, Eq)]
+#[derive(Clone, Copy)]
 pub enum EntryHalt {
     /// The bytes end within the entry.
     Short,
@@ -39,7 +39,7 @@ pub enum EntryHalt {
 }
 
 /// Why an entry can't be read: its first fault, with the place of the field's first byte, counted from 0.
-#[derive(Clone, Copy, Debug, PartialEq, Eq, Error)]
+#[derive(Clone, Copy, Debug, Error)]
 pub enum EntryFault {
     /// The bytes end within the entry; their number.
     #[error("the bytes end at {0}, within an entry")]
@@ -76,7 +76,7 @@ impl EntryHalt {
 }
 
 /// Why the entry at the front could not be read: it is at fault, or memory ran out.
-#[derive(Debug, Drop)]
+#[derive(Drop)]
 pub enum EntryStop {
     /// The entry is at fault.
     Halt(EntryHalt),
@@ -166,7 +166,7 @@ pub enum ReadEntryError {
 }
 
 /// What is wrong with a head, and for a string how many bytes are left from its first one on.
-#[derive(Clone, Copy, Debug, PartialEq, Eq)]
+#[derive(Clone, Copy)]
 pub enum HeadHalt {
     /// The bytes don't begin with `PGDMP`.
     Magic,
@@ -188,7 +188,7 @@ pub enum HeadHalt {
 }
 
 /// Why a head can't be read: its first fault, in the order of the bytes. Places count bytes from 0.
-#[derive(Clone, Copy, Debug, PartialEq, Eq, Error)]
+#[derive(Clone, Copy, Debug, Error)]
 pub enum HeadFault {
     /// The text is a plain script that pg_dump or pg_dumpall wrote.
     #[error("a plain script and no archive")]
@@ -236,7 +236,7 @@ impl HeadHalt {
 }
 
 /// Why the head at the front could not be read: it is at fault, or memory ran out.
-#[derive(Debug, Drop)]
+#[derive(Drop)]
 pub enum HeadStop {
     /// The head is at fault.
     Halt(HeadHalt),
@@ -307,7 +307,7 @@ pub enum ReadHeadError {
 ///
 /// The order is the head, the format, the entries by bytes, the blocks by bytes, and then entry by entry whether it has
 /// its block, and whether its offset is that block's place.
-#[derive(Clone, Copy, Debug, PartialEq, Eq, Error)]
+#[derive(Clone, Copy, Debug, Error)]
 pub enum ArchiveFault {
     /// The head is at fault.
     #[error("{0}")]

@@ -6,7 +6,7 @@ use std::alloc::{AllocError, AllocFailed};
 use toc_layout::{ArchiveFault, EntryHalt};
 
 /// What is wrong with a table of contents; places are told by the bytes that are left.
-#[derive(Clone, Copy, Debug, PartialEq, Eq)]
+#[derive(Clone, Copy)]
 pub enum TocHalt {
     /// The number of entries, or an entry, is at fault.
     Entry(EntryHalt),
@@ -32,7 +32,7 @@ impl TocHalt {
 }
 
 /// Why a table of contents could not be read: it is at fault, or memory ran out.
-#[derive(Debug, Drop)]
+#[derive(Drop)]
 pub enum TocStop {
     /// The table is at fault.
     Halt(TocHalt),

@@ -10,7 +10,7 @@ use std::alloc::{AllocError, Global};
 use std::marker::Model;
 
 /// The first key at which two catalogues differ, with its text. A contract sees it as the key.
-#[derive(Debug, Drop)]
+#[derive(Drop)]
 pub struct Difference {
     key: Key,
     text: Vec<u8>,

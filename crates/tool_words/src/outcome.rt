@@ -21,7 +21,7 @@ use table_rows::{CheckValuesError, ValuesFault};
 use toc_layout::ArchiveFault;
 
 /// Which limit is passed.
-#[derive(Clone, Copy, Debug, PartialEq, Eq)]
+#[derive(Clone, Copy)]
 pub enum Limit {
     /// A script has at most 268,435,456 bytes.
     Script,
@@ -40,7 +40,7 @@ pub enum Limit {
 }
 
 /// A pattern that hits nothing: its place among those of its option, counted from 0.
-#[derive(Clone, Copy, Debug, PartialEq, Eq)]
+#[derive(Clone, Copy)]
 pub enum Unmatched {
     /// A pattern of schemas.
     Schemas(usize),
@@ -49,7 +49,7 @@ pub enum Unmatched {
 }
 
 /// What is wrong with a place of an export folder.
-#[derive(Debug, PartialEq, Eq, Drop)]
+#[derive(Drop)]
 pub enum ExportFault {
     /// The marker isn't that of version 1.
     Version,
@@ -62,7 +62,7 @@ pub enum ExportFault {
 }
 
 /// What a call of the program comes to.
-#[derive(Debug, Drop)]
+#[derive(Drop)]
 pub enum Outcome {
     /// The input was read to its end and the output is written.
     Done,

@@ -6,7 +6,7 @@ use cat_model::Cause;
 use std::marker::Model;
 
 /// The statement of a script at which the script stopped, since it was refused. A contract sees it as its place and the cause.
-#[derive(Debug, Drop)]
+#[derive(Drop)]
 pub struct Stop {
     at: usize,
     cause: Cause,
@@ -52,7 +52,7 @@ impl Stop {
 }
 
 /// The entry of an archive at which a restore stopped, since it was refused. A contract sees it as its dump id and the cause.
-#[derive(Debug, Drop)]
+#[derive(Drop)]
 pub struct RestoreStop {
     entry: u32,
     cause: Cause,

@@ -15,7 +15,7 @@ use copy_text::Text;
 use std::alloc::Global;
 
 /// Where a script is read.
-#[derive(Debug, Drop)]
+#[derive(Drop)]
 pub enum ScriptSource {
     /// The file of this name.
     File(Text),
@@ -24,7 +24,7 @@ pub enum ScriptSource {
 }
 
 /// A dump that is asked for.
-#[derive(Debug, Drop)]
+#[derive(Drop)]
 pub struct DumpAsked {
     /// The folder.
     pub folder: Text,
@@ -37,7 +37,7 @@ pub struct DumpAsked {
 }
 
 /// What is asked for of an archive that isn't restored into a folder.
-#[derive(Debug, Drop)]
+#[derive(Drop)]
 pub struct ArchiveAsked {
     /// The archive; standard input where it is absent.
     pub archive: Option<Text>,
@@ -49,7 +49,7 @@ pub struct ArchiveAsked {
 }
 
 /// What the words ask for, where that is built.
-#[derive(Debug, Drop)]
+#[derive(Drop)]
 pub enum Asked {
     /// psql applies a script to a folder.
     Psql {
@@ -74,7 +74,7 @@ pub enum Asked {
 }
 
 /// Who tells a refusal.
-#[derive(Clone, Copy, Debug, PartialEq, Eq)]
+#[derive(Clone, Copy)]
 pub enum Teller {
     /// The program, where its words have no reading.
     Program,

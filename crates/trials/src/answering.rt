@@ -108,7 +108,7 @@ fn answered<F: Files>(
     if let Some(name) = line.strip_prefix("@ ") {
         block.kind = kind_of(name);
         block.base = Base::new(alloc);
-        if block.kind == Kind::Unknown {
+        if let Kind::Unknown = block.kind {
             shown.extend_from_slice(b" => ?")?;
         }
     } else {

@@ -5,7 +5,7 @@ use table_cases::{Checked, checked_of};
 use text_cases::{TextKind, text_kind};
 
 /// What the cases of a block are of.
-#[derive(Clone, Copy, Debug, PartialEq, Eq)]
+#[derive(Clone, Copy)]
 pub(crate) enum Kind {
     /// No kind that there is.
     Unknown,
