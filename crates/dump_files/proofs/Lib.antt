@@ -7,3 +7,4 @@ pub mod OutletLemmas
 pub mod RowsLemmas
 pub mod LawLemmas
 pub mod OwnLemmas
+pub mod OwnRuns

@@ -1,5 +1,5 @@
 -- A data file that is read piece by piece: what is still to be put out of it.
-use Rattle.std.specs.Prelude.{ℕ, ◌+◌, Bool, false, List, [], ◌++◌, drop, None, if◌then◌else◌}
+use Rattle.std.specs.Prelude.{◌≡◌, ℕ, ◌+◌, Bool, false, List, [], ◌++◌, drop, None, if◌then◌else◌}
 use Rattle.data_rows.specs.Rows.{read_lines}
 use Rattle.dump_files.specs.Spelled.{Spelled, spelled_from}
 
@@ -29,3 +29,9 @@ behind out rows more = record { text = out ++ more.text; rows = rows + more.rows
 -- what is still to come of a file with this text
 abbrev pub to_come : ℕ → Reading → List ℕ → Spelled
 to_come columns r text = coming columns r.rows r.over (r.held ++ drop r.at text)
+
+-- the front of a text, up to this rest, comes out as it stands, and then so many rows are out
+pub record IsOwnRun (columns rows : ℕ) (text rest : List ℕ) (count : ℕ) : Type 0 where
+  pub front : List ℕ
+  pub parts : text ≡ front ++ rest
+  pub as_it_stands : (out more : List ℕ) → behind out rows (coming columns rows false (text ++ more)) ≡ behind (out ++ front) count (coming columns count false (rest ++ more))

@@ -1,15 +1,17 @@
 //! The whole lines of a text, spelled anew.
-ghost use Rattle.std.specs.Prelude.{◌≡◌, ◌≢◌, ◌+◌, ◌≤◌, ◌<◌, ◌^◌, ℕ, true, false, [], ◌∷◌, ◌++◌, All, List, length, Some, Err, IfOk, IfNone, IfSome};
+ghost use Rattle.std.specs.Prelude.{◌≡◌, ◌≢◌, ◌+◌, ◌-◌, ◌≤◌, ◌<◌, ◌^◌, ℕ, true, false, [], ◌∷◌, ◌++◌, All, List, length, take, Some, Err, IfOk, OnOk, IfNone, IfSome};
+ghost use Rattle.std.specs.List.{list_all};
 ghost use Rattle.copy_text.specs.Marks.{newline};
 ghost use Rattle.copy_text.specs.Reading.{row_of};
 ghost use Rattle.data_rows.specs.Rows.{read_lines};
-ghost use Rattle.dump_files.specs.Readings.{coming, behind};
+ghost use Rattle.dump_files.specs.Own.{is_own_or_newline};
+ghost use Rattle.dump_files.specs.Readings.{coming, behind, IsOwnRun};
 ghost use Rattle.dump_files.specs.Stops.{TellsFault};
 
-use crate::row::spell_line;
+use crate::row::{are_own_lines, has_columns, spell_line};
 use data_rows::{CheckRowsError, RowsFault};
 use memchr::memchr;
-use std::alloc::Global;
+use std::alloc::{AllocError, Global};
 
 // The whole line that ends the rows.
 const END_MARK: &[u8; 2] = b"\\.";
@@ -56,6 +58,57 @@ pub(crate) fn spell_whole(
     Ok(false)
 }
 
+/// What is left of a text behind its first whole lines that stand for their rows, and how many rows there are then.
+fn behind_own(text: &[u8], columns: usize, rows: u64) -> (&[u8], u64)
+    requires own { list_all is_own_or_newline text.now ≡ true }
+    requires room { rows + length text.now < 2 ^ 64 }
+    ensures own { IsOwnRun columns rows text.now result.0.now result.1 }
+    ensures room { result.1 + length result.0.now ≤ rows + length text.now }
+    ensures within { length result.0.now ≤ length text.now }
+{
+    let mut rest = text;
+    let mut count = rows;
+    while let Some((line, behind)) = split_whole(rest) {
+        if !has_columns(line, columns) {
+            return (rest, count);
+        }
+        count += 1;
+        rest = behind;
+    }
+    (rest, count)
+}
+
+/// Appends a text but for its end, which is this long.
+fn put_front(text: &[u8], end: usize, out: &mut Vec<u8>) -> Result<(), AllocError>
+    requires { end ≤ length text.now }
+    ensures { OnOk result (out.new.items ≡ out.old.items ++ take (length text.now - end) text.now) }
+{
+    let (front, _) = text.split_at(text.len() - end);
+    out.extend_from_slice(front)?;
+    Ok(())
+}
+
+/// Appends the first whole lines of a text at once, where all of it is its own spelling. What is left, and how many rows are
+/// out then.
+fn put_own<'a>(
+    text: &'a [u8],
+    columns: usize,
+    rows: u64,
+    out: &mut Vec<u8>,
+) -> Result<(&'a [u8], u64), AllocError>
+    requires { rows + length text.now < 2 ^ 64 }
+    ensures same { (more : List ℕ) → IfOk result (λ x. behind out.old.items rows (coming columns rows false (text.now ++ more)) ≡ behind out.new.items x.1 (coming columns x.1 false (x.0.now ++ more))) }
+    ensures room { IfOk result (λ x. x.1 + length x.0.now ≤ rows + length text.now) }
+    ensures within { IfOk result (λ x. length x.0.now ≤ length text.now) }
+{
+    if !are_own_lines(text) {
+        return Ok((text, rows));
+    }
+    let (rest, count) = behind_own(text, columns, rows);
+    put_front(text, rest.len(), out)?;
+    Ok((rest, count))
+}
+
 /// What is left of a text once its whole lines are out, how many rows are out, and whether all is.
 pub(crate) fn spell_lines<'a>(
     alloc: Global,
@@ -71,8 +124,7 @@ pub(crate) fn spell_lines<'a>(
     ensures room { IfOk result (λ x. x.1 + length x.0.now ≤ rows + length text.now) }
     ensures within { IfOk result (λ x. length x.0.now ≤ length text.now) }
 {
-    let mut rest = text;
-    let mut count = rows;
+    let (mut rest, mut count) = put_own(text, columns, rows, out)?;
     while let Some((line, behind)) = split_whole(rest) {
         if spell_whole(alloc, line, columns, count, out)? {
             return Ok((b"", count, true));

@@ -1,11 +1,11 @@
 //! One row, spelled anew.
-ghost use Rattle.std.specs.Prelude.{◌≡◌, ◌≢◌, ◌+◌, ◌≤◌, ◌∷◌, [], ◌++◌, ◌==◌, true, All, IsTrue, List, Ok, Err, IfOk, IfNone, IfSome, count_by, length};
+ghost use Rattle.std.specs.Prelude.{◌≡◌, ◌≢◌, ◌+◌, ◌≤◌, ◌<◌, ◌∷◌, [], ◌++◌, ◌==◌, true, All, IsTrue, List, Ok, Err, IfOk, IfNone, IfSome, count_by, length};
 ghost use Rattle.std.specs.List.{list_all};
 ghost use Rattle.copy_text.specs.Marks.{newline, tab};
 ghost use Rattle.copy_text.specs.Rows.{Field};
 ghost use Rattle.copy_text.specs.Reading.{row_of};
 ghost use Rattle.data_rows.specs.Rows.{checked_row};
-ghost use Rattle.dump_files.specs.Own.{is_own};
+ghost use Rattle.dump_files.specs.Own.{is_own, is_own_or_newline};
 ghost use Rattle.dump_files.specs.Spelled.{row_line};
 
 use copy_text::write_row;
@@ -48,8 +48,9 @@ fn are_own(line: &[u8]) -> bool
     own
 }
 
-/// How many tabs a line has.
-fn tab_count(line: &[u8]) -> usize
+/// How many tabs a line has that is shorter than 256 bytes. The count is as small as a byte, so that many are counted at once.
+fn few_tabs(line: &[u8]) -> u8
+    requires { length line.now < 256 }
     ensures tabs { result ≡ count_by (λ b. b == tab) line.now }
     ensures few { result ≤ length line.now }
 {
@@ -60,6 +61,56 @@ fn tab_count(line: &[u8]) -> usize
         }
     }
     count
+}
+
+/// How many tabs a line has, of any length.
+fn many_tabs(line: &[u8]) -> usize
+    ensures tabs { result ≡ count_by (λ b. b == tab) line.now }
+    ensures few { result ≤ length line.now }
+{
+    let mut count = 0;
+    for byte in line {
+        if *byte == b'\t' {
+            count += 1;
+        }
+    }
+    count
+}
+
+/// How many tabs a line has.
+fn tab_count(line: &[u8]) -> usize
+    ensures tabs { result ≡ count_by (λ b. b == tab) line.now }
+    ensures few { result ≤ length line.now }
+{
+    if line.len() < 256 {
+        few_tabs(line) as usize
+    } else {
+        many_tabs(line)
+    }
+}
+
+fn is_own_or_newline(byte: u8) -> bool
+    ensures { result ≡ is_own_or_newline byte }
+{
+    is_own(byte) | (byte == b'\n')
+}
+
+/// Whether each byte of a text ends a line or is its own spelling. It looks at all of them, so that many are tried at once.
+pub(crate) fn are_own_lines(text: &[u8]) -> bool
+    ensures { IsTrue result → list_all is_own_or_newline text.now ≡ true }
+{
+    let mut own = true;
+    for byte in text {
+        own &= is_own_or_newline(*byte);
+    }
+    own
+}
+
+/// Whether a line has a field for each column, where each of its bytes is its own spelling.
+pub(crate) fn has_columns(line: &[u8], columns: usize) -> bool
+    ensures { IsTrue result → count_by (λ b. b == tab) line.now + 1 ≡ columns }
+{
+    tab_count(line) + 1 == columns
 }
 
 /// Appends a line that is its row's one spelling, where it has a field for each column.
