@@ -1,6 +1,5 @@
 -- What the words of a command line ask for, as far as it is built, and who tells a refusal.
-use Rattle.std.specs.Prelude.{Bool, true, false, ◌&&◌, ◌||◌, not, List, [], ◌∷◌, Option, Some, None, is_none, Result, Ok, Err, codes, if◌then◌else◌}
-use Rattle.cat_names.specs.Rights.{is_empty_list}
+use Rattle.std.specs.Prelude.{ℕ, nat_lt, Bool, true, false, ◌||◌, List, [], ◌∷◌, Option, Some, None, is_none, Result, Ok, Err, codes, if◌then◌else◌}
 use Rattle.std.specs.Str.{bytes_eq}
 use Rattle.cat_model.specs.Values.{Bytes}
 use Rattle.cat_model.specs.declared.words.What.TheVariants.{Unbuilt}
@@ -8,7 +7,6 @@ use Rattle.command_line.specs.declared.command.Command.{Command}
 use Rattle.command_line.specs.declared.command.Command.TheVariants as command
 use Rattle.command_line.specs.declared.command.Folder.{Folder}
 use Rattle.command_line.specs.declared.command.Folder.TheVariants as folder
-use Rattle.command_line.specs.declared.command.Choice.{Choice}
 use Rattle.command_line.specs.declared.command.DumpWords.{DumpWords}
 use Rattle.command_line.specs.declared.command.PsqlWords.{PsqlWords}
 use Rattle.command_line.specs.declared.command.RestoreWords.{RestoreWords}
@@ -21,9 +19,10 @@ use Rattle.command_line.specs.Usage.{usage_of, command_from}
 use Rattle.tool_words.specs.declared.outcome.Outcome.{Outcome}
 use Rattle.tool_words.specs.declared.outcome.Outcome.TheVariants.{Usage, OutOfProfile}
 use Rattle.tool_words.specs.declared.words.Asked.{Asked}
-use Rattle.tool_words.specs.declared.words.Asked.TheVariants.{Psql, Dump, Archive, Compare}
+use Rattle.tool_words.specs.declared.words.Asked.TheVariants.{Psql, Dump, Archive, Restore, Compare}
 use Rattle.tool_words.specs.declared.words.ArchiveAsked.{ArchiveAsked}
 use Rattle.tool_words.specs.declared.words.DumpAsked.{DumpAsked}
+use Rattle.tool_words.specs.declared.words.RestoreAsked.{RestoreAsked}
 use Rattle.tool_words.specs.declared.words.ScriptSource.{ScriptSource}
 use Rattle.tool_words.specs.declared.words.ScriptSource.TheVariants.{File, Input}
 use Rattle.tool_words.specs.declared.words.Teller.{Teller}
@@ -45,28 +44,10 @@ script_from (Some name) = if bytes_eq name (codes "-") then Input else File name
 abbrev pub psql_asked : PsqlWords → Option Asked
 psql_asked words = Some (Psql (folder_named words.folder) (script_from words.file) words.on_error_stop)
 
--- something is left out of a dump by a flag, or each pattern has to hit
-abbrev pub is_flagged : Choice → Bool
-is_flagged choice = choice.data_only || choice.schema_only || choice.no_owner || choice.no_privileges || choice.no_comments || choice.strict_names
-
--- no object and no section is chosen by name
-abbrev pub names_none : Choice → Bool
-names_none choice =
-    is_empty_list choice.schemas && is_empty_list choice.exclude_schemas && is_empty_list choice.tables && is_empty_list choice.exclude_tables
-    && is_empty_list choice.exclude_table_data && is_empty_list choice.sections
-
--- all of a folder is dumped
-abbrev pub takes_all : Choice → Bool
-takes_all choice = not (is_flagged choice) && names_none choice
-
 -- a script is what is written where no format is named
 abbrev pub format_of : Option Format → Format
 format_of None = format.Plain
 format_of (Some f) = f
-
-abbrev pub is_plain : Format → Bool
-is_plain format.Plain = true
-is_plain _ = false
 
 -- where a dump is written: standard output where no file is named, or `-`
 abbrev pub printed_or : Option Bytes → Option Bytes
@@ -81,13 +62,27 @@ dump_asked words = Some (Dump (record { folder = folder_named words.folder; choi
 abbrev pub archive_of : RestoreWords → ArchiveAsked
 archive_of words = record { archive = printed_or words.archive; target = printed_or words.file; words = record words { archive = None; file = None } }
 
--- pg_restore writes a list where that is asked for, and a script where no folder is named; it restores into a folder else
-abbrev pub archive_asked : RestoreWords → Option Asked
-archive_asked words = if words.list || is_none words.dbname then Some (Archive (archive_of words)) else None
+-- more than one worker is asked for
+abbrev pub has_workers : Option ℕ → Bool
+has_workers None = false
+has_workers (Some jobs) = nat_lt 1 jobs
 
--- the script of a whole folder is printed
-abbrev pub is_whole_script : DumpAsked → Bool
-is_whole_script asked = is_none asked.target && is_plain asked.format && takes_all asked.choice
+-- the folder that is restored into, what is read, and the other words of pg_restore
+abbrev pub restoring_of : Bytes → RestoreWords → RestoreAsked
+restoring_of folder words = record { folder = folder; archive = printed_or words.archive; words = record words { dbname = None; archive = None } }
+
+-- pg_restore restores into a folder with one worker
+abbrev pub restore_asked : Bytes → RestoreWords → Option Asked
+restore_asked folder words = if has_workers words.jobs then None else Some (Restore (restoring_of folder words))
+
+-- where no list is asked for it restores into the folder that is named, and writes a script where none is
+abbrev pub unlisted_asked : Option Bytes → RestoreWords → Option Asked
+unlisted_asked None words = Some (Archive (archive_of words))
+unlisted_asked (Some folder) words = restore_asked folder words
+
+-- pg_restore writes a list where that is asked for
+abbrev pub archive_asked : RestoreWords → Option Asked
+archive_asked words = if words.list then Some (Archive (archive_of words)) else unlisted_asked words.dbname words
 
 -- what a command asks for, where that is built
 abbrev pub asked_of : Command → Option Asked
@@ -123,6 +118,7 @@ abbrev pub asks_for_input : Asked → Bool
 asks_for_input (Psql folder script stop) = is_input script
 asks_for_input (Dump asked) = false
 asks_for_input (Archive asked) = is_none asked.archive
+asks_for_input (Restore asked) = is_none asked.archive
 asks_for_input (Compare first second) = false
 
 abbrev pub asked_input : Result Asked Outcome → Bool

@@ -12,5 +12,5 @@ pub use outcome::{ExportFault, Limit, Outcome, Unmatched};
 pub use stop::{RestoreStop, Stop};
 pub use telling::{tell, write_bytes};
 pub use words::{
-    ArchiveAsked, Asked, DumpAsked, ScriptSource, Teller, is_whole_script, read_asked, teller_of,
+    ArchiveAsked, Asked, DumpAsked, RestoreAsked, ScriptSource, Teller, read_asked, teller_of,
 };

@@ -1,15 +1,14 @@
 //! What the words of a command line ask for.
 ghost use Rattle.std.specs.Prelude.{◌≡◌, ℕ, List, Option, Some, None, Result, Ok, Err, MatchResult};
-ghost use Rattle.cat_names.specs.Rights.{is_empty_list};
 ghost use Rattle.tool_words.specs.Answers.{Gives, CountsRead};
-ghost use Rattle.tool_words.specs.Words.{folder_named, script_from, psql_asked, archive_of, archive_asked, is_flagged, names_none, takes_all, format_of, printed_or, is_whole_script, dump_asked, asked_of, built, words_asked, told_by, teller_of};
+ghost use Rattle.tool_words.specs.Words.{folder_named, script_from, psql_asked, archive_of, has_workers, restoring_of, restore_asked, unlisted_asked, archive_asked, format_of, printed_or, dump_asked, asked_of, built, words_asked, told_by, teller_of};
 ghost use Rattle.tool_words.specs.Messages.{teller_name};
 
 use crate::outcome::Outcome;
 use cat_model::What;
 use command_line::{
-    Choice, Command, CompareWords, DumpWords, Folder, Format, Patterns, PsqlWords, ReadWordsError,
-    RestoreWords, SectionList, Tool, UsageFault, read_words, usage_fault,
+    Choice, Command, CompareWords, DumpWords, Folder, Format, PsqlWords, ReadWordsError,
+    RestoreWords, Tool, UsageFault, read_words, usage_fault,
 };
 use copy_text::Text;
 use std::alloc::Global;
@@ -48,6 +47,18 @@ pub struct ArchiveAsked {
     pub words: RestoreWords,
 }
 
+/// What is asked for of an archive that is restored into a folder, with one worker.
+#[derive(Drop)]
+pub struct RestoreAsked {
+    /// The folder.
+    pub folder: Text,
+    /// The archive; standard input where it is absent.
+    pub archive: Option<Text>,
+    /// What the words say further: the archive's format, the list file, which entries are taken, whether owners are set, and
+    /// what comes behind a refusal.
+    pub words: RestoreWords,
+}
+
 /// What the words ask for, where that is built.
 #[derive(Drop)]
 pub enum Asked {
@@ -64,6 +75,8 @@ pub enum Asked {
     Dump(DumpAsked),
     /// pg_restore writes the list or the script of an archive.
     Archive(ArchiveAsked),
+    /// pg_restore restores an archive into a folder.
+    Restore(RestoreAsked),
     /// pg_catcmp compares two folders.
     Compare {
         /// The first folder.
@@ -203,16 +216,58 @@ fn dump_asked(words: DumpWords) -> Option<Asked>
     }))
 }
 
-/// pg_restore writes a list where that is asked for, and a script where no folder is named.
+/// pg_restore writes a list where that is asked for, and a script where no folder is named; else it restores into that.
 fn archive_asked(words: RestoreWords) -> Option<Asked>
     ensures { result ≡ archive_asked words }
 {
-    match (words.list, words.dbname.is_none()) {
-        (false, false) => {
-            drop(words);
-            None
-        }
-        _ => Some(Asked::Archive(archive_of(words))),
+    if words.list {
+        Some(Asked::Archive(archive_of(words)))
+    } else {
+        unlisted_asked(words)
+    }
+}
+
+fn unlisted_asked(mut words: RestoreWords) -> Option<Asked>
+    ensures { result ≡ unlisted_asked words.dbname words }
+{
+    match words.dbname.take() {
+        Some(folder) => restore_asked(folder, words),
+        None => Some(Asked::Archive(archive_of(words))),
+    }
+}
+
+/// A restore with one worker.
+fn restore_asked(folder: Text, words: RestoreWords) -> Option<Asked>
+    ensures { result ≡ restore_asked folder words }
+{
+    if has_workers(words.jobs) {
+        drop(folder);
+        drop(words);
+        None
+    } else {
+        Some(Asked::Restore(restoring_of(folder, words)))
+    }
+}
+
+/// Whether more than one worker is asked for.
+fn has_workers(jobs: Option<u16>) -> bool
+    ensures { result ≡ has_workers jobs }
+{
+    match jobs {
+        Some(jobs) => jobs > 1,
+        None => false,
+    }
+}
+
+fn restoring_of(folder: Text, mut words: RestoreWords) -> RestoreAsked
+    ensures { result ≡ restoring_of folder words }
+{
+    words.dbname = None;
+    let archive = printed_or(words.archive.take());
+    RestoreAsked {
+        folder,
+        archive,
+        words,
     }
 }
 
@@ -245,61 +300,5 @@ fn format_of(format: Option<Format>) -> Format
     match format {
         Some(format) => format,
         None => Format::Plain,
-    }
-}
-
-/// Whether the script of a whole folder is printed.
-pub fn is_whole_script(asked: &DumpAsked) -> bool
-    ensures { result ≡ is_whole_script asked.now }
-{
-    asked.target.is_none() && matches!(asked.format, Format::Plain) && takes_all(&asked.choice)
-}
-
-/// Whether all of a folder is dumped.
-fn takes_all(choice: &Choice) -> bool
-    ensures { result ≡ takes_all choice.now }
-{
-    !is_flagged(choice) && names_none(choice)
-}
-
-/// Whether a flag leaves something out, or wants each pattern to hit.
-fn is_flagged(choice: &Choice) -> bool
-    ensures { result ≡ is_flagged choice.now }
-{
-    choice.data_only
-        || choice.schema_only
-        || choice.no_owner
-        || choice.no_privileges
-        || choice.no_comments
-        || choice.strict_names
-}
-
-/// Whether no object and no section is chosen by name.
-fn names_none(choice: &Choice) -> bool
-    ensures { result ≡ names_none choice.now }
-{
-    has_none(&choice.schemas)
-        && has_none(&choice.exclude_schemas)
-        && has_none(&choice.tables)
-        && has_none(&choice.exclude_tables)
-        && has_none(&choice.exclude_table_data)
-        && has_no_section(&choice.sections)
-}
-
-fn has_none(patterns: &Patterns) -> bool
-    ensures { result ≡ is_empty_list patterns.now }
-{
-    match patterns.as_slice() {
-        [] => true,
-        [_, ..] => false,
-    }
-}
-
-fn has_no_section(sections: &SectionList) -> bool
-    ensures { result ≡ is_empty_list sections.now }
-{
-    match sections.as_slice() {
-        [] => true,
-        [_, ..] => false,
     }
 }
