@@ -44,9 +44,10 @@ pub(crate) fn put_block<F: Files, O: Sink>(
     start_block(id, waiting)?;
     let mut reader = RowReader::new(alloc)?;
     let mut run = Vec::new(alloc);
+    let mut spare = Vec::new(alloc);
     'pieces: loop {
         let more = reader.next(alloc, files, file, &mut run)?;
-        pack(alloc, &mut run, waiting)?;
+        pack(&mut run, &mut spare, waiting)?;
         pass(files, out, target, waiting, passed)?;
         if !more {
             finish_block(&run, waiting)?;

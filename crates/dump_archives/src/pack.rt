@@ -4,23 +4,24 @@ ghost use Rattle.fmt_custom.specs.Blocks.{piece};
 ghost use Rattle.dump_archives.specs.Pieces.{packed};
 
 use fmt_custom::{end_block, write_piece};
-use std::alloc::{AllocError, Global};
+use std::alloc::AllocError;
+use std::mem::swap;
 
 /// How many bytes a piece has, unless it is the last one.
 const PIECE: usize = 65536;
 
-/// Moves the whole pieces of a run to what waits.
+/// Moves the whole pieces of a run to what waits. What is left changes places with what `spare` holds, which is room alone.
 pub(crate) fn pack(
-    alloc: Global,
     run: &mut Vec<u8>,
+    spare: &mut Vec<u8>,
     waiting: &mut Vec<u8>,
 ) -> Result<(), AllocError>
     ensures ok { OnOk result ((more : List ℕ) × (waiting.new.items ≡ waiting.old.items ++ more) × ((rest : List ℕ) → packed (run.old.items ++ rest) ≡ more ++ packed (run.new.items ++ rest))) }
     ensures short { OnOk result (length run.new.items < 65536) }
 {
-    let mut left = Vec::new(alloc);
-    left.extend_from_slice(pack_pieces(run, waiting)?)?;
-    *run = left;
+    spare.clear();
+    spare.extend_from_slice(pack_pieces(run, waiting)?)?;
+    swap(run, spare);
     Ok(())
 }
 
