@@ -150,17 +150,17 @@ module _ (tree : Tree) (head : Head) (entries : List Entry) (needed : List DataF
   half : (front text : List ℕ) (n : ℕ) → n ≤ length front → overwritten 0 (take n front) text ≡ take n front ++ drop n text
   half front text n l = let whole : 0 + length (take n front) ≡ n = omega (arith, length-take-le n front l) in ap (λ (k : ℕ). take n front ++ drop k text) whole
 
-  pub halted_out : (target : Option (List ℕ)) → mid ≡ outputs target (unplaced_out tree head entries needed).text before → IsPartRefronted target (front_text (head_seen head) (told entries places)) mid.tree now
+  pub halted_out : (target : Option (List ℕ)) → (unplaced_out tree head entries needed).bad ≡ None → mid ≡ outputs target (unplaced_out tree head entries needed).text before → IsPartRefronted target (front_text (head_seen head) (told entries places)) mid.tree now
       → ((name : List ℕ) → target ≡ Some name → places ≡ places_from tree (length (first_front head entries)) entries needed) → IsHalted tree target head entries needed before (outside now mid.written)
-  halted_out None e r at = absurd r
-  halted_out (Some name) e r at =
+  halted_out None good e r at = absurd r
+  halted_out (Some name) good e r at =
       by (custom_front tree head entries needed) (subst (λ (l : List ℕ). TakesPrefix (patched name 0) l mid.tree now) (front_is (at name refl)) r)
     where
-      by : (front : List ℕ) → TakesPrefix (patched name 0) front mid.tree now → IsBegun (Some name) (unplaced_out tree head entries needed).text before (outside now mid.written) ⊎ IsHalfPlaced (Some name) front (unplaced_out tree head entries needed).text before (outside now mid.written)
+      by : (front : List ℕ) → TakesPrefix (patched name 0) front mid.tree now → IsBegun (Some name) (unplaced_out tree head entries needed).text before (outside now mid.written) ⊎ (((unplaced_out tree head entries needed).bad ≡ None) × IsHalfPlaced (Some name) front (unplaced_out tree head entries needed).text before (outside now mid.written))
       by front (inl same) = inl (inr (all_out (Some name) (unplaced_out tree head entries needed).text e same))
       by front (inr p) =
           let text = (unplaced_out tree head entries needed).text in
-          inr (p.0, p.1, patched_out name text (take p.0 front) before mid now e p.2 ∙ ap (λ (l : List ℕ). outputs (Some name) l before) (half front text p.0 p.1))
+          inr (good, (p.0, p.1, patched_out name text (take p.0 front) before mid now e p.2 ∙ ap (λ (l : List ℕ). outputs (Some name) l before) (half front text p.0 p.1)))
 
 -- nothing more was written than some first part of the dump
 pub halted_cut : (tree : Tree) (target : Option (List ℕ)) (head : Head) (entries : List Entry) (needed : List DataFile) (before now : Outside) → IsBegun target (unplaced_out tree head entries needed).text before now → IsHalted tree target head entries needed before now

@@ -79,8 +79,8 @@ abbrev pub IsHalfPlaced : Option (List ℕ) → List ℕ → List ℕ → Outsid
 IsHalfPlaced None front text before after_it = ⊥
 IsHalfPlaced (Some name) front text before after_it = (n : ℕ) × (n ≤ length front) × (after_it ≡ outputs (Some name) (take n front ++ drop n text) before)
 
--- nothing changed, or some first part of the dump without places is put out, or places are told in part
+-- nothing changed, or some first part of the dump without places is put out; or no row fails, and places are told in part
 abbrev pub IsHalted : Tree → Option (List ℕ) → Head → List Entry → List DataFile → Outside → Outside → Type 0
 IsHalted tree target head entries needed before after_it =
-    let text = (unplaced_out tree head entries needed).text in
-    IsBegun target text before after_it ⊎ IsHalfPlaced target (custom_front tree head entries needed) text before after_it
+    let due = unplaced_out tree head entries needed in
+    IsBegun target due.text before after_it ⊎ ((due.bad ≡ None) × IsHalfPlaced target (custom_front tree head entries needed) due.text before after_it)

@@ -29,8 +29,9 @@ use toc_entry::{Entry, Head};
 /// standard output they stay as they are. What an entry itself says of the place of its rows isn't looked at.
 ///
 /// Each data file is read once, a piece at a time. After an error a first part of the dump is written, up to the first row
-/// that fails; or in a file all of it, and the places are told in part. Nothing is written, and `Memory` is told, of a head and
-/// entries of which no archive can be made. <https://www.postgresql.org/docs/16/app-pgdump.html>
+/// that fails; or, where none fails, in a file all of it, and the places are told in part. So no place is told where a row
+/// fails. Nothing is written, and `Memory` is told, of a head and entries of which no archive can be made.
+/// <https://www.postgresql.org/docs/16/app-pgdump.html>
 pub fn custom_dump<F: Files, O: Sink>(
     alloc: Global,
     files: &mut F,

@@ -11,7 +11,7 @@ use Rattle.dump_files.specs.declared.file.DataFile.{DataFile}
 use Rattle.dump_files.specs.declared.stop.DumpStop.{DumpStop}
 use Rattle.dump_files.specs.declared.stop.DumpStop.TheVariants as stops
 use Rattle.dump_files.specs.Outlets.{Outside, outside, outputs}
-use Rattle.dump_plain.specs.Dumps.{Output}
+use Rattle.dump_plain.specs.Dumps.{BadRow, Output}
 use Rattle.dump_plain.specs.Stops.{IsDumpStop}
 use Rattle.dump_archives.specs.Customs.{unplaced_out, custom_front, custom_written, IsHalfPlaced, IsHalted}
 use Rattle.dump_archives.proofs.GrowingLemmas.{bytes_put}
@@ -48,18 +48,20 @@ over_out : (name text front : List ℕ) (before : Outside) → outputs (Some nam
 over_out name text front before = ap (λ (t : Option Tree). outside t before.written) (sym (patched_by name text front before.tree))
 
 -- all of it is there
-whole_by : (target : Option (List ℕ)) (text front written : List ℕ) (before after : Outside) → ((name : List ℕ) → target ≡ Some name → written ≡ overwritten 0 front text) → (target ≡ None → written ≡ text)
-    → after ≡ outputs target written before → after ≡ all_out (record { place = place_of target; text = text } ∷ places_put target front) before
-whole_by None text front written before after over same e = e ∙ ap (λ x. outputs None x before) (same refl)
-whole_by (Some name) text front written before after over same e = e ∙ ap (λ x. outputs (Some name) x before) (over name refl) ∙ over_out name text front before
+whole_by : (bad : Option BadRow) (target : Option (List ℕ)) (text front written : List ℕ) (before after : Outside) → bad ≡ None → ((name : List ℕ) → target ≡ Some name → written ≡ overwritten 0 front text) → (target ≡ None → written ≡ text)
+    → after ≡ outputs target written before → after ≡ all_out (record { place = place_of target; text = text } ∷ places_put bad target front) before
+whole_by (Some row) target text front written before after good over same e = absurd cc
+whole_by None None text front written before after good over same e = e ∙ ap (λ x. outputs None x before) (same refl)
+whole_by None (Some name) text front written before after good over same e = e ∙ ap (λ x. outputs (Some name) x before) (over name refl) ∙ over_out name text front before
 
 pub custom_whole : (tree : Tree) (target : Option (List ℕ)) (head : Head) (entries : List Entry) (needed : List DataFile) (before after : Outside)
+    → (unplaced_out tree head entries needed).bad ≡ None
     → after ≡ outputs target (custom_written tree target head entries needed) before
     → after ≡ all_out (custom_put target (unplaced_out tree head entries needed) (custom_front tree head entries needed)).pieces before
-custom_whole tree target head entries needed before after e =
+custom_whole tree target head entries needed before after good e =
     let due = unplaced_out tree head entries needed in
     let front = custom_front tree head entries needed in
-    whole_by target due.text front (custom_written tree target head entries needed) before after
+    whole_by due.bad target due.text front (custom_written tree target head entries needed) before after good
     (λ name is. ap (λ t. custom_written tree t head entries needed) is ∙ written_in_place tree name head entries needed)
     (λ is. ap (λ t. custom_written tree t head entries needed) is)
     e
@@ -68,9 +70,10 @@ custom_whole tree target head entries needed before after e =
 front_length : (n : ℕ) (front : List ℕ) → n ≤ length front → 0 + length (take n front) ≡ n
 front_length n front l = omega (arith, length-take-le n front l)
 
-half_by : (target : Option (List ℕ)) (text front : List ℕ) (before after : Outside) → IsHalfPlaced target front text before after → PartOut (record { place = place_of target; text = text } ∷ places_put target front) before after
-half_by None text front before after h = elim h [ ]
-half_by (Some name) text front before after h =
+half_by : (bad : Option BadRow) (target : Option (List ℕ)) (text front : List ℕ) (before after : Outside) → bad ≡ None → IsHalfPlaced target front text before after → PartOut (record { place = place_of target; text = text } ∷ places_put bad target front) before after
+half_by (Some row) target text front before after good h = absurd cc
+half_by None None text front before after good h = elim h [ ]
+half_by None (Some name) text front before after good h =
     let part = take h.0 front in
     record {
       front = both_pieces name text part;
@@ -90,9 +93,9 @@ half_by (Some name) text front before after h =
 pub custom_part : (tree : Tree) (target : Option (List ℕ)) (head : Head) (entries : List Entry) (needed : List DataFile) (before after : Outside) → IsHalted tree target head entries needed before after
     → PartOut (custom_put target (unplaced_out tree head entries needed) (custom_front tree head entries needed)).pieces before after
 custom_part tree target head entries needed before after (inl begun) =
-    begun_out target (unplaced_out tree head entries needed).text (places_put target (custom_front tree head entries needed)) before after begun
+    begun_out target (unplaced_out tree head entries needed).text (places_put (unplaced_out tree head entries needed).bad target (custom_front tree head entries needed)) before after begun
 custom_part tree target head entries needed before after (inr h) =
-    half_by target (unplaced_out tree head entries needed).text (custom_front tree head entries needed) before after h
+    half_by (unplaced_out tree head entries needed).bad target (unplaced_out tree head entries needed).text (custom_front tree head entries needed) before after h.0 h.1
 
 -- ---- archives in folders
 

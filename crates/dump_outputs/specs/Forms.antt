@@ -27,13 +27,14 @@ abbrev pub script_put : Option (List ℕ) → Output → Putting
 script_put target due = one_piece target due.text due.bad
 
 -- A custom archive in a file tells the places of its blocks over its first bytes, once all else is written. On standard output
--- it tells none.
-abbrev pub places_put : Option (List ℕ) → List ℕ → List Piece
-places_put None front = []
-places_put (Some name) front = record { place = Patched name; text = front } ∷ []
+-- it tells none, and nowhere where a row fails.
+abbrev pub places_put : Option BadRow → Option (List ℕ) → List ℕ → List Piece
+places_put (Some bad) target front = []
+places_put None None front = []
+places_put None (Some name) front = record { place = Patched name; text = front } ∷ []
 
 abbrev pub custom_put : Option (List ℕ) → Output → List ℕ → Putting
-custom_put target due front = record { pieces = record { place = place_of target; text = due.text } ∷ places_put target front; bad = due.bad }
+custom_put target due front = record { pieces = record { place = place_of target; text = due.text } ∷ places_put due.bad target front; bad = due.bad }
 
 abbrev pub stored : Written → Piece
 stored file = record { place = Stored file.name; text = file.text }

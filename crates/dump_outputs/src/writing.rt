@@ -130,7 +130,7 @@ fn write_directory<F: Files, O: Sink>(
 /// the directory format into a folder. A custom archive in a file tells the places of its blocks once all of them are there.
 ///
 /// The files that are read have to stand apart from those that are written. Each is read once, a piece at a time. After an
-/// error some first part of the dump is written, up to the first row that fails.
+/// error some first part of the dump is written, up to the first row that fails; no place is told where one fails.
 /// <https://www.postgresql.org/docs/16/app-pgdump.html>
 #[tactic(auto, unfolding(crate::specs::Forms::dump_put, crate::specs::Forms::IsClear))]
 pub fn write_dump<F: Files, O: Sink>(

@@ -48,7 +48,7 @@ returns-in_err-place_front-clause-err g c = λ tree is apart.
     let found = c.in_ok-rows.ensures.ok tree before c.in_ok-begin.ensures.ok is apart in
     rw (p.1, p.2) (
       late_dump tree needed due c.in_err-place_front.field-0.0 c.in_err-place_front.ensures.late,
-      halted_out tree head entries needed c.deref.result.now before mid (g.F.Files.tree c.place_front.new.files) target found.2 c.in_err-place_front.ensures.err
+      halted_out tree head entries needed c.deref.result.now before mid (g.F.Files.tree c.place_front.new.files) target found.0 found.2 c.in_err-place_front.ensures.err
           (λ name at. c.deref.ensures.value ∙ c.in_ok-rows.ensures.places tree before name at c.in_ok-begin.ensures.ok is apart ∙ ap (λ (l : List ℕ). l ++ places_from tree (length (first_front head entries)) entries needed) c.new-places.ensures.items),
     )
 

@@ -7,7 +7,7 @@ use Rattle.dump_outputs.proofs.writing.write_custom.Goals as goal
 pub returns-in-Ok-clause-ok : goal.returns-in-Ok-clause-ok
 returns-in-Ok-clause-ok g c = λ tree known apart.
     let h = c.in-Ok.ensures.ok tree known apart in
-    (h.0, custom_whole tree c.args.target.now c.args.head.now c.args.entries.now c.args.needed.now _ _ h.2)
+    (h.0, custom_whole tree c.args.target.now c.args.head.now c.args.entries.now c.args.needed.now _ _ h.0 h.2)
 
 pub returns-in-Err-clause-err : goal.returns-in-Err-clause-err
 returns-in-Err-clause-err g c = λ tree known apart.
