@@ -1,6 +1,6 @@
 //! Laws of the definitions, each the contract of a function that does nothing.
-ghost use Rattle.std.specs.Prelude.{◌≡◌, ◌++◌, true, List, map, Ok};
-ghost use Rattle.std.specs.List.{flat_map};
+ghost use Rattle.std.specs.Prelude.{◌≡◌, ◌++◌, true, false, List, map, Ok};
+ghost use Rattle.std.specs.List.{AllByRecursion, flat_map};
 ghost use Rattle.std.specs.List.Sorted.{IsPermutation};
 ghost use Rattle.std.specs.Str.{IsUtf8};
 ghost use Rattle.cat_model.specs.Values.{Bytes};
@@ -16,6 +16,7 @@ ghost use Rattle.fmt_text.specs.Script.{script};
 ghost use Rattle.obj_graph.specs.Closed.{whole};
 ghost use Rattle.script_laws.specs.Scripts.{AllEntries, session_statements};
 ghost use Rattle.stmt_laws.specs.Named.{HoldsCells};
+ghost use Rattle.toc_entry.specs.declared.entry.Entry.{Entry};
 ghost use Rattle.toc_entry.specs.declared.head.Head.{Head};
 ghost use Rattle.toc_laws.specs.Dumps.{entries_in};
 ghost use Rattle.well_formed.specs.Formed.{IsWellFormed};
@@ -35,5 +36,13 @@ pub fn dumps_of_schemas_say_their_schemas()
         × (said found ≡ session_statements ++ flat_map (schema_said role) names) }
 {
     scripts_of_well_formed_catalogues_say_what_rows_tell();
+    orders_are_whole();
+}
+
+/// No entry of a dump of schemas alone has rows.
+pub fn dumps_of_schemas_have_no_rows()
+    ensures { (roles : List AuthidRow) (databases : List DatabaseRow) (schemas : List NamespaceRow) (entries : List Entry)
+        → toc (alone roles databases schemas) whole ≡ Ok entries → AllByRecursion (λ e. e.has_rows ≡ false) entries }
+{
     orders_are_whole();
 }
