@@ -1,5 +1,5 @@
 -- A plan that was due was carried out: its run has ended.
-use Rattle.std.proofs.Common.{[], ◌∷◌, ◌++◌, Option, option_map, Result, Ok, refl, sym, subst, inl}
+use Rattle.std.proofs.Common.{[], Option, Result, Ok, refl, sym, subst, inl}
 use Rattle.dump_ports.specs.Tree.{Tree}
 use Rattle.cat_model.specs.Values.{Bytes}
 use Rattle.schema_folders.specs.Folder.{files_written}
@@ -7,8 +7,8 @@ use Rattle.saved_folders.specs.Folders.{files_of}
 use Rattle.tool_words.specs.declared.outcome.Outcome.{Outcome}
 use Rattle.tool_words.specs.declared.outcome.Outcome.TheVariants.{Done}
 use Rattle.tool_words.specs.declared.words.Teller.{Teller}
-use Rattle.dump_tools.specs.Due.{Plan, Applies, Runs, report_of_run, answer_of, answer_of_run, Prints, Puts, Compares, IsCarriedOut, WasDue, report_of}
-use Rattle.dump_tools.specs.Outputs.{world, Writes}
+use Rattle.dump_tools.specs.Due.{Plan, Applies, Runs, report_of_run, answer_of, answer_of_run, Puts, Compares, IsCarriedOut, WasDue, report_of}
+use Rattle.dump_tools.specs.Outputs.{world}
 use Rattle.dump_tools.specs.Runs.{run_of}
 use Rattle.dump_tools.proofs.Pieces.{put_came}
 use Rattle.dump_tools.proofs.Putting.{same_world, came_stored, may_run}
@@ -25,12 +25,6 @@ ended teller due answer before after left out_before out_after told_before told_
         before after left out_before out_after told_before told_after carried.0.saved carried.1 carried.2
     of (Runs plan) carried = came_stored teller (Ok (Runs plan)) (files_of plan.folder carried.0.texts) (report_of_run plan) (answer_of_run plan) (may_run teller plan carried.0.texts carried.0.leaves)
         before after left out_before out_after told_before told_after carried.0.saved carried.1 carried.2
-    of (Prints text) carried = record {
-      run = run_of (Writes text ∷ []) Done;
-      may = refl;
-      answers = refl;
-      put = same_world after before left out_after (option_map (λ printed. printed ++ text) out_before) told_after told_before carried.0 carried.1 carried.2;
-    }
     of (Puts plan) carried = put_came teller plan.pieces plan.bad before after left out_before out_after told_before told_after carried
     of (Compares a b) carried = record {
       run = run_of [] Done;

@@ -20,7 +20,7 @@ use Rattle.dump_plans.specs.Outcomes.{bad_row_outcome, stop_outcome}
 use Rattle.tool_words.specs.declared.outcome.Outcome.{Outcome}
 use Rattle.tool_words.specs.declared.words.Teller.{Teller}
 use Rattle.tool_words.specs.Lines.{Appends, AppendsPart}
-use Rattle.dump_tools.specs.Due.{Puts, catalogue_due, dump_due, IsFinal, dump_answer, dump_line, were_put_by}
+use Rattle.dump_tools.specs.Due.{Puts, chosen_due, dump_due, IsFinal, dump_answer, dump_line, were_put_by}
 use Rattle.dump_outputs.specs.Forms.{IsStop}
 use Rattle.dump_outputs.specs.Pieces.{Piece}
 use Rattle.dump_tools.specs.Outputs.{world}
@@ -29,9 +29,9 @@ use Rattle.dump_tools.proofs.Pieces.{PutFront, put_bad, cut_put, cut_put_line}
 
 -- ---- what is due of a folder
 
-pub catalogue_read : (asked : DumpAsked) (moment : Moment) (tree : Tree) (cat : Catalogue) → formed_of asked.folder tree ≡ Ok cat → dump_due asked moment tree ≡ catalogue_due asked moment tree cat
+pub catalogue_read : (asked : DumpAsked) (moment : Moment) (tree : Tree) (cat : Catalogue) → formed_of asked.folder tree ≡ Ok cat → dump_due asked moment tree ≡ chosen_due asked moment tree cat
 unfolding dump_due
-catalogue_read asked moment tree cat e = ap (λ (r : Result Catalogue Outcome). r >>= catalogue_due asked moment tree) e
+catalogue_read asked moment tree cat e = ap (λ (r : Result Catalogue Outcome). r >>= chosen_due asked moment tree) e
 
 -- ---- what ends a dump
 

@@ -19,8 +19,8 @@ use Rattle.tool_words.specs.declared.words.Asked.{Asked}
 use Rattle.tool_words.specs.Answers.{◌>>=◌}
 use Rattle.tool_words.specs.Words.{words_asked}
 use Rattle.saved_folders.specs.Folders.{Texts, files_of}
-use Rattle.dump_tools.specs.Due.{asked_due, due, Plan, Running, Runs, Leaves, report_of_run, answer_of_run, Prints, Application, report_of}
-use Rattle.dump_tools.specs.Outputs.{World, world, Output, Writes, Tells, all_performed, IsPart, IsCut, CutShort, stores}
+use Rattle.dump_tools.specs.Due.{asked_due, due, Plan, Running, Runs, Leaves, report_of_run, answer_of_run, Application, report_of}
+use Rattle.dump_tools.specs.Outputs.{World, world, Output, Tells, all_performed, IsPart, IsCut, CutShort, stores}
 use Rattle.dump_tools.specs.Runs.{Run, run_of, IsApplied, MayCome, HasCut}
 use Rattle.dump_tools.proofs.Ending.{made_of, holds}
 use Rattle.dump_tools.proofs.Taking.{Came, alone}
@@ -80,10 +80,6 @@ folder_cut files more before after left printed told s = record {
 -- a first part of a text was told
 pub told_part : (tree : Option Tree) (left printed told after : Option Bytes) (text : Bytes) → AppendsPart text told after → IsPart (Tells text) (world tree left printed told) (world tree left printed after)
 told_part tree left printed told after text p = inr (record { front = p.front; rest = p.rest; split = p.split; put = ap (λ t. world tree left printed t) p.taken })
-
--- a first part of a text was printed
-pub printed_part : (tree : Option Tree) (left printed after told : Option Bytes) (text : Bytes) → AppendsPart text printed after → IsPart (Writes text) (world tree left printed told) (world tree left after told)
-printed_part tree left printed after told text p = inr (record { front = p.front; rest = p.rest; split = p.split; put = ap (λ t. world tree left t told) p.taken })
 
 -- a whole text was told
 pub told_whole : (tree : Option Tree) (left printed told after : Option Bytes) (text : Bytes) → Appends text told after → IsPart (Tells text) (world tree left printed told) (world tree left printed after)
@@ -153,11 +149,3 @@ may_apply plan schemas text g same n = record { text = text; comes = made_of pla
 -- the run of a script on an opening
 pub may_run : (teller : Teller) (plan : Running) (texts : Texts) → Leaves plan texts → MayCome teller (Ok (Runs plan)) (stored_run (files_of plan.folder texts) (report_of_run plan) (answer_of_run plan))
 may_run teller plan texts leaves = inl (record { texts = texts; leaves = leaves; is = refl })
-
--- the printing of a text ended on its way
-pub cut_in_text : (teller : Teller) (due : Result Plan Outcome) (text : Bytes) (tree tree' : Option Tree) (left printed printed_after told : Option Bytes) → due ≡ Ok (Prints text) → tree' ≡ tree → AppendsPart text printed printed_after → HasCut None teller due (world tree left printed told) (world tree' left printed_after told)
-cut_in_text teller due text tree tree' left printed printed_after told d e p = rw (d, e) (record {
-  outputs = Writes text ∷ [];
-  of_run = inr (run_of (Writes text ∷ []) Done, alone teller (Ok (Prints text)) (run_of (Writes text ∷ []) Done) refl, refl);
-  cut = record { whole = []; later = Writes text ∷ []; split = refl; cut = printed_part tree left printed printed_after told text p };
-})

@@ -1,5 +1,5 @@
 -- No refusal that is due is Done.
-use Rattle.std.proofs.Common.{not, ◌≡◌, ℕ, Bool, true, false, cond, ◌+◌, List, length, map, Option, Some, None, Result, Ok, Err, nat_le, ap}
+use Rattle.std.proofs.Common.{not, ◌≡◌, ℕ, Bool, true, false, cond, ◌+◌, List, length, Option, Some, None, Result, Ok, Err, nat_le, ap}
 use Rattle.dump_ports.specs.Tree.{Tree, text_at}
 use Rattle.cat_names.specs.declared.fault.CatFault.{CatFault}
 use Rattle.cat_names.specs.declared.fault.FaultKind.{FaultKind}
@@ -37,7 +37,6 @@ use Rattle.restore_words.specs.Words.{options_of, format_of}
 use Rattle.restore_outcomes.specs.Texts.{wish_of, path_text, input_text}
 use Rattle.restore_outcomes.proofs.Passing.{told_never as archive_never}
 use Rattle.tool_words.specs.Words.{asked_of, built, asked_by, words_asked}
-use Rattle.schema_folders.specs.Naming.{boot}
 use Rattle.dump_ports.specs.declared.moment.Moment.{Moment}
 use Rattle.toc_entry.specs.declared.entry.Entry.{Entry}
 use Rattle.cat_rows.specs.declared.catalogue.Catalogue.{Catalogue}
@@ -50,8 +49,6 @@ use Rattle.dump_outputs.specs.declared.form.DumpForm.{DumpForm}
 use Rattle.dump_plans.specs.Choosing.{select_of}
 use Rattle.dump_plans.specs.Outcomes.{refusal_outcome, toc_told, ready_told}
 use Rattle.dump_plans.specs.Plans.{data_files, dumping_of}
-use Rattle.dump_schemas.specs.Toc.{toc_due}
-use Rattle.dump_schemas.specs.Scripts.{script_of as dumped_script}
 use Rattle.schema_folders.specs.Texts.{within, file_of}
 use Rattle.cat_names.specs.Naming.{boot as boot_role}
 use Rattle.cat_load.specs.declared.meeting.LoadFault.{LoadFault}
@@ -62,7 +59,7 @@ use Rattle.schema_folders.specs.Folder.{is_bare, schemas_of, opening_in, opening
 use Rattle.tool_words.specs.Outcomes.{fault_outcome}
 use Rattle.exports.specs.Cells.{catalogue_with}
 use Rattle.exports.specs.Exports.{Exported, formed_of, told, well_formed, have_rows, export_with, export_of}
-use Rattle.dump_tools.specs.Due.{script_limit, input_of, source_of, scripted, script_read, schemas_for, runs_as, plan_with, plan_for, text_due, psql_due, database, dump_row, counted, whole_schemas, form_of, formed_due, printed_due, catalogue_due, dump_due, text_of_input, text_of_archive, restore_due, second_due, compare_due, asked_due, due}
+use Rattle.dump_tools.specs.Due.{script_limit, input_of, source_of, scripted, script_read, schemas_for, runs_as, plan_with, plan_for, text_due, psql_due, form_of, formed_due, dump_due, text_of_input, text_of_archive, restore_due, second_due, compare_due, asked_due, due}
 
 same : (A B : Type 0) (o : Outcome) → ◌≡◌ {A = Result B Outcome} (Err o) (Err Done) → ◌≡◌ {A = Result A Outcome} (Err o) (Err Done)
 same A B o e = ap Err (inner B o e)
@@ -186,10 +183,6 @@ psql_never : (folder : Bytes) (script : ScriptSource) (stop : Bool) (tree : Tree
 unfolding psql_due
 psql_never folder script stop tree input e = bind_never (source_of script tree input) (λ text. text_due folder stop text tree) (source_never script tree input) (λ text h. text_never folder stop text tree h) e
 
-counted_never : (script : Bytes) (toc : Result (List Entry) ℕ) → counted script toc ≡ Err Done → ⊥
-counted_never script (Ok entries) e = cc
-counted_never script (Err n) e = cc
-
 formed_of_never : (folder : Bytes) (tree : Tree) → formed_of folder tree ≡ Err Done → ⊥
 unfolding formed_of
 formed_of_never folder tree e =
@@ -223,14 +216,11 @@ formed_due_never : (asked : DumpAsked) (form : Option DumpForm) (moment : Moment
 formed_due_never asked None moment cat tree e = cc
 formed_due_never asked (Some form) moment cat tree e = bind_never (dumping_of asked.folder (select_of asked.choice) cat tree) _ (dumping_never asked.folder (select_of asked.choice) cat tree) (λ dump h. ok_never _ h) e
 
-printed_never : (asked : DumpAsked) (moment : Moment) (cat : Catalogue) (tree : Tree) (schemas : Option (List SchemaRow)) → printed_due asked moment cat tree schemas ≡ Err Done → ⊥
-printed_never asked moment cat tree None e = formed_due_never asked (form_of asked.format asked.target (not asked.choice.no_owner)) moment cat tree e
-printed_never asked moment cat tree (Some rows) e = counted_never (dumped_script database boot moment (map dump_row rows)) (toc_due database boot (map dump_row rows)) e
-
 dump_never : (asked : DumpAsked) (moment : Moment) (tree : Tree) → dump_due asked moment tree ≡ Err Done → ⊥
-unfolding dump_due catalogue_due
+unfolding dump_due
 dump_never asked moment tree e =
-    bind_never (formed_of asked.folder tree) _ (formed_of_never asked.folder tree) (λ cat h. printed_never asked moment cat tree (whole_schemas asked cat) h) e
+    bind_never (formed_of asked.folder tree) _ (formed_of_never asked.folder tree)
+    (λ cat h. formed_due_never asked (form_of asked.format asked.target (not asked.choice.no_owner)) moment cat tree h) e
 
 path_never : (words : RestoreWords) (path : Bytes) (tree : Tree) → path_text words path tree ≡ Err Done → ⊥
 unfolding path_text

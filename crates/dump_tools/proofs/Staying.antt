@@ -18,7 +18,7 @@ use Rattle.dump_tools.specs.Outputs.{World, Output, Stores, Patches, Writes, Tel
 use Rattle.std.specs.List.{AllByRecursion}
 use Rattle.saved_folders.specs.Folders.{files_of}
 use Rattle.dump_tools.specs.Runs.{Run, IsCompared, put_by, MayBeRun, MayCome, MayRun}
-use Rattle.dump_tools.specs.Due.{Plan, Applies, Running, Runs, Prints, Puts, Compares, dump_line, report_of, report_of_run}
+use Rattle.dump_tools.specs.Due.{Plan, Applies, Running, Runs, Puts, Compares, dump_line, report_of, report_of_run}
 use Rattle.dump_tools.specs.Stays.{IsOther, AreOthers, Keeps, IsSilent, AreSilent, TakesNone, AllTakeNone}
 use Rattle.dump_plans.specs.Outcomes.{bad_row_outcome}
 use Rattle.dump_outputs.specs.Pieces.{Piece}
@@ -214,7 +214,6 @@ pub later_none : (teller : Teller) (due : Result Plan Outcome) (run : Run) → M
 later_none teller (Err refusal) run may = subst (λ (r : Run). AllTakeNone r.outputs) (sym may) (tt, tt)
 later_none teller (Ok (Applies plan)) run may = subst (λ (r : Run). AllTakeNone r.outputs) (sym may.is) (stored_none (files_written plan.folder may.text) (report_of plan))
 later_none teller (Ok (Runs plan)) run may = run_none teller plan run may
-later_none teller (Ok (Prints text)) run may = subst (λ (r : Run). AllTakeNone r.outputs) (sym may) (tt, tt)
 later_none teller (Ok (Puts plan)) run may = put_none plan.pieces plan.bad run may
 later_none teller (Ok (Compares a b)) run may = compared_none teller a b run may
 

@@ -23,7 +23,7 @@ use Rattle.cat_same.specs.Verdicts.{IsLeastDifference}
 use Rattle.schema_folders.specs.declared.schemas.SchemaRow.{SchemaRow}
 use Rattle.ddl_read.specs.declared.located.Located.{Located}
 use Rattle.tool_words.specs.declared.outcome.Limit.{Limit}
-use Rattle.tool_words.specs.declared.outcome.Limit.TheVariants.{Script as ScriptLimit, Entries, Archive as ArchiveLimit}
+use Rattle.tool_words.specs.declared.outcome.Limit.TheVariants.{Script as ScriptLimit, Archive as ArchiveLimit}
 use Rattle.tool_words.specs.declared.outcome.Outcome.{Outcome}
 use Rattle.tool_words.specs.declared.outcome.Outcome.TheVariants.{Done, ReadFault, WriteFault, BadScript, OutOfProfile, TooLarge, Differs, ScriptStopped, Memory}
 use Rattle.tool_words.specs.Answers.{◌>>=◌, IsDue}
@@ -36,14 +36,9 @@ use Rattle.tool_words.specs.declared.words.ArchiveAsked.{ArchiveAsked}
 use Rattle.command_line.specs.declared.command.RestoreWords.{RestoreWords}
 use Rattle.restore_outcomes.specs.Texts.{path_text, input_text}
 use Rattle.dump_tools.specs.Outputs.{Output, Tells, world, all_performed, puts}
-use Rattle.tool_words.specs.Words.{is_whole_script, words_asked}
+use Rattle.tool_words.specs.Words.{words_asked}
 use Rattle.script_runs.specs.Stopping.{ending, told}
 use Rattle.dump_ports.specs.declared.moment.Moment.{Moment}
-use Rattle.toc_entry.specs.declared.entry.Entry.{Entry}
-use Rattle.dump_schemas.specs.declared.rows.SchemaRow.{SchemaRow as DumpRow}
-use Rattle.dump_schemas.specs.declared.rows.DatabaseRow.{DatabaseRow}
-use Rattle.dump_schemas.specs.Toc.{toc_due}
-use Rattle.dump_schemas.specs.Scripts.{script_of as dumped_script}
 use Rattle.schema_folders.specs.Texts.{file_of}
 use Rattle.exports.specs.Exports.{Exported, formed_of, export_of}
 use Rattle.schema_folders.specs.Statements.{are_taken}
@@ -58,7 +53,6 @@ use Rattle.tool_words.specs.Messages.{Refusal, report, outcome_line}
 use Rattle.tool_words.specs.declared.words.Teller.TheVariants as teller
 use Rattle.command_line.specs.declared.options.Tool.TheVariants as tool
 use Rattle.toc_entry.specs.declared.head.Head.{Head}
-use Rattle.dump_schemas.specs.Scripts.{version}
 use Rattle.dump_plain.specs.Dumps.{BadRow}
 use Rattle.dump_toc.specs.Session.{current_database}
 use Rattle.dump_outputs.specs.declared.form.DumpForm.{DumpForm}
@@ -94,8 +88,6 @@ pub data Plan : Type 0 where
   Applies : Application → Plan
   -- psql runs a script on a folder
   Runs : Running → Plan
-  -- pg_dump prints a text
-  Prints : Bytes → Plan
   -- pg_dump puts a dump where it is asked for, up to a row that fails, and pg_restore the list or the script of an archive
   Puts : Putting → Plan
   -- pg_catcmp compares two catalogues by names
@@ -155,20 +147,9 @@ psql_due folder script stop tree input = do
   text ← source_of script tree input
   text_due folder stop text tree
 
--- the one database of such a folder
-abbrev pub database : DatabaseRow
-database = record { name = codes "postgres"; oid = 5 }
-
-abbrev pub dump_row : SchemaRow → DumpRow
-dump_row row = record { name = row.name; oid = row.oid }
-
--- the script of the folder's schemas, where it has no more entries than an archive can have
-abbrev pub counted : Bytes → Result (List Entry) ℕ → Result Plan Outcome
-counted script (Ok entries) = Ok (Prints script)
-counted script (Err n) = Err (TooLarge Entries n)
-
-abbrev pub script_due : Moment → List SchemaRow → Result Plan Outcome
-script_due moment rows = counted (dumped_script database boot moment (map dump_row rows)) (toc_due database boot (map dump_row rows))
+-- the version that a dump tells, of the database and of the tool
+abbrev pub version : Bytes
+version = codes "16.0"
 
 -- the head of a dump in the format of this code, which tells the two versions and the database's name
 abbrev pub head_of : ℕ → Bytes → Moment → Head
@@ -202,25 +183,13 @@ abbrev pub formed_due : DumpAsked → Option DumpForm → Moment → Catalogue �
 formed_due asked None moment cat tree = Err (OutOfProfile Unbuilt)
 formed_due asked (Some form) moment cat tree = selected_due asked.folder (select_of asked.choice) form (head_of (code_of form) (database_name cat) moment) cat tree
 
--- what the words choose of it
-abbrev pub chosen_due : DumpAsked → Moment → Catalogue → Tree → Result Plan Outcome
-chosen_due asked moment cat tree = formed_due asked (form_of asked.format asked.target (not asked.choice.no_owner)) moment cat tree
+-- once the catalogue is read: what the words choose of it, in the format that they ask for
+abbrev pub chosen_due : DumpAsked → Moment → Tree → Catalogue → Result Plan Outcome
+chosen_due asked moment tree cat = formed_due asked (form_of asked.format asked.target (not asked.choice.no_owner)) moment cat tree
 
--- the schemas of a catalogue, where they are its only objects and all of it is asked for
-abbrev pub whole_schemas : DumpAsked → Catalogue → Option (List SchemaRow)
-whole_schemas asked cat = if is_whole_script asked then result_ok (opening_in cat) else None
-
-abbrev pub printed_due : DumpAsked → Moment → Catalogue → Tree → Option (List SchemaRow) → Result Plan Outcome
-printed_due asked moment cat tree None = chosen_due asked moment cat tree
-printed_due asked moment cat tree (Some rows) = script_due moment rows
-
--- once the catalogue is read: the schemas, or what is chosen
-unfoldable pub catalogue_due : DumpAsked → Moment → Tree → Catalogue → Result Plan Outcome
-catalogue_due asked moment tree cat = printed_due asked moment cat tree (whole_schemas asked cat)
-
--- pg_dump: the folder's catalogue is read, and no data file
+-- pg_dump: the folder's catalogue is read, and no data file; then comes what is chosen of it
 unfoldable pub dump_due : DumpAsked → Moment → Tree → Result Plan Outcome
-dump_due asked moment tree = formed_of asked.folder tree >>= catalogue_due asked moment tree
+dump_due asked moment tree = formed_of asked.folder tree >>= chosen_due asked moment tree
 
 -- what is written of the archive that all of standard input is
 unfoldable pub text_of_input : RestoreWords → Tree → Bytes → Result Bytes Outcome
@@ -341,7 +310,6 @@ dump_answer (Some bad) = bad_row_outcome bad
 abbrev pub answer_of : Plan → Outcome
 answer_of (Applies plan) = Done
 answer_of (Runs plan) = answer_of_run plan
-answer_of (Prints text) = Done
 answer_of (Puts plan) = dump_answer plan.bad
 answer_of (Compares a b) = Done
 
@@ -360,15 +328,13 @@ were_put_by pieces (Some bad) before after out_before out_after told_before told
     (front : List Piece) × IsFront pieces front × WerePut (map puts front ++ Tells (dump_line (bad_row_outcome bad)) ∷ []) before after out_before out_after told_before told_after
 
 -- What stands of the files, of standard output and of standard error once a plan is carried out: a script was applied and
--- its report was written to standard error, or a text was written to standard output, or texts were put where they were
--- asked for, or two catalogues were the same, and nothing else changed.
+-- its report was written to standard error, or texts were put where they were asked for, or two catalogues were the same, and
+-- nothing else changed.
 abbrev pub IsCarriedOut : Plan → Option Tree → Option Tree → Option (List ℕ) → Option (List ℕ) → Option (List ℕ) → Option (List ℕ) → Type 0
 IsCarriedOut (Applies plan) before after out_before out_after told_before told_after =
     Applied plan before after × (out_after ≡ out_before) × Appends (report_of plan) told_before told_after
 IsCarriedOut (Runs plan) before after out_before out_after told_before told_after =
     Ran plan before after × (out_after ≡ out_before) × Appends (report_of_run plan) told_before told_after
-IsCarriedOut (Prints text) before after out_before out_after told_before told_after =
-    (after ≡ before) × Appends text out_before out_after × (told_after ≡ told_before)
 IsCarriedOut (Puts plan) before after out_before out_after told_before told_after =
     were_put_by plan.pieces plan.bad before after out_before out_after told_before told_after
 IsCarriedOut (Compares a b) before after out_before out_after told_before told_after =

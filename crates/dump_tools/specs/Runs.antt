@@ -17,9 +17,9 @@ use Rattle.cat_model.specs.declared.words.What.TheVariants.{Unbuilt}
 use Rattle.saved_folders.specs.Folders.{Texts, files_of}
 use Rattle.dump_plain.specs.Dumps.{BadRow}
 use Rattle.dump_plans.specs.Outcomes.{bad_row_outcome}
-use Rattle.dump_tools.specs.Due.{Application, Running, Plan, Applies, Runs, Prints, Puts, Compares, dump_line, Comes, Leaves, report_of, report_of_run, answer_of_run, due}
+use Rattle.dump_tools.specs.Due.{Application, Running, Plan, Applies, Runs, Puts, Compares, dump_line, Comes, Leaves, report_of, report_of_run, answer_of_run, due}
 use Rattle.dump_tools.specs.Inputs.{where_read, IsTaken, HasTaken}
-use Rattle.dump_tools.specs.Outputs.{World, Output, Writes, Tells, Takes, all_performed, IsPart, CutShort, stores, puts}
+use Rattle.dump_tools.specs.Outputs.{World, Output, Tells, Takes, all_performed, IsPart, CutShort, stores, puts}
 use Rattle.dump_outputs.specs.Forms.{Putting}
 use Rattle.dump_outputs.specs.Pieces.{Piece, IsFront}
 
@@ -77,7 +77,6 @@ abbrev pub MayCome : Teller → Result Plan Outcome → Run → Type 0
 MayCome teller (Err refusal) run = run ≡ told_run teller refusal
 MayCome teller (Ok (Applies plan)) run = IsApplied plan run
 MayCome teller (Ok (Runs plan)) run = MayBeRun teller plan run
-MayCome teller (Ok (Prints text)) run = run ≡ run_of (Writes text ∷ []) Done
 MayCome teller (Ok (Puts plan)) run = IsPut plan run
 MayCome teller (Ok (Compares a b)) run = IsCompared teller a b run
 

@@ -5,18 +5,14 @@ use Rattle.dump_files.specs.Needed.{unready}
 use Rattle.dump_outputs.specs.Forms.{IsClear}
 use Rattle.dump_plans.specs.Plans.{dumping}
 use Rattle.dump_tools.specs.declared.dumps.DumpWork.{DumpWork}
-use Rattle.dump_tools.specs.declared.dumps.DumpWork.TheVariants.{Script, Rows}
-use Rattle.dump_tools.specs.Due.{Plan, Prints, Puts, put_of}
+use Rattle.dump_tools.specs.Due.{Plan, Puts, put_of}
 
 abbrev pub plan_of_work : Tree → DumpWork → Plan
-plan_of_work tree (Script text) = Prints text.items
-plan_of_work tree (Rows plan form head) = Puts (put_of tree form head (dumping plan))
+plan_of_work tree work = Puts (put_of tree work.form work.head (dumping work.plan))
 
 -- the data files are there, none is too large, and none is one that is written
 abbrev pub IsReady : Tree → DumpWork → Type 0
-IsReady tree (Script text) = Unit {0}
-IsReady tree (Rows plan form head) = (unready tree plan.files.items ≡ None) × IsClear form plan.files.items
+IsReady tree work = (unready tree work.plan.files.items ≡ None) × IsClear work.form work.plan.files.items
 
 abbrev pub IsFew : DumpWork → Type 0
-IsFew (Script text) = Unit {0}
-IsFew (Rows plan form head) = length plan.files.items ≤ 200000
+IsFew work = length work.plan.files.items ≤ 200000

@@ -1,17 +1,14 @@
 //! What is to be put out of a dump.
-ghost use Rattle.std.specs.Prelude.{◌≡◌, ℕ, Option, Some, None, option_map, IfOk, IfSome};
-ghost use Rattle.std.specs.Result.{result_ok};
+ghost use Rattle.std.specs.Prelude.{◌≡◌, Option, Some, None, option_map, IfOk, IfSome};
 ghost use Rattle.dump_ports.specs.Tree.{Tree};
 ghost use Rattle.tool_words.specs.Answers.{Gives, CountsRead};
 ghost use Rattle.cat_model.specs.Values.{Bytes};
 ghost use Rattle.dump_plans.specs.Choosing.{select_of};
-ghost use Rattle.dump_schemas.specs.Scripts.{version};
 ghost use Rattle.dump_toc.specs.Session.{current_database};
 ghost use Rattle.dump_targets.specs.Targets.{IsOutside, IsFormOutside};
-ghost use Rattle.dump_tools.specs.Due.{selected_due, script_due, whole_schemas, printed_due, chosen_due, catalogue_due, dump_due, code_of, form_of, head_of, database_name};
+ghost use Rattle.dump_tools.specs.Due.{version, selected_due, chosen_due, dump_due, code_of, form_of, head_of, database_name};
 ghost use Rattle.dump_tools.specs.Works.{plan_of_work, IsReady, IsFew};
 
-use crate::dumping::dump_text;
 use cat_model::What;
 use cat_rows::{Catalogue, DatabaseRow};
 use command_line::{Choice, Format};
@@ -23,18 +20,20 @@ use dump_stmts::{empty_text, text_of};
 use dump_targets::laws::what_is_outside_is_no_data_file;
 use exports::read_formed;
 use obj_graph::Select;
-use schema_folders::{Schemas, bare_schemas};
 use std::alloc::{AllocError, Global};
 use toc_entry::Head;
-use tool_words::{DumpAsked, Outcome, is_whole_script};
+use tool_words::{DumpAsked, Outcome};
 use well_formed::WellFormed;
 
-/// What is to be put out: a text on standard output, or a dump whose rows are read while it is written, with its owners or
-/// without them, to a file or to standard output.
+/// A dump that is to be put out.
 #[derive(Drop)]
-pub(crate) enum DumpWork {
-    Script(Vec<u8>),
-    Rows(DumpPlan, DumpForm, Head),
+pub(crate) struct DumpWork {
+    /// Its entries, and the data files whose rows are read while it is written.
+    pub(crate) plan: DumpPlan,
+    /// How it is written, and where.
+    pub(crate) form: DumpForm,
+    /// Its head.
+    pub(crate) head: Head,
 }
 
 /// The version that a dump tells.
@@ -115,32 +114,6 @@ fn form_of(format: Format, target: Option<Text>, owners: bool) -> Option<DumpFor
     }
 }
 
-/// The schemas of a catalogue, where they are its only objects and all of it is asked for.
-fn whole_schemas(
-    alloc: Global,
-    asked: &DumpAsked,
-    cat: &Catalogue,
-) -> Result<Option<Schemas>, AllocError>
-    ensures { IfOk result (λ found. found ≡ whole_schemas asked.now cat.now) }
-{
-    if is_whole_script(asked) {
-        bare_schemas(alloc, cat)
-    } else {
-        Ok(None)
-    }
-}
-
-/// The script of these schemas.
-fn schemas_work(alloc: Global, schemas: Schemas, moment: Moment) -> Result<DumpWork, Outcome>
-    ensures due { (tree : Tree) → Gives (plan_of_work tree) result (script_due moment schemas) }
-    ensures ready { (tree : Tree) → IfOk result (IsReady tree) }
-    ensures few { IfOk result IsFew }
-    ensures count { (n : ℕ) → CountsRead result n n }
-{
-    let text = dump_text(alloc, schemas, moment)?;
-    Ok(DumpWork::Script(text))
-}
-
 /// What is selected of a catalogue, in this form.
 fn selected_work<F: Files>(
     alloc: Global,
@@ -161,10 +134,10 @@ fn selected_work<F: Files>(
 {
     what_is_outside_is_no_data_file();
     let plan = read_dump(alloc, files, folder, cat, select)?;
-    Ok(DumpWork::Rows(plan, form, head))
+    Ok(DumpWork { plan, form, head })
 }
 
-/// What the words choose of a catalogue, in this form.
+/// What is chosen of a catalogue, in this form.
 fn formed_work<F: Files>(
     alloc: Global,
     files: &mut F,
@@ -187,7 +160,7 @@ fn formed_work<F: Files>(
     selected_work(alloc, files, folder, cat, &select, form, head)
 }
 
-/// What is chosen of a catalogue.
+/// What the words choose of a catalogue.
 fn chosen_work<F: Files>(
     alloc: Global,
     files: &mut F,
@@ -196,7 +169,7 @@ fn chosen_work<F: Files>(
     moment: Moment,
 ) -> Result<DumpWork, Outcome>
     requires { IsOutside asked.folder asked.target }
-    ensures due { (tree : Tree) → F.tree files.old ≡ Some tree → Gives (plan_of_work tree) result (chosen_due asked moment cat.now tree) }
+    ensures due { (tree : Tree) → F.tree files.old ≡ Some tree → Gives (plan_of_work tree) result (chosen_due asked moment tree cat.now) }
     ensures ready { (tree : Tree) → F.tree files.old ≡ Some tree → IfOk result (IsReady tree) }
     ensures few { IfOk result IsFew }
     ensures kept { F.tree files.new ≡ F.tree files.old }
@@ -218,50 +191,6 @@ fn chosen_work<F: Files>(
     }
 }
 
-/// The script of the schemas that were found, or what is chosen.
-fn found_work<F: Files>(
-    alloc: Global,
-    files: &mut F,
-    asked: DumpAsked,
-    cat: &WellFormed,
-    schemas: Option<Schemas>,
-    moment: Moment,
-) -> Result<DumpWork, Outcome>
-    requires { IsOutside asked.folder asked.target }
-    ensures due { (tree : Tree) → F.tree files.old ≡ Some tree → Gives (plan_of_work tree) result (printed_due asked moment cat.now tree schemas) }
-    ensures ready { (tree : Tree) → F.tree files.old ≡ Some tree → IfOk result (IsReady tree) }
-    ensures few { IfOk result IsFew }
-    ensures kept { F.tree files.new ≡ F.tree files.old }
-    ensures read_count { CountsRead result (F.read_faults files.old) (F.read_faults files.new) }
-    ensures write_count { F.write_faults files.new ≡ F.write_faults files.old }
-{
-    match schemas {
-        Some(schemas) => schemas_work(alloc, schemas, moment),
-        None => chosen_work(alloc, files, asked, cat, moment),
-    }
-}
-
-/// What is to be printed of a catalogue.
-#[tactic(auto, unfolding(crate::specs::Due::catalogue_due))]
-fn catalogue_work<F: Files>(
-    alloc: Global,
-    files: &mut F,
-    asked: DumpAsked,
-    cat: &WellFormed,
-    moment: Moment,
-) -> Result<DumpWork, Outcome>
-    requires { IsOutside asked.folder asked.target }
-    ensures due { (tree : Tree) → F.tree files.old ≡ Some tree → Gives (plan_of_work tree) result (catalogue_due asked moment tree cat.now) }
-    ensures ready { (tree : Tree) → F.tree files.old ≡ Some tree → IfOk result (IsReady tree) }
-    ensures few { IfOk result IsFew }
-    ensures kept { F.tree files.new ≡ F.tree files.old }
-    ensures read_count { CountsRead result (F.read_faults files.old) (F.read_faults files.new) }
-    ensures write_count { F.write_faults files.new ≡ F.write_faults files.old }
-{
-    let schemas = whole_schemas(alloc, &asked, cat.rows())?;
-    found_work(alloc, files, asked, cat, schemas, moment)
-}
-
 /// What is to be put out of a dump that is asked for.
 #[tactic(auto, unfolding(crate::specs::Due::dump_due))]
 pub(crate) fn dump_work<F: Files>(
@@ -279,5 +208,5 @@ pub(crate) fn dump_work<F: Files>(
     ensures write_count { F.write_faults files.new ≡ F.write_faults files.old }
 {
     let cat = read_formed(alloc, files, &asked.folder)?;
-    catalogue_work(alloc, files, asked, &cat, moment)
+    chosen_work(alloc, files, asked, &cat, moment)
 }

@@ -1,7 +1,6 @@
 //! The tools: what the words of a command line ask for, done over files and streams.
 #![tactic(auto)]
 
-mod dumping;
 mod dumps;
 pub mod laws;
 mod placing;

@@ -13,13 +13,12 @@ ghost use Rattle.schema_folders.specs.Statements.{are_taken};
 ghost use Rattle.exports.specs.Exports.{export_of};
 ghost use Rattle.openings.specs.Openings.{export_named, opened_folder};
 ghost use Rattle.dump_targets.specs.Targets.{IsOutside};
-ghost use Rattle.dump_tools.specs.Due.{IsFinal, IsCarriedOut, answer_of, dump_due, second_due, compare_due, IsUnequal, due, IsAnswerDue, WasDue, counts, NoneRose, Counted, CountsStep};
+ghost use Rattle.dump_tools.specs.Due.{IsFinal, dump_due, second_due, compare_due, IsUnequal, due, IsAnswerDue, WasDue, counts, NoneRose, Counted, CountsStep};
 ghost use Rattle.dump_tools.specs.Inputs.{where_read, TellsLeft};
 ghost use Rattle.dump_tools.specs.Outputs.{world};
-ghost use Rattle.dump_tools.specs.Works.{plan_of_work, IsReady, IsFew};
 ghost use Rattle.dump_tools.specs.Runs.{IsEarly, read_by, StepTakes, HasCut, Ended, Answered};
 
-use crate::dumps::{DumpWork, dump_work};
+use crate::dumps::dump_work;
 use crate::printing::put_dump;
 use crate::psql::psql;
 use crate::restoring::pg_restore;
@@ -59,29 +58,6 @@ pub(crate) fn write_report<S: Sink>(
     }
 }
 
-/// Puts out what is to be put out of a dump.
-fn put_work<F: Files, O: Sink, E: Sink>(
-    alloc: Global,
-    files: &mut F,
-    out: &mut O,
-    err: &mut E,
-    work: &DumpWork,
-) -> Result<Outcome, Outcome>
-    requires { IsFew work.now }
-    ensures ends { IfOk result IsFinal }
-    ensures early { IfErr result IsEarly }
-    ensures answers { (tree : Tree) → F.tree files.old ≡ Some tree → IsReady tree work.now → IfOk result (λ answer. answer ≡ answer_of (plan_of_work tree work.now)) }
-    ensures ok { (tree : Tree) → F.tree files.old ≡ Some tree → IsReady tree work.now → OnOk result (IsCarriedOut (plan_of_work tree work.now) (F.tree files.old) (F.tree files.new) (O.written out.old) (O.written out.new) (E.written err.old) (E.written err.new)) }
-    ensures silent { IfErr result (λ outcome. IsTold outcome → E.written err.new ≡ E.written err.old) }
-    ensures cut { (tree : Tree) → F.tree files.old ≡ Some tree → IsReady tree work.now → OnErr result ((teller : Teller) (left : Option (List ℕ)) → HasCut None teller (Ok (plan_of_work tree work.now)) (world (F.tree files.old) left (O.written out.old) (E.written err.old)) (world (F.tree files.new) left (O.written out.new) (E.written err.new))) }
-    ensures counted { (inputs : ℕ) → CountsStep result (counts (F.read_faults files.old) inputs (F.write_faults files.old) (O.faults out.old) (E.faults err.old)) (counts (F.read_faults files.new) inputs (F.write_faults files.new) (O.faults out.new) (E.faults err.new)) }
-{
-    match work {
-        DumpWork::Script(text) => write_report(out, text, Outcome::Done),
-        DumpWork::Rows(plan, form, head) => put_dump(alloc, files, out, err, form, head, plan),
-    }
-}
-
 /// Puts the dump of a folder where it is asked for.
 fn pg_dump<F: Files, O: Sink, E: Sink>(
     alloc: Global,
@@ -102,7 +78,7 @@ fn pg_dump<F: Files, O: Sink, E: Sink>(
     ensures counted { (inputs : ℕ) → CountsStep result (counts (F.read_faults files.old) inputs (F.write_faults files.old) (O.faults out.old) (E.faults err.old)) (counts (F.read_faults files.new) inputs (F.write_faults files.new) (O.faults out.new) (E.faults err.new)) }
 {
     let work = dump_work(alloc, files, asked, moment)?;
-    put_work(alloc, files, out, err, &work)
+    put_dump(alloc, files, out, err, &work.form, &work.head, &work.plan)
 }
 
 /// Compares what two folders stand for by names, with the rows of their tables.

@@ -11,8 +11,6 @@ mod ddl_parts_tests;
 #[cfg(test)]
 mod dump_ports_tests;
 #[cfg(test)]
-mod dump_schemas_tests;
-#[cfg(test)]
 mod fmt_text_tests;
 #[cfg(test)]
 mod folder_io_tests;

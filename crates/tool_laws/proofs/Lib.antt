@@ -9,4 +9,6 @@ pub mod ToolTrips
 pub mod Unified
 pub mod Bare
 pub mod Again
-mod Dumped
+pub mod Held
+pub mod Dumped
+pub mod Saying

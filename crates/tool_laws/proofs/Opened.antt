@@ -10,10 +10,9 @@ use Rattle.cat_rows.specs.declared.catalogue.Catalogue.{Catalogue}
 use Rattle.cat_rows.specs.declared.cell.Cell.{Cell}
 use Rattle.cat_rows.specs.declared.cell.Cell.TheVariants as cell
 use Rattle.cat_rows.specs.declared.schemas.NamespaceRow.{NamespaceRow}
-use Rattle.cat_rows.specs.Cells.{IsCell}
 use Rattle.cat_rows.specs.Reading.{table_of}
 use Rattle.cat_rows.specs.RowCells.{namespace_cells}
-use Rattle.cat_rows.specs.Writing.{AreRowsOf}
+use Rattle.cat_rows.specs.Writing.{IsRowOf, AreRowsOf}
 use Rattle.cat_model.specs.References.{is_system}
 use Rattle.cat_model.specs.Values.{Bytes}
 use Rattle.well_formed.specs.Catalogues.{catalogue_fault}
@@ -141,46 +140,46 @@ formed_rows cat meets = each cat.pg_namespace (λ i row there. (meets.objects i 
 abbrev pub ReadLaw : Type 0
 ReadLaw = (text : List ℕ) (rows : List (List Cell)) → table_of PgNamespace text ≡ Ok rows → AreRowsOf PgNamespace rows
 
--- the names of rows whose cells were read
-abbrev AreNames : List (List Cell) → Type 0
-AreNames cells = AllByRecursion (λ row. IsName row.nspname) (filter_map schema_of cells)
+-- the rows of which a row of cells is a schema's
+abbrev OfEach : (NamespaceRow → Type 0) → List (List Cell) → Type 0
+OfEach P cells = AllByRecursion P (filter_map schema_of cells)
 
-name_of : (cells : List Cell) (row : NamespaceRow) → schema_of cells ≡ Some row → AllByRecursion IsCell cells → IsName row.nspname
-name_of (cell.Oid oid ∷ cell.Name name ∷ cell.Oid owner ∷ cell.Acl acl ∷ []) row e h = let same : name ≡ row.nspname = cc in subst IsName same h.1.0
+name_of : (cells : List Cell) (row : NamespaceRow) → schema_of cells ≡ Some row → IsRowOf PgNamespace cells → IsName row.nspname
+name_of (cell.Oid oid ∷ cell.Name name ∷ cell.Oid owner ∷ cell.Acl acl ∷ []) row e h = let same : name ≡ row.nspname = cc in subst IsName same h.cells.1.0
 name_of _ row e h = absurd cc
 
-names_of : (cells : List (List Cell)) → AreRowsOf PgNamespace cells → AreNames cells
-names_of [] are = tt
-names_of (c ∷ cells) are = by (schema_of c) refl (names_of cells are.1)
+each_row : (P : NamespaceRow → Type 0) → ((cells : List Cell) (row : NamespaceRow) → schema_of cells ≡ Some row → IsRowOf PgNamespace cells → P row) → (cells : List (List Cell)) → AreRowsOf PgNamespace cells → OfEach P cells
+each_row P law [] are = tt
+each_row P law (c ∷ cells) are = by (schema_of c) refl (each_row P law cells are.1)
   where
-    by : (found : Option NamespaceRow) → schema_of c ≡ found → AreNames cells → AllByRecursion (λ row. IsName row.nspname) (filter_map schema_of (c ∷ cells))
+    by : (found : Option NamespaceRow) → schema_of c ≡ found → OfEach P cells → AllByRecursion P (filter_map schema_of (c ∷ cells))
     by None e rest = rw e rest
-    by (Some row) e rest = rw e (name_of c row e are.0.cells, rest)
+    by (Some row) e rest = rw e (law c row e are.0, rest)
 
 -- the fourth table, which is pg_namespace
 abbrev fourth : Tables → List (List Cell)
 fourth (a ∷ b ∷ c ∷ d ∷ more) = d
 fourth _ = []
 
-with_names : (tables : Tables) → AreNames (fourth tables) → AllByRecursion (λ row. IsName row.nspname) (catalogue_with tables).pg_namespace
+with_each : (P : NamespaceRow → Type 0) (tables : Tables) → OfEach P (fourth tables) → AllByRecursion P (catalogue_with tables).pg_namespace
 unfolding catalogue_with
-with_names [] h = tt
-with_names (a ∷ []) h = tt
-with_names (a ∷ b ∷ []) h = tt
-with_names (a ∷ b ∷ c ∷ []) h = tt
-with_names (a ∷ b ∷ c ∷ d ∷ []) h = tt
-with_names (a ∷ b ∷ c ∷ d ∷ e ∷ []) h = tt
-with_names (a ∷ b ∷ c ∷ d ∷ e ∷ f ∷ []) h = tt
-with_names (a ∷ b ∷ c ∷ d ∷ e ∷ f ∷ g ∷ []) h = tt
-with_names (a ∷ b ∷ c ∷ d ∷ e ∷ f ∷ g ∷ i ∷ []) h = tt
-with_names (a ∷ b ∷ c ∷ d ∷ e ∷ f ∷ g ∷ i ∷ j ∷ []) h = tt
-with_names (a ∷ b ∷ c ∷ d ∷ e ∷ f ∷ g ∷ i ∷ j ∷ k ∷ []) h = tt
-with_names (a ∷ b ∷ c ∷ d ∷ e ∷ f ∷ g ∷ i ∷ j ∷ k ∷ l ∷ []) h = tt
-with_names (a ∷ b ∷ c ∷ d ∷ e ∷ f ∷ g ∷ i ∷ j ∷ k ∷ l ∷ m ∷ []) h = tt
-with_names (a ∷ b ∷ c ∷ d ∷ e ∷ f ∷ g ∷ i ∷ j ∷ k ∷ l ∷ m ∷ n ∷ []) h = tt
-with_names (a ∷ b ∷ c ∷ d ∷ e ∷ f ∷ g ∷ i ∷ j ∷ k ∷ l ∷ m ∷ n ∷ o ∷ []) h = tt
-with_names (a ∷ b ∷ c ∷ d ∷ e ∷ f ∷ g ∷ i ∷ j ∷ k ∷ l ∷ m ∷ n ∷ o ∷ p ∷ []) h = h
-with_names (a ∷ b ∷ c ∷ d ∷ e ∷ f ∷ g ∷ i ∷ j ∷ k ∷ l ∷ m ∷ n ∷ o ∷ p ∷ q ∷ more) h = tt
+with_each P [] h = tt
+with_each P (a ∷ []) h = tt
+with_each P (a ∷ b ∷ []) h = tt
+with_each P (a ∷ b ∷ c ∷ []) h = tt
+with_each P (a ∷ b ∷ c ∷ d ∷ []) h = tt
+with_each P (a ∷ b ∷ c ∷ d ∷ e ∷ []) h = tt
+with_each P (a ∷ b ∷ c ∷ d ∷ e ∷ f ∷ []) h = tt
+with_each P (a ∷ b ∷ c ∷ d ∷ e ∷ f ∷ g ∷ []) h = tt
+with_each P (a ∷ b ∷ c ∷ d ∷ e ∷ f ∷ g ∷ i ∷ []) h = tt
+with_each P (a ∷ b ∷ c ∷ d ∷ e ∷ f ∷ g ∷ i ∷ j ∷ []) h = tt
+with_each P (a ∷ b ∷ c ∷ d ∷ e ∷ f ∷ g ∷ i ∷ j ∷ k ∷ []) h = tt
+with_each P (a ∷ b ∷ c ∷ d ∷ e ∷ f ∷ g ∷ i ∷ j ∷ k ∷ l ∷ []) h = tt
+with_each P (a ∷ b ∷ c ∷ d ∷ e ∷ f ∷ g ∷ i ∷ j ∷ k ∷ l ∷ m ∷ []) h = tt
+with_each P (a ∷ b ∷ c ∷ d ∷ e ∷ f ∷ g ∷ i ∷ j ∷ k ∷ l ∷ m ∷ n ∷ []) h = tt
+with_each P (a ∷ b ∷ c ∷ d ∷ e ∷ f ∷ g ∷ i ∷ j ∷ k ∷ l ∷ m ∷ n ∷ o ∷ []) h = tt
+with_each P (a ∷ b ∷ c ∷ d ∷ e ∷ f ∷ g ∷ i ∷ j ∷ k ∷ l ∷ m ∷ n ∷ o ∷ p ∷ []) h = h
+with_each P (a ∷ b ∷ c ∷ d ∷ e ∷ f ∷ g ∷ i ∷ j ∷ k ∷ l ∷ m ∷ n ∷ o ∷ p ∷ q ∷ more) h = tt
 
 -- ---- steps that went well
 
@@ -274,13 +273,13 @@ fourth_read texts folder tree four tables e =
     subst (λ (ts : Tables). table_of PgNamespace four.text ≡ Ok (fourth ts)) is
     (placed_ok PgNamespace (table_of PgNamespace four.text) d.first d.steps)
 
-catalogue_names : ReadLaw → (folder : Bytes) (tree : Tree) (tables : Tables) → catalogue_of folder tree ≡ Ok tables → AllByRecursion (λ row. IsName row.nspname) (catalogue_with tables).pg_namespace
+pub catalogue_has : (P : NamespaceRow → Type 0) → ((cells : List Cell) (row : NamespaceRow) → schema_of cells ≡ Some row → IsRowOf PgNamespace cells → P row) → ReadLaw → (folder : Bytes) (tree : Tree) (tables : Tables) → catalogue_of folder tree ≡ Ok tables → AllByRecursion P (catalogue_with tables).pg_namespace
 unfolding catalogue_of
-catalogue_names law folder tree tables e =
+catalogue_has P of law folder tree tables e =
     let marked = folder_ok (marker_of folder tree) (λ done. io.◌>>=◌ (texts_of folder tree) tables_of) tables e in
     let texts = folder_ok (texts_of folder tree) tables_of tables marked.2 in
     let four = four_texts folder tree texts.0 texts.1 in
-    with_names tables (names_of (fourth tables) (law four.text (fourth tables) (fourth_read texts.0 folder tree four tables texts.2)))
+    with_each P tables (each_row P of (fourth tables) (law four.text (fourth tables) (fourth_read texts.0 folder tree four tables texts.2)))
 
 -- ---- an export that was read
 
@@ -334,7 +333,7 @@ unfolding opening_of
 opening_read clean law folder tree rows e =
     let export = bind_ok (export_of folder tree) (λ export. opening_in export.cat) rows e in
     let read = export_read folder tree export.0 export.1 in
-    let names = subst (λ (cat : Catalogue). AllByRecursion (λ row. IsName row.nspname) cat.pg_namespace) read.is (catalogue_names law folder tree read.tables read.read) in
+    let names = subst (λ (cat : Catalogue). AllByRecursion (λ row. IsName row.nspname) cat.pg_namespace) read.is (catalogue_has (λ row. IsName row.nspname) name_of law folder tree read.tables read.read) in
     let formed = formed_rows export.0.cat (clean export.0.cat read.formed) in
     schemas_read export.0.cat.pg_namespace rows (both export.0.cat.pg_namespace formed names)
     (unbuilt_ok (is_bare export.0.cat) (schemas_of (map namespace_cells export.0.cat.pg_namespace)) rows export.2)

@@ -27,11 +27,12 @@ use Rattle.cat_model.specs.declared.value.Value.TheVariants as value
 use Rattle.cat_model.specs.declared.value.Value.{Value}
 use Rattle.cat_model.specs.Values.{Bytes, bytes_cmp, Named}
 use Rattle.ddl_read.specs.declared.located.Located.{Located}
-use Rattle.dump_schemas.specs.Toc.{is_public}
-use Rattle.dump_laws.specs.Statements.{session_statements, schema_statements}
+use Rattle.dump_stmts.specs.Paths.{is_public}
+use Rattle.schema_dumps.specs.Alone.{schema_said}
 use Rattle.schema_folders.specs.declared.schemas.SchemaRow.{SchemaRow}
 use Rattle.schema_folders.specs.Folder.{has_public}
 use Rattle.schema_folders.specs.Naming.{boot, boot_role, cluster, named, has_name}
+use Rattle.script_laws.specs.Scripts.{session_statements}
 use Rattle.tool_laws.specs.RoundTrip.{fresh, fresh_rows, IsOverlay}
 use Rattle.schema_folders.specs.Run.{said, next, noted, catalogue_after, refusals}
 use Rattle.schema_folders.proofs.Distinct.{list_any_same}
@@ -94,7 +95,7 @@ free : (a b : Bool) → a ≡ false → b ≡ false → (a || b) ≡ false
 free a b e f = ap (λ x. x || b) e ∙ f
 
 pub rows_run : (rows done : List SchemaRow) → AreDue done rows → IsDistinct same_name rows → AllByRecursion (λ row. is_system row.name ≡ false) rows
-    → Runs (flat_map (λ row. schema_statements boot row.name) rows) (named done) (named (done ++ others rows))
+    → Runs (flat_map (λ row. schema_said boot row.name) rows) (named done) (named (done ++ others rows))
 rows_run [] done due distinct users = ap named (sym (append-nil done))
 rows_run (row ∷ rows) done due distinct users =
     let apart = IsDistinct-head same_name row rows distinct in
@@ -103,7 +104,7 @@ rows_run (row ∷ rows) done due distinct users =
       | inl is ↦ rw is (named done, run_owned done row.name boot (due.0 ∙ is) refl, rows_run rows done due.1 rest users.1)
       | inr isnt ↦
           let more = rows_run rows (done ++ row ∷ []) (one_done done row rows due.1 apart) rest users.1 in
-          let all = subst (λ l. Runs (flat_map (λ (row : SchemaRow). schema_statements boot row.name) rows) (named (done ++ row ∷ [])) (named l)) (append_assoc done (row ∷ []) (others rows)) more in
+          let all = subst (λ l. Runs (flat_map (λ (row : SchemaRow). schema_said boot row.name) rows) (named (done ++ row ∷ [])) (named l)) (append_assoc done (row ∷ []) (others rows)) more in
           rw isnt (
             named (done ++ row ∷ []),
             run_created done row.name row.oid (free (has_name row.name done) (is_system row.name) (due.0 ∙ isnt) users.0),

@@ -1,43 +1,57 @@
 -- What pg_dump prints of a folder, applied by psql to a fresh one.
-use Rattle.std.proofs.Common.{◌≡◌, ℕ, false, List, [], ◌++◌, length, drop, map, Option, Some, None, option_map, Result, Ok, refl, sym, ap, subst, ◌∙◌}
+use Rattle.std.proofs.Common.{◌≡◌, ℕ, false, List, [], ◌++◌, length, drop, Option, Some, None, option_map, Result, Ok, refl, sym, ap, subst, ◌∙◌}
 use Rattle.dump_ports.specs.Tree.{Tree}
 use Rattle.dump_ports.specs.declared.moment.Moment.{Moment}
 use Rattle.cat_model.specs.Values.{Bytes}
-use Rattle.dump_schemas.specs.Scripts.{script_of as dumped_script}
+use Rattle.dump_toc.specs.Toc.{toc}
+use Rattle.fmt_text.specs.Script.{script}
+use Rattle.obj_graph.specs.Closed.{whole}
+use Rattle.toc_entry.specs.declared.entry.Entry.{Entry}
+use Rattle.toc_entry.specs.declared.head.Head.{Head}
+use Rattle.std.specs.Str.{IsUtf8}
 use Rattle.schema_folders.specs.declared.schemas.SchemaRow.{SchemaRow}
 use Rattle.tool_words.specs.declared.words.ScriptSource.{ScriptSource}
 use Rattle.tool_words.specs.Words.{is_input}
 use Rattle.tool_words.specs.declared.outcome.Outcome.{Outcome}
-use Rattle.dump_tools.specs.Due.{Plan, Application, psql_due, database, dump_row, report_of}
-use Rattle.tool_laws.proofs.Dumped.{dumped}
+use Rattle.dump_tools.specs.Due.{Plan, Application, psql_due, head_of, database_name, report_of}
+use Rattle.tool_laws.proofs.Dumped.{PlainLaw, version_text, dumped, script_is}
+use Rattle.tool_laws.proofs.Saying.{RowlessLaw, rowless}
 use Rattle.dump_tools.specs.Inputs.{where_read, HasTaken}
 use Rattle.dump_tools.specs.Outputs.{World, world, Output, all_performed}
 use Rattle.dump_tools.specs.Runs.{Run, run_of, IsApplied, MayCome, Begins, MayRun}
 use Rattle.dump_tools.proofs.Taking.{performed_both}
-use Rattle.schema_folders.specs.Folder.{opening_of, folder_saved}
+use Rattle.schema_folders.specs.Folder.{schemas_alone, opening_of, folder_saved}
 use Rattle.tool_words.specs.declared.outcome.Outcome.TheVariants.{Done}
 use Rattle.tool_words.specs.declared.words.Teller.{Teller}
 use Rattle.tool_words.specs.Messages.{report}
 use Rattle.schema_folders.specs.Naming.{boot, named}
-use Rattle.tool_laws.specs.RoundTrip.{CanBeMade, Remakes, public_alone, GoesBack, MakesSame, Restores}
+use Rattle.tool_laws.specs.RoundTrip.{without_rows, Remakes, public_alone, GoesBack, MakesSame, Restores}
 use Rattle.schema_folders.specs.Run.{catalogue_after, refusals}
-use Rattle.tool_laws.specs.Opening.{WereRead}
 use Rattle.tool_laws.proofs.Written.{OpenLaw}
 use Rattle.tool_laws.proofs.Planning.{planned}
 
--- the script of schemas makes them
+-- the script of a dump of all of a folder of schemas makes them
 abbrev pub ScriptLaw : Type 0
-ScriptLaw = (moment : Moment) (rows : List SchemaRow) → CanBeMade rows → Remakes (dumped_script database boot moment (map dump_row rows)) rows
+ScriptLaw = (source : Bytes) (tree : Tree) (rows : List SchemaRow) (head : Head) (entries : List Entry) → opening_of source tree ≡ Ok rows
+    → toc (schemas_alone rows) whole ≡ Ok entries → IsUtf8 head.server → IsUtf8 head.dumper → Remakes (script head (without_rows entries) true) rows
 
-remakes : ScriptLaw → (source : Bytes) (moment : Moment) (first : Tree) (rows : List SchemaRow) (target : Bytes) (script : ScriptSource) (second : Tree) (input : Bytes) → WereRead rows → (back : GoesBack source moment first rows target script second input) → Remakes back.text rows
-remakes law source moment first rows target script second input read back =
-    subst (λ (text : Bytes). Remakes text rows) (dumped back.asked moment first rows back.text (subst (λ (folder : Bytes). opening_of folder first ≡ Ok rows) (sym back.of_source) back.opened) back.dumped)
-    (law moment rows (record { names = read.named; distinct = read.schemas.names; users = read.schemas.users }))
+-- what is known of the scripts of such dumps
+pub record DumpLaws : Type 0 where
+  pub script : ScriptLaw
+  pub plain : PlainLaw
+  pub rowless : RowlessLaw
 
-pub makes_same : ScriptLaw → OpenLaw → (source : Bytes) (moment : Moment) (first : Tree) (rows : List SchemaRow) (target : Bytes) (script : ScriptSource) (second : Tree) (input : Bytes) → GoesBack source moment first rows target script second input → MakesSame (psql_due target script false second input) rows
-makes_same law opened source moment first rows target script second input back =
+remakes : DumpLaws → (source : Bytes) (moment : Moment) (first : Tree) (rows : List SchemaRow) (target : Bytes) (script : ScriptSource) (second : Tree) (input : Bytes) → (back : GoesBack source moment first rows target script second input) → Remakes back.text rows
+remakes laws source moment first rows target script second input back =
+    let cat = schemas_alone rows in
+    let d = dumped back.asked moment first rows back.text (subst (λ (folder : Bytes). opening_of folder first ≡ Ok rows) (sym back.of_source) back.opened) back.all back.dumped in
+    subst (λ (text : Bytes). Remakes text rows) (script_is laws.plain first cat moment back.text d (rowless laws.rowless rows d.entries d.are))
+    (laws.script source first rows (head_of 4 (database_name cat) moment) d.entries back.opened d.are version_text version_text)
+
+pub makes_same : DumpLaws → OpenLaw → (source : Bytes) (moment : Moment) (first : Tree) (rows : List SchemaRow) (target : Bytes) (script : ScriptSource) (second : Tree) (input : Bytes) → GoesBack source moment first rows target script second input → MakesSame (psql_due target script false second input) rows
+makes_same laws opened source moment first rows target script second input back =
     let read = opened source first rows back.opened in
-    let made = remakes law source moment first rows target script second input read back in
+    let made = remakes laws source moment first rows target script second input back in
     record {
       plan = record { folder = target; statements = made.statements; rows = public_alone back.oid };
       is_due = planned target script second input back.text made.statements (public_alone back.oid) back.passed made.reads back.fresh;
@@ -82,11 +96,11 @@ behind_first target rows reads first later run before left between is h = (
       h.1,
 )
 
-pub stands_for : ScriptLaw → OpenLaw → LeaveLaw → (source : Bytes) (moment : Moment) (first : Tree) (rows : List SchemaRow) (target : Bytes) (script : ScriptSource) (second : Tree) (input : Bytes) (teller : Teller) (run : Run) (before : World) → GoesBack source moment first rows target script second input
+pub stands_for : DumpLaws → OpenLaw → LeaveLaw → (source : Bytes) (moment : Moment) (first : Tree) (rows : List SchemaRow) (target : Bytes) (script : ScriptSource) (second : Tree) (input : Bytes) (teller : Teller) (run : Run) (before : World) → GoesBack source moment first rows target script second input
     → before.tree ≡ Some second → MayRun (where_read (is_input script) input) teller (psql_due target script false second input) run → (run.answer ≡ Done) × Restores target rows (where_read (is_input script) input) before (all_performed run.outputs before)
-stands_for law opened leave source moment first rows target script second input teller run before back holds may =
+stands_for laws opened leave source moment first rows target script second input teller run before back holds may =
     let read = opened source first rows back.opened in
-    let made = remakes law source moment first rows target script second input read back in
+    let made = remakes laws source moment first rows target script second input back in
     let plan : Application = record { folder = target; statements = made.statements; rows = public_alone back.oid } in
     let between = begins_at (where_read (is_input script) input) may.first before may.begins in
     behind_first target rows (where_read (is_input script) input) may.first may.later run before between.0 between.2 may.is

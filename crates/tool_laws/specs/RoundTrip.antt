@@ -1,5 +1,5 @@
 -- A script that makes schemas anew: what it leaves of the catalogue of a fresh folder, whose one schema is public.
-use Rattle.std.specs.Prelude.{◌≡◌, ℕ, List, [], ◌∷◌, true, false, Option, Some, Result, Ok, codes}
+use Rattle.std.specs.Prelude.{◌≡◌, ℕ, List, [], ◌∷◌, map, true, false, Option, Some, None, Result, Ok, codes}
 use Rattle.std.specs.Ordering.{eq_by_cmp}
 use Rattle.std.specs.List.{AllByRecursion, IsDistinct}
 use Rattle.std.specs.Option.{option_or}
@@ -12,12 +12,18 @@ use Rattle.cat_model.specs.References.{is_system}
 use Rattle.cat_model.specs.Values.{Bytes, bytes_cmp, Named}
 use Rattle.schema_folders.specs.declared.schemas.SchemaRow.{SchemaRow}
 use Rattle.ddl_read.specs.declared.located.Located.{Located}
+use Rattle.command_line.specs.declared.values.Format.TheVariants as format
+use Rattle.obj_graph.specs.Closed.{whole as all_of_it}
+use Rattle.script_laws.specs.Scripts.{AllEntries}
+use Rattle.toc_entry.specs.declared.entry.Entry.{Entry}
 use Rattle.tool_words.specs.declared.words.ScriptSource.{ScriptSource}
 use Rattle.tool_words.specs.declared.outcome.Outcome.{Outcome}
 use Rattle.tool_words.specs.declared.words.DumpAsked.{DumpAsked}
 use Rattle.tool_words.specs.Lines.{Appends}
 use Rattle.dump_tools.specs.Outputs.{World}
-use Rattle.dump_tools.specs.Due.{Plan, Application, Applies, Prints, source_of, dump_due}
+use Rattle.dump_outputs.specs.Forms.{one_piece}
+use Rattle.dump_plans.specs.Choosing.{select_of}
+use Rattle.dump_tools.specs.Due.{Plan, Application, Applies, Puts, source_of, dump_due}
 use Rattle.dump_tools.specs.Inputs.{HasTaken}
 use Rattle.schema_folders.specs.Folder.{has_public, opening_of, schemas_alone, Holds}
 use Rattle.schema_folders.specs.Naming.{boot, named}
@@ -56,14 +62,25 @@ pub record Remakes (text : Bytes) (rows : List SchemaRow) : Type 0 where
 abbrev pub public_alone : ℕ → List SchemaRow
 public_alone oid = record { oid = oid; name = codes "public" } ∷ []
 
--- A dump and its way back. The folder source holds these rows. pg_dump of it prints the text, which is the script that psql is
--- to apply, from a file or from standard input, to the folder target, whose one schema is public.
+-- all of a folder is asked for as a script, with its owners
+pub record AsksForAll (asked : DumpAsked) : Type 0 where
+  pub plain : asked.format ≡ format.Plain
+  pub whole : select_of asked.choice ≡ all_of_it
+
+-- entries without the text of any rows
+abbrev pub without_rows : List Entry → AllEntries
+without_rows entries = map (λ e. (e, None)) entries
+
+-- A dump and its way back. The folder source holds these rows. pg_dump of all of it puts out the text, to standard output or
+-- to a file. The text is the script that psql is to apply, from a file or from standard input, to the folder target, whose one
+-- schema is public.
 pub record GoesBack (source : Bytes) (moment : Moment) (first : Tree) (rows : List SchemaRow) (target : Bytes) (script : ScriptSource) (second : Tree) (input : Bytes) : Type 0 where
   pub opened : opening_of source first ≡ Ok rows
   pub asked : DumpAsked
   pub of_source : asked.folder ≡ source
+  pub all : AsksForAll asked
   pub text : Bytes
-  pub dumped : dump_due asked moment first ≡ Ok (Prints text)
+  pub dumped : dump_due asked moment first ≡ Ok (Puts (one_piece asked.target text None))
   pub passed : source_of script second input ≡ Ok text
   pub oid : ℕ
   pub fresh : opening_of target second ≡ Ok (public_alone oid)
@@ -80,11 +97,6 @@ pub record StandsFor (folder : Bytes) (tree : Tree) (rows : List SchemaRow) : Ty
   pub found : List SchemaRow
   pub holds : Holds folder tree (schemas_alone found)
   pub same : named found ≡ named rows
-
--- ---- the worked example
-
-abbrev pub public_and_a : List SchemaRow
-public_and_a = record { oid = 2200; name = codes "public" } ∷ record { oid = 16384; name = codes "a" } ∷ []
 
 -- What was before is laid out anew: the folder stands for the rows, what is read of standard input was taken, standard
 -- output is as it was, and nothing was told.

@@ -1,14 +1,15 @@
 //! Laws of the definitions, each the contract of a function that does nothing.
-ghost use Rattle.std.specs.Prelude.{◌≡◌, ◌≤◌, Bool, false, List, map, length, [], Some, None, Ok, codes};
+ghost use Rattle.std.specs.Prelude.{◌≡◌, ◌≤◌, Bool, true, false, List, map, length, [], Some, None, Ok, codes};
+ghost use Rattle.std.specs.Str.{IsUtf8};
 ghost use Rattle.std.specs.FinMap.{empty};
 ghost use Rattle.dump_ports.specs.Tree.{Tree};
 ghost use Rattle.dump_ports.specs.declared.moment.Moment.{Moment};
 ghost use Rattle.cat_model.specs.Values.{Bytes};
-ghost use Rattle.dump_schemas.specs.declared.rows.DatabaseRow.{DatabaseRow};
-ghost use Rattle.dump_schemas.specs.Scripts.{script_of as dumped_script};
-ghost use Rattle.dump_laws.specs.Examples.{script_of_two};
+ghost use Rattle.dump_toc.specs.Toc.{toc};
+ghost use Rattle.fmt_text.specs.Script.{script};
+ghost use Rattle.obj_graph.specs.Closed.{whole};
 ghost use Rattle.schema_folders.specs.declared.schemas.SchemaRow.{SchemaRow};
-ghost use Rattle.dump_tools.specs.Due.{Application, Applies, dump_row, psql_due, compare_due};
+ghost use Rattle.dump_tools.specs.Due.{Application, Applies, psql_due, compare_due};
 ghost use Rattle.openings.specs.Openings.{export_named};
 ghost use Rattle.dump_tools.specs.Outputs.{World, all_performed};
 ghost use Rattle.dump_tools.specs.Inputs.{where_read};
@@ -26,24 +27,16 @@ ghost use Rattle.schema_folders.specs.Folder.{opening_of, cells_of_row, schemas_
 ghost use Rattle.schema_folders.specs.Naming.{boot, named};
 ghost use Rattle.schema_folders.specs.Run.{catalogue_after};
 ghost use Rattle.tool_laws.specs.Opening.{AreSchemas, WereRead};
-ghost use Rattle.tool_laws.specs.RoundTrip.{CanBeMade, Remakes, GoesBack, MakesSame, Restores, fresh_rows, public_and_a};
+ghost use Rattle.toc_entry.specs.declared.entry.Entry.{Entry};
+ghost use Rattle.toc_entry.specs.declared.head.Head.{Head};
+ghost use Rattle.tool_laws.specs.RoundTrip.{without_rows, Remakes, GoesBack, MakesSame, Restores, fresh_rows};
 
 use cat_rows::laws::read_rows_can_be_written;
-use copy_text::laws::tests_are_exact;
-use dump_laws::{the_script_reads_as_its_statements, worked_example};
 use dump_tools::laws::an_applied_script_leaves_its_folder;
 use exports::laws::exports_are_whole;
+use output_laws::laws::a_plain_dump_is_a_script;
+use schema_dumps::laws::{dumps_of_schemas_have_no_rows, dumps_of_schemas_say_their_schemas};
 use well_formed::laws::{well_formed_is_without_fault, well_formed_tables_are_all};
-
-/// The script of schemas, read by psql and applied to a fresh folder, leaves these schemas laid over what was there,
-/// and no statement is refused.
-pub fn the_dumped_script_makes_the_schemas()
-    ensures { (database : DatabaseRow) (moment : Moment) (rows : List SchemaRow) → CanBeMade rows
-        → Remakes (dumped_script database boot moment (map dump_row rows)) rows }
-{
-    the_script_reads_as_its_statements();
-    tests_are_exact();
-}
 
 /// The schemas of a folder that is read as an opening have oids and names that aren't the system's own, no two the same,
 /// and `public` is among them.
@@ -59,6 +52,20 @@ pub fn catalogues_of_schemas_are_well_formed()
     ensures { (rows : List SchemaRow) → AreSchemas rows → catalogue_fault (schemas_alone rows) ≡ None }
 {
     well_formed_tables_are_all();
+}
+
+/// The script of a dump of all of a folder whose only objects are schemas, with its owners, whatever its head: read by psql and
+/// applied to a fresh folder it leaves these schemas laid over what was there, and no statement is refused.
+pub fn the_dumped_script_makes_the_schemas()
+    ensures { (source : Bytes) (tree : Tree) (rows : List SchemaRow) (head : Head) (entries : List Entry) → opening_of source tree ≡ Ok rows
+        → toc (schemas_alone rows) whole ≡ Ok entries → IsUtf8 head.server → IsUtf8 head.dumper → Remakes (script head (without_rows entries) true) rows }
+{
+    openings_are_schemas();
+    catalogues_of_schemas_are_well_formed();
+    well_formed_is_without_fault();
+    read_rows_can_be_written();
+    dumps_of_schemas_say_their_schemas();
+    dumps_of_schemas_have_no_rows();
 }
 
 /// What pg_catcmp takes a folder of schemas to stand for, by all its tables, is what psql and pg_dump take its schemas to
@@ -98,9 +105,9 @@ pub fn pg_catcmp_finds_the_same_schemas_the_same()
         → (teller : Teller) (run : Run) → MayCome teller (compare_due source target tree) run → run ≡ run_of [] Done }
 {}
 
-/// What pg_dump prints of a folder, psql applies to a folder whose one schema is public, from a file or from standard input:
-/// nothing is refused, and each run that may come of it is done and leaves the folder standing for the same catalogue by
-/// names, with nothing told.
+/// What pg_dump writes of all of a folder of schemas as a script, to standard output or to a file, psql applies to a folder
+/// whose one schema is public, from a file or from standard input: nothing is refused, and each run that may come of it is done
+/// and leaves the folder standing for the same catalogue by names, with nothing told.
 pub fn psql_restores_what_pg_dump_prints()
     ensures due { (source : Bytes) (moment : Moment) (first : Tree) (rows : List SchemaRow) (target : Bytes) (script : ScriptSource) (second : Tree) (input : Bytes)
         → GoesBack source moment first rows target script second input
@@ -114,15 +121,11 @@ pub fn psql_restores_what_pg_dump_prints()
     the_dumped_script_makes_the_schemas();
     openings_are_schemas();
     an_applied_script_leaves_its_folder();
+    a_plain_dump_is_a_script();
+    dumps_of_schemas_have_no_rows();
 }
 
-/// The script of the schemas `a` and `public` makes the two, by the law and not by computing. And the line of
-/// `pg_namespace` in the empty export stands for the one schema of a fresh folder.
-pub fn worked_round_trip()
-    ensures two { Remakes script_of_two public_and_a }
-    ensures fresh { table_of PgNamespace (codes "2200\tpublic\t10\t\\N\n") ≡ Ok (map cells_of_row fresh_rows) }
-{
-    the_dumped_script_makes_the_schemas();
-    worked_example();
-    tests_are_exact();
-}
+/// The line of `pg_namespace` in the empty export stands for the one schema of a fresh folder.
+pub fn the_empty_export_holds_public()
+    ensures { table_of PgNamespace (codes "2200\tpublic\t10\t\\N\n") ≡ Ok (map cells_of_row fresh_rows) }
+{}

@@ -1,9 +1,10 @@
-use Rattle.dump_tools.specs.Due.{database}
-use Rattle.tool_laws.proofs.ToolTrips.{makes_same, stands_for}
+use Rattle.tool_laws.proofs.ToolTrips.{DumpLaws, makes_same, stands_for}
 use Rattle.tool_laws.proofs.laws.psql_restores_what_pg_dump_prints.Goals as goal
 
 pub returns : goal.returns
-returns c = record {
-  due = makes_same (λ moment rows can. c.the_dumped_script_makes_the_schemas.ensures database moment rows can) c.openings_are_schemas.ensures;
-  done = stands_for (λ moment rows can. c.the_dumped_script_makes_the_schemas.ensures database moment rows can) c.openings_are_schemas.ensures c.an_applied_script_leaves_its_folder.ensures;
-}
+returns c =
+    let laws : DumpLaws = record { script = c.the_dumped_script_makes_the_schemas.ensures; plain = c.a_plain_dump_is_a_script.ensures; rowless = c.dumps_of_schemas_have_no_rows.ensures } in
+    record {
+      due = makes_same laws c.openings_are_schemas.ensures;
+      done = stands_for laws c.openings_are_schemas.ensures c.an_applied_script_leaves_its_folder.ensures;
+    }

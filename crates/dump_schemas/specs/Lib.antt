@@ -1,4 +1,0 @@
-pub mod Gives
-pub mod Order
-pub mod Toc
-pub mod Scripts
