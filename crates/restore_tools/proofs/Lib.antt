@@ -1,0 +1,4 @@
+pub mod Ends
+pub mod Counting
+pub mod Steps
+pub mod ReadBack
