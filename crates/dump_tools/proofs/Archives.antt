@@ -1,5 +1,5 @@
 -- What is due of pg_restore once its steps are done, and what a step takes of standard input.
-use Rattle.std.proofs.Common.{◌≡◌, Option, Some, None, Result, Ok, Err, refl, ap, subst, sym}
+use Rattle.std.proofs.Common.{◌≡◌, ℕ, length, drop, Option, Some, None, Result, Ok, Err, IfOk, refl, ap, subst, sym}
 use Rattle.std.specs.Prelude.{is_none}
 use Rattle.dump_ports.specs.Tree.{Tree}
 use Rattle.cat_model.specs.Values.{Bytes}
@@ -14,6 +14,7 @@ use Rattle.dump_tools.specs.Due.{Puts, script_limit, input_of, text_of_input, te
 use Rattle.dump_outputs.specs.Forms.{one_piece}
 use Rattle.dump_tools.specs.Inputs.{where_read, TellsLeft, TakesPart}
 use Rattle.dump_tools.specs.Runs.{StepTakes}
+use Rattle.dump_tools.proofs.Scripting.{step_taken, part_taken}
 
 -- ---- the archive that standard input is
 
@@ -54,6 +55,20 @@ input_takes_part archive input left left' e h = rw e h
 pub told_left : (archive : Option Bytes) (left : Option Bytes) (input : Bytes) → archive ≡ None → TellsLeft (is_none archive) left input → left ≡ Some input
 told_left None left input e tells = tells refl
 told_left (Some path) left input e tells = absurd cc
+
+-- what reading standard input tells of what was taken, where the archive stands there
+pub piped_taken : {X : Type 0} (view : X → Bytes) (r : Result X Outcome) (archive before after : Option Bytes) → archive ≡ None
+    → ((bytes : Bytes) → before ≡ Some bytes → Gives view r (input_of ArchiveLimit script_limit bytes))
+    → IfOk r (λ text. (bytes : Bytes) → before ≡ Some bytes → after ≡ Some (drop (length bytes) bytes))
+    → ((bytes : Bytes) → before ≡ Some bytes → (n : ℕ) × (after ≡ Some (drop n bytes)))
+    → (input : Bytes) → TellsLeft (is_none archive) before input → StepTakes r (where_read (is_none archive) input) before after
+piped_taken view r (Some path) before after is due whole part input tells = absurd cc
+piped_taken view r None before after is due whole part input tells = step_taken view r ArchiveLimit input before after (tells refl) (due input (tells refl)) whole (part input (tells refl))
+
+pub piped_part : (archive before after : Option Bytes) → archive ≡ None → ((bytes : Bytes) → before ≡ Some bytes → (n : ℕ) × (after ≡ Some (drop n bytes)))
+    → (input : Bytes) → TellsLeft (is_none archive) before input → TakesPart (where_read (is_none archive) input) before after
+piped_part (Some path) before after is part input tells = absurd cc
+piped_part None before after is part input tells = part_taken input before after (tells refl) (part input (tells refl))
 
 -- ---- the whole
 

@@ -11,4 +11,5 @@ mod Carried
 mod Printed
 pub mod Pieces
 pub mod Archives
+pub mod Restored
 pub mod CutOff

@@ -18,8 +18,11 @@ use Rattle.dump_ports.specs.declared.moment.Moment.{Moment}
 use Rattle.tool_words.specs.declared.words.Asked.{Asked}
 use Rattle.tool_words.specs.Answers.{◌>>=◌}
 use Rattle.tool_words.specs.Words.{words_asked}
+use Rattle.restore_folders.specs.Written.{LeavesEnding, files_written as files_restored}
+use Rattle.restore_tools.specs.Due.{Restoring, ending, answer_due, report_of as report_of_restore}
+use Rattle.saved_folders.specs.Exports.{WithTexts}
 use Rattle.saved_folders.specs.Folders.{Texts, files_of}
-use Rattle.dump_tools.specs.Due.{asked_due, due, Plan, Running, Runs, Leaves, report_of_run, answer_of_run, Application, report_of}
+use Rattle.dump_tools.specs.Due.{asked_due, due, Plan, Running, Runs, Leaves, report_of_run, answer_of_run, Restores, Application, report_of}
 use Rattle.dump_tools.specs.Outputs.{World, world, Output, Tells, all_performed, IsPart, IsCut, CutShort, stores}
 use Rattle.dump_tools.specs.Runs.{Run, run_of, IsApplied, MayCome, HasCut}
 use Rattle.dump_tools.proofs.Ending.{made_of, holds}
@@ -149,3 +152,7 @@ may_apply plan schemas text g same n = record { text = text; comes = made_of pla
 -- the run of a script on an opening
 pub may_run : (teller : Teller) (plan : Running) (texts : Texts) → Leaves plan texts → MayCome teller (Ok (Runs plan)) (stored_run (files_of plan.folder texts) (report_of_run plan) (answer_of_run plan))
 may_run teller plan texts leaves = inl (record { texts = texts; leaves = leaves; is = refl })
+
+-- the run of a restore into a folder
+pub may_restore : (teller : Teller) (plan : Restoring) (texts : Option WithTexts) → LeavesEnding plan.how (ending plan) texts → MayCome teller (Ok (Restores plan)) (stored_run (files_restored plan.folder texts) (report_of_restore plan) (answer_due plan))
+may_restore teller plan texts leaves = inl (record { texts = texts; leaves = leaves; is = refl })

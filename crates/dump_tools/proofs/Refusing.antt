@@ -26,16 +26,24 @@ use Rattle.command_line.specs.declared.command.Command.{Command}
 use Rattle.command_line.specs.declared.usage.UsageFault.{UsageFault}
 use Rattle.command_line.specs.Usage.{command_from}
 use Rattle.tool_words.specs.declared.words.Asked.{Asked}
-use Rattle.tool_words.specs.declared.words.Asked.TheVariants.{Psql, Dump, Archive, Compare}
+use Rattle.tool_words.specs.declared.words.Asked.TheVariants.{Psql, Dump, Archive, Restore, Compare}
 use Rattle.tool_words.specs.declared.words.ScriptSource.{ScriptSource}
 use Rattle.tool_words.specs.declared.words.ScriptSource.TheVariants.{File, Input}
 use Rattle.tool_words.specs.declared.words.DumpAsked.{DumpAsked}
 use Rattle.tool_words.specs.declared.words.ArchiveAsked.{ArchiveAsked}
+use Rattle.tool_words.specs.declared.words.RestoreAsked.{RestoreAsked}
 use Rattle.command_line.specs.declared.command.RestoreWords.{RestoreWords}
 use Rattle.restore_texts.specs.Texts.{custom_due, archive_due}
 use Rattle.restore_words.specs.Words.{options_of, format_of}
 use Rattle.restore_outcomes.specs.Texts.{wish_of, path_text, input_text}
 use Rattle.restore_outcomes.proofs.Passing.{told_never as archive_never}
+use Rattle.restore_input.specs.Inputs.{Input, input_due, custom_input_due}
+use Rattle.restore_plan.specs.declared.entry.Entry as planned
+use Rattle.restore_steps.specs.declared.fault.PlanFault.{PlanFault}
+use Rattle.restore_steps.specs.declared.fault.PlanFault.TheVariants as plans
+use Rattle.restore_runs.specs.Wanted.{wanted_due}
+use Rattle.restore_folders.specs.Works.{in_entries, with_role, work_due}
+use Rattle.restore_tools.specs.Due.{path_taken, bytes_taken, taken_of, work_of, restore_due as restoring_due}
 use Rattle.tool_words.specs.Words.{asked_of, built, asked_by, words_asked}
 use Rattle.dump_ports.specs.declared.moment.Moment.{Moment}
 use Rattle.toc_entry.specs.declared.entry.Entry.{Entry}
@@ -59,7 +67,7 @@ use Rattle.schema_folders.specs.Folder.{is_bare, schemas_of, opening_in, opening
 use Rattle.tool_words.specs.Outcomes.{fault_outcome}
 use Rattle.exports.specs.Cells.{catalogue_with}
 use Rattle.exports.specs.Exports.{Exported, formed_of, told, well_formed, have_rows, export_with, export_of}
-use Rattle.dump_tools.specs.Due.{script_limit, input_of, source_of, scripted, script_read, schemas_for, runs_as, plan_with, plan_for, text_due, psql_due, form_of, formed_due, dump_due, text_of_input, text_of_archive, restore_due, second_due, compare_due, asked_due, due}
+use Rattle.dump_tools.specs.Due.{script_limit, input_of, source_of, scripted, script_read, schemas_for, runs_as, plan_with, plan_for, text_due, psql_due, form_of, formed_due, dump_due, text_of_input, text_of_archive, restore_due, piped_archive, restored_due, folder_due, second_due, compare_due, asked_due, due}
 
 same : (A B : Type 0) (o : Outcome) → ◌≡◌ {A = Result B Outcome} (Err o) (Err Done) → ◌≡◌ {A = Result A Outcome} (Err o) (Err Done)
 same A B o e = ap Err (inner B o e)
@@ -245,6 +253,48 @@ unfolding restore_due
 restore_never asked tree input e =
     bind_never (text_of_archive asked.archive asked.words tree input) _ (archive_text_never asked.archive asked.words tree input) (λ text h. ok_never _ h) e
 
+-- a restore into a folder
+taken_never : (archive : Option Bytes) (words : RestoreWords) (piped : Bytes) (tree : Tree) → taken_of archive words piped tree ≡ Err Done → ⊥
+unfolding taken_of path_taken bytes_taken
+taken_never (Some path) words piped tree e = archive_never (input_due (options_of words) words.use_list (format_of words.format) tree path) e
+taken_never None words piped tree e = archive_never (custom_input_due (options_of words) words.use_list tree piped) e
+
+entries_never : (r : Result (List planned.Entry) PlanFault) → in_entries r ≡ Err Done → ⊥
+entries_never (Ok wanted) e = cc
+entries_never (Err (plans.BadDefn entry fault)) e = cc
+entries_never (Err (plans.OutOfProfile entry what)) e = cc
+
+role_never : (owners : Bool) (taken : Input) (opening : Exported) (role : Option Bytes) → with_role owners taken opening role ≡ Err Done → ⊥
+role_never owners taken opening None e = cc
+role_never owners taken opening (Some role) e =
+    bind_never (in_entries (wanted_due owners taken.entries taken.texts)) _ (entries_never (wanted_due owners taken.entries taken.texts)) (λ wanted h. ok_never _ h) e
+
+work_never : (owners : Bool) (folder : Bytes) (taken : Input) (tree : Tree) → work_due owners folder taken tree ≡ Err Done → ⊥
+unfolding work_due
+work_never owners folder taken tree e = bind_never (opened_folder folder tree) _ (folder_never folder tree) (λ opening h. role_never owners taken opening (boot_role opening.cat) h) e
+
+restoring_never : (asked : RestoreAsked) (piped : Bytes) (tree : Tree) → restoring_due asked.folder asked.archive asked.words piped tree ≡ Err Done → ⊥
+unfolding restoring_due work_of
+restoring_never asked piped tree e =
+    bind_never (taken_of asked.archive asked.words piped tree >>= λ taken. work_due (not asked.words.no_owner) asked.folder taken tree) _
+    (λ h. bind_never (taken_of asked.archive asked.words piped tree) (λ taken. work_due (not asked.words.no_owner) asked.folder taken tree)
+    (taken_never asked.archive asked.words piped tree) (λ taken h. work_never (not asked.words.no_owner) asked.folder taken tree h) h)
+    (λ work h. ok_never _ h) e
+
+piped_never : (archive : Option Bytes) (input : Bytes) → piped_archive archive input ≡ Err Done → ⊥
+piped_never (Some path) input e = cc
+piped_never None input e = input_never ArchiveLimit script_limit input e
+
+restored_never : (asked : RestoreAsked) (piped : Bytes) (tree : Tree) → restored_due asked piped tree ≡ Err Done → ⊥
+unfolding restored_due
+restored_never asked piped tree e =
+    bind_never (restoring_due asked.folder asked.archive asked.words piped tree) _ (restoring_never asked piped tree) (λ plan h. ok_never _ h) e
+
+into_never : (asked : RestoreAsked) (tree : Tree) (input : Bytes) → folder_due asked tree input ≡ Err Done → ⊥
+unfolding folder_due
+into_never asked tree input e =
+    bind_never (piped_archive asked.archive input) (λ piped. restored_due asked piped tree) (piped_never asked.archive input) (λ piped h. restored_never asked piped tree h) e
+
 second_never : (one : Exported) (second : Bytes) (tree : Tree) → second_due one second tree ≡ Err Done → ⊥
 unfolding second_due
 second_never one second tree e = bind_never (opened_folder second tree) _ (folder_never second tree) (λ other h. ok_never _ h) e
@@ -258,6 +308,7 @@ asked_never : (asked : Asked) (moment : Moment) (tree : Tree) (input : Bytes) �
 asked_never (Psql folder script stop) moment tree input e = psql_never folder script stop tree input e
 asked_never (Dump asked) moment tree input e = dump_never asked moment tree e
 asked_never (Archive asked) moment tree input e = restore_never asked tree input e
+asked_never (Restore asked) moment tree input e = into_never asked tree input e
 asked_never (Compare first second) moment tree input e = compare_never first second tree e
 
 built_never : (asked : Option Asked) → built asked ≡ Err Done → ⊥

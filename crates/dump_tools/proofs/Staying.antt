@@ -16,9 +16,11 @@ use Rattle.schema_folders.specs.Folder.{IsElsewhere, all_tables, table_written, 
 use Rattle.saved_folders.specs.Files.{File}
 use Rattle.dump_tools.specs.Outputs.{World, Output, Stores, Patches, Writes, Tells, Takes, with_text, performed, all_performed, IsPart, IsCut, CutShort, stores}
 use Rattle.std.specs.List.{AllByRecursion}
+use Rattle.restore_folders.specs.Written.{files_written as files_restored}
+use Rattle.restore_tools.specs.Due.{Restoring, report_of as report_of_restore}
 use Rattle.saved_folders.specs.Folders.{files_of}
-use Rattle.dump_tools.specs.Runs.{Run, IsCompared, put_by, MayBeRun, MayCome, MayRun}
-use Rattle.dump_tools.specs.Due.{Plan, Applies, Running, Runs, Puts, Compares, dump_line, report_of, report_of_run}
+use Rattle.dump_tools.specs.Runs.{Run, IsCompared, put_by, MayBeRun, MayBeRestored, MayCome, MayRun}
+use Rattle.dump_tools.specs.Due.{Plan, Applies, Running, Runs, Puts, Restores, Compares, dump_line, report_of, report_of_run}
 use Rattle.dump_tools.specs.Stays.{IsOther, AreOthers, Keeps, IsSilent, AreSilent, TakesNone, AllTakeNone}
 use Rattle.dump_plans.specs.Outcomes.{bad_row_outcome}
 use Rattle.dump_outputs.specs.Pieces.{Piece}
@@ -202,6 +204,10 @@ run_none : (teller : Teller) (plan : Running) (run : Run) → MayBeRun teller pl
 run_none teller plan run (inl ran) = subst (λ (r : Run). AllTakeNone r.outputs) (sym ran.is) (stored_none (files_of plan.folder ran.texts) (report_of_run plan))
 run_none teller plan run (inr h) = subst (λ (r : Run). AllTakeNone r.outputs) (sym h.2) (tt, tt)
 
+restored_none : (teller : Teller) (plan : Restoring) (run : Run) → MayBeRestored teller plan run → AllTakeNone run.outputs
+restored_none teller plan run (inl restored) = subst (λ (r : Run). AllTakeNone r.outputs) (sym restored.is) (stored_none (files_restored plan.folder restored.texts) (report_of_restore plan))
+restored_none teller plan run (inr h) = subst (λ (r : Run). AllTakeNone r.outputs) (sym h.2) (tt, tt)
+
 compared_none : (teller : Teller) (a b : Named) (run : Run) → IsCompared teller a b run → AllTakeNone run.outputs
 compared_none teller a b run (inl h) = subst (λ (r : Run). AllTakeNone r.outputs) (sym h.1) tt
 compared_none teller a b run (inr h) = subst (λ (r : Run). AllTakeNone r.outputs) (sym h.2) (tt, tt)
@@ -215,6 +221,7 @@ later_none teller (Err refusal) run may = subst (λ (r : Run). AllTakeNone r.out
 later_none teller (Ok (Applies plan)) run may = subst (λ (r : Run). AllTakeNone r.outputs) (sym may.is) (stored_none (files_written plan.folder may.text) (report_of plan))
 later_none teller (Ok (Runs plan)) run may = run_none teller plan run may
 later_none teller (Ok (Puts plan)) run may = put_none plan.pieces plan.bad run may
+later_none teller (Ok (Restores plan)) run may = restored_none teller plan run may
 later_none teller (Ok (Compares a b)) run may = compared_none teller a b run may
 
 pub unread_none : (teller : Teller) (due : Result Plan Outcome) (run : Run) → MayRun None teller due run → AllTakeNone run.outputs

@@ -44,9 +44,10 @@ may_differ teller d (Loop path, h) = elim h [ ]
 may_differ teller d (NoMatch pattern, h) = elim h [ ]
 may_differ teller d (Memory, h) = elim h [ ]
 
--- the line of what a script leaves and isn't written
+-- the line of what a script or a restore leaves and isn't written
 may_be_unmade : (teller : Teller) (d : Result Plan Outcome) (answer : Outcome) → IsUnmadeAnswer answer → IsToRun d → MayCome teller d (told_run teller answer)
-may_be_unmade teller d answer unmade run = subst (λ r. MayCome teller r (told_run teller answer)) (sym run.1) (inr (answer, unmade, refl))
+may_be_unmade teller d answer unmade (inl run) = subst (λ r. MayCome teller r (told_run teller answer)) (sym run.1) (inr (answer, unmade, refl))
+may_be_unmade teller d answer unmade (inr restore) = subst (λ r. MayCome teller r (told_run teller answer)) (sym restore.1) (inr (answer, unmade, refl))
 
 may_stop : (teller : Teller) (d : Result Plan Outcome) (h : (a : Outcome) × IsUnmade a d) → MayCome teller d (told_run teller h.0)
 may_stop teller d (Done, h) = elim h [ ]

@@ -28,13 +28,16 @@ use Rattle.tool_words.specs.declared.outcome.Outcome.{Outcome}
 use Rattle.tool_words.specs.declared.outcome.Outcome.TheVariants.{Done, ReadFault, WriteFault, BadScript, OutOfProfile, TooLarge, Differs, ScriptStopped, Memory}
 use Rattle.tool_words.specs.Answers.{◌>>=◌, IsDue}
 use Rattle.tool_words.specs.declared.words.Asked.{Asked}
-use Rattle.tool_words.specs.declared.words.Asked.TheVariants.{Psql, Dump, Archive, Compare}
+use Rattle.tool_words.specs.declared.words.Asked.TheVariants.{Psql, Dump, Archive, Restore, Compare}
 use Rattle.tool_words.specs.declared.words.ScriptSource.{ScriptSource}
 use Rattle.tool_words.specs.declared.words.ScriptSource.TheVariants.{File, Input}
 use Rattle.tool_words.specs.declared.words.DumpAsked.{DumpAsked}
 use Rattle.tool_words.specs.declared.words.ArchiveAsked.{ArchiveAsked}
+use Rattle.tool_words.specs.declared.words.RestoreAsked.{RestoreAsked}
 use Rattle.command_line.specs.declared.command.RestoreWords.{RestoreWords}
 use Rattle.restore_outcomes.specs.Texts.{path_text, input_text}
+use Rattle.restore_tools.specs.Due.{Restoring, answer_due, restore_due as restoring_due}
+use Rattle.restore_tools.specs.Standing.{IsCarriedOut as HasRestored}
 use Rattle.dump_tools.specs.Outputs.{Output, Tells, world, all_performed, puts}
 use Rattle.tool_words.specs.Words.{words_asked}
 use Rattle.script_runs.specs.Stopping.{ending, told}
@@ -90,6 +93,8 @@ pub data Plan : Type 0 where
   Runs : Running → Plan
   -- pg_dump puts a dump where it is asked for, up to a row that fails, and pg_restore the list or the script of an archive
   Puts : Putting → Plan
+  -- pg_restore restores an archive into a folder
+  Restores : Restoring → Plan
   -- pg_catcmp compares two catalogues by names
   Compares : Named → Named → Plan
 
@@ -204,6 +209,19 @@ text_of_archive None words tree input = text_of_input words tree input
 unfoldable pub restore_due : ArchiveAsked → Tree → Bytes → Result Plan Outcome
 restore_due asked tree input = text_of_archive asked.archive asked.words tree input >>= λ text. Ok (Puts (one_piece asked.target text None))
 
+-- what is taken of standard input: all of it, where the archive stands there
+abbrev pub piped_archive : Option Bytes → Bytes → Result Bytes Outcome
+piped_archive (Some path) input = Ok []
+piped_archive None input = input_of ArchiveLimit script_limit input
+
+-- once it is taken: the archive is read, then the folder, and then the texts of the entries
+unfoldable pub restored_due : RestoreAsked → Bytes → Tree → Result Plan Outcome
+restored_due asked piped tree = restoring_due asked.folder asked.archive asked.words piped tree >>= λ plan. Ok (Restores plan)
+
+-- pg_restore into a folder: all is read before anything is restored
+unfoldable pub folder_due : RestoreAsked → Tree → Bytes → Result Plan Outcome
+folder_due asked tree input = piped_archive asked.archive input >>= λ piped. restored_due asked piped tree
+
 -- once the first is read: the second folder
 unfoldable pub second_due : Exported → Bytes → Tree → Result Plan Outcome
 second_due one second tree = do
@@ -220,6 +238,7 @@ abbrev pub asked_due : Asked → Moment → Tree → Bytes → Result Plan Outco
 asked_due (Psql folder script stop) moment tree input = psql_due folder script stop tree input
 asked_due (Dump asked) moment tree input = dump_due asked moment tree
 asked_due (Archive asked) moment tree input = restore_due asked tree input
+asked_due (Restore asked) moment tree input = folder_due asked tree input
 asked_due (Compare first second) moment tree input = compare_due first second tree
 
 -- what is due for the words, the moment, the files and standard input
@@ -311,6 +330,7 @@ abbrev pub answer_of : Plan → Outcome
 answer_of (Applies plan) = Done
 answer_of (Runs plan) = answer_of_run plan
 answer_of (Puts plan) = dump_answer plan.bad
+answer_of (Restores plan) = answer_due plan
 answer_of (Compares a b) = Done
 
 -- pg_dump's line of an answer
@@ -328,8 +348,8 @@ were_put_by pieces (Some bad) before after out_before out_after told_before told
     (front : List Piece) × IsFront pieces front × WerePut (map puts front ++ Tells (dump_line (bad_row_outcome bad)) ∷ []) before after out_before out_after told_before told_after
 
 -- What stands of the files, of standard output and of standard error once a plan is carried out: a script was applied and
--- its report was written to standard error, or texts were put where they were asked for, or two catalogues were the same, and
--- nothing else changed.
+-- its report was written to standard error, or texts were put where they were asked for, or an archive was restored and its
+-- report was written to standard error, or two catalogues were the same, and nothing else changed.
 abbrev pub IsCarriedOut : Plan → Option Tree → Option Tree → Option (List ℕ) → Option (List ℕ) → Option (List ℕ) → Option (List ℕ) → Type 0
 IsCarriedOut (Applies plan) before after out_before out_after told_before told_after =
     Applied plan before after × (out_after ≡ out_before) × Appends (report_of plan) told_before told_after
@@ -337,6 +357,8 @@ IsCarriedOut (Runs plan) before after out_before out_after told_before told_afte
     Ran plan before after × (out_after ≡ out_before) × Appends (report_of_run plan) told_before told_after
 IsCarriedOut (Puts plan) before after out_before out_after told_before told_after =
     were_put_by plan.pieces plan.bad before after out_before out_after told_before told_after
+IsCarriedOut (Restores plan) before after out_before out_after told_before told_after =
+    HasRestored plan before after told_before told_after × (out_after ≡ out_before)
 IsCarriedOut (Compares a b) before after out_before out_after told_before told_after =
     (a ≡ b) × (after ≡ before) × (out_after ≡ out_before) × (told_after ≡ told_before)
 
@@ -364,19 +386,19 @@ abbrev pub IsDifference : Outcome → Result Plan Outcome → Type 0
 IsDifference (Differs key) due = DiffersAt due key
 IsDifference outcome due = ⊥
 
--- a script is to run on an opening
+-- a script is to run on an opening, or an archive is to be restored into one
 abbrev pub IsToRun : Result Plan Outcome → Type 0
-IsToRun due = (plan : Running) × (due ≡ Ok (Runs plan))
+IsToRun due = ((plan : Running) × (due ≡ Ok (Runs plan))) ⊎ ((plan : Restoring) × (due ≡ Ok (Restores plan)))
 
--- A script is to run, and what it leaves isn't written: its files would be over a limit of reading, or rows that stand
--- for it weren't found.
+-- A script is to run, or a restore, and what it leaves isn't written: its files would be over a limit of reading, or rows
+-- that stand for it weren't found.
 abbrev pub IsUnmade : Outcome → Result Plan Outcome → Type 0
 IsUnmade (TooLarge limit most) due = IsToRun due
 IsUnmade (OutOfProfile what) due = (what ≡ Unbuilt) × IsToRun due
 IsUnmade outcome due = ⊥
 
 -- an answer other than Done: the refusal that is due, the difference to which the plan that is due comes, or that what a
--- script leaves isn't written
+-- script or a restore leaves isn't written
 abbrev pub IsAnswerDue : Outcome → Result Plan Outcome → Type 0
 IsAnswerDue outcome due = IsDue outcome due ⊎ IsDifference outcome due ⊎ IsUnmade outcome due
 

@@ -1,5 +1,5 @@
 -- Which runs of the program may come: what it takes and puts out, in order, and what it answers.
--- Where nothing is free that is one run; a script that makes schemas may make them under any new oids.
+-- Where nothing is free that is one run; what a script or a restore makes may be made under any new oids.
 use Rattle.std.specs.Prelude.{◌≡◌, ℕ, ◌++◌, List, [], ◌∷◌, map, Option, Some, None, Result, Ok, Err, ◌⊎◌}
 use Rattle.dump_ports.specs.Tree.{Tree}
 use Rattle.dump_ports.specs.Faults.{HasRisen}
@@ -14,10 +14,13 @@ use Rattle.tool_words.specs.declared.words.Teller.{Teller}
 use Rattle.tool_words.specs.Words.{teller_of, reads_input}
 use Rattle.tool_words.specs.Messages.{outcome_line}
 use Rattle.cat_model.specs.declared.words.What.TheVariants.{Unbuilt}
+use Rattle.restore_folders.specs.Written.{LeavesEnding, files_written as files_restored}
+use Rattle.restore_tools.specs.Due.{Restoring, ending, answer_due, report_of as report_of_restore}
+use Rattle.saved_folders.specs.Exports.{WithTexts}
 use Rattle.saved_folders.specs.Folders.{Texts, files_of}
 use Rattle.dump_plain.specs.Dumps.{BadRow}
 use Rattle.dump_plans.specs.Outcomes.{bad_row_outcome}
-use Rattle.dump_tools.specs.Due.{Application, Running, Plan, Applies, Runs, Puts, Compares, dump_line, Comes, Leaves, report_of, report_of_run, answer_of_run, due}
+use Rattle.dump_tools.specs.Due.{Application, Running, Plan, Applies, Runs, Puts, Restores, Compares, dump_line, Comes, Leaves, report_of, report_of_run, answer_of_run, due}
 use Rattle.dump_tools.specs.Inputs.{where_read, IsTaken, HasTaken}
 use Rattle.dump_tools.specs.Outputs.{World, Output, Tells, Takes, all_performed, IsPart, CutShort, stores, puts}
 use Rattle.dump_outputs.specs.Forms.{Putting}
@@ -50,7 +53,7 @@ pub record IsRan (plan : Running) (run : Run) : Type 0 where
   pub leaves : Leaves plan texts
   pub is : run ≡ run_of (map stores (files_of plan.folder texts) ++ Tells (report_of_run plan) ∷ []) (answer_of_run plan)
 
--- what a script leaves isn't written
+-- what a script or a restore leaves isn't written
 abbrev pub IsUnmadeAnswer : Outcome → Type 0
 IsUnmadeAnswer (TooLarge limit most) = Unit {0}
 IsUnmadeAnswer (OutOfProfile what) = what ≡ Unbuilt
@@ -59,6 +62,17 @@ IsUnmadeAnswer answer = ⊥
 -- A script is run, or what it leaves isn't written.
 abbrev pub MayBeRun : Teller → Running → Run → Type 0
 MayBeRun teller plan run = IsRan plan run ⊎ ((answer : Outcome) × IsUnmadeAnswer answer × (run ≡ told_run teller answer))
+
+-- An archive is restored: the files of the folder that stands for what the restore leaves are stored one after another, the
+-- marker last, or none where it stopped and is undone; and then its report is told.
+pub record IsRestored (plan : Restoring) (run : Run) : Type 0 where
+  pub texts : Option WithTexts
+  pub leaves : LeavesEnding plan.how (ending plan) texts
+  pub is : run ≡ run_of (map stores (files_restored plan.folder texts) ++ Tells (report_of_restore plan) ∷ []) (answer_due plan)
+
+-- An archive is restored, or what the restore leaves isn't written.
+abbrev pub MayBeRestored : Teller → Restoring → Run → Type 0
+MayBeRestored teller plan run = IsRestored plan run ⊎ ((answer : Outcome) × IsUnmadeAnswer answer × (run ≡ told_run teller answer))
 
 -- Texts are put out; where a row fails some first part of them, and its line is told.
 abbrev pub put_by : List Piece → Option BadRow → Run → Type 0
@@ -78,6 +92,7 @@ MayCome teller (Err refusal) run = run ≡ told_run teller refusal
 MayCome teller (Ok (Applies plan)) run = IsApplied plan run
 MayCome teller (Ok (Runs plan)) run = MayBeRun teller plan run
 MayCome teller (Ok (Puts plan)) run = IsPut plan run
+MayCome teller (Ok (Restores plan)) run = MayBeRestored teller plan run
 MayCome teller (Ok (Compares a b)) run = IsCompared teller a b run
 
 -- What comes first of a run: it takes the input that it reads, or nothing where it reads none.

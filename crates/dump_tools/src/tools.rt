@@ -21,7 +21,7 @@ ghost use Rattle.dump_tools.specs.Runs.{IsEarly, read_by, StepTakes, HasCut, End
 use crate::dumps::dump_work;
 use crate::printing::put_dump;
 use crate::psql::psql;
-use crate::restoring::pg_restore;
+use crate::restoring::{pg_restore, restore_into};
 use cat_model::Key;
 use cat_same::{Verdict, compare_maps};
 use copy_text::Text;
@@ -237,6 +237,7 @@ fn perform<F: Files, I: Source, O: Sink, E: Sink>(
         } => psql(alloc, files, input, err, &folder, &script, stop),
         Asked::Dump(asked) => pg_dump(alloc, files, out, err, asked, moment),
         Asked::Archive(asked) => pg_restore(alloc, files, input, out, &asked),
+        Asked::Restore(asked) => restore_into(alloc, files, input, err, &asked),
         Asked::Compare { first, second } => pg_catcmp(alloc, files, &first, &second),
     }
 }

@@ -41,6 +41,7 @@ where
         Asked::Psql { folder, .. } => files.hold(folder.as_str(), Hold::Alone),
         Asked::Dump(asked) => files.hold(asked.folder.as_str(), Hold::Shared),
         Asked::Archive(_) => Ok(()),
+        Asked::Restore(asked) => files.hold(asked.folder.as_str(), Hold::Alone),
         Asked::Compare { first, second } => {
             files.hold(first.as_str(), Hold::Shared)?;
             files.hold(second.as_str(), Hold::Shared)

@@ -14,7 +14,7 @@ A folder holds one database: a COPY file for each system table and each table of
 Tools:
   psql        applies a script to a folder
   pg_dump     writes a folder as a script or an archive
-  pg_restore  writes the list or the script of an archive
+  pg_restore  restores an archive into a folder, or shows it
   pg_catcmp   compares two folders
   pg_dumpall, pg_clone, pg_gen
               read their words, and are not built yet
@@ -71,7 +71,7 @@ Usage: pgtools pg_restore [OPTION]... [ARCHIVE]
   -n, --schema=NAME   -N, --exclude-schema=NAME   -t, --table=NAME
   -O, --no-owner   -x, --no-privileges   --no-comments
 
-Built so far: lists and scripts.
+Built so far: one worker. A refused entry changes nothing; its line stands on standard error.
 ";
 
 const PG_DUMPALL: &str = "pg_dumpall writes the roles and the database of a folder as a script

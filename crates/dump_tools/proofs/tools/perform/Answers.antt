@@ -40,7 +40,7 @@ returns-in-Dump-clause-cut g c =
     (cut teller tree (g.I.Source.left c.args.input.now) known))
     c.pg_dump.ensures.cut
 
--- pg_restore tells nothing
+-- pg_restore of a list or a script tells nothing
 pub returns-in-Archive-clause-cut : goal.returns-in-Archive-clause-cut
 returns-in-Archive-clause-cut g c =
     let reads = reads_asked c.args.words.now c.in_ok-asked.asked c.in_ok-asked.ensures.due ∙ ap asks_for_input c.in-Archive.is in
@@ -49,6 +49,16 @@ returns-in-Archive-clause-cut g c =
     (due_asked c.args.words.now c.args.moment tree bytes c.in_ok-asked.asked c.in_ok-asked.ensures.due ∙ ap (λ (asked : Asked). asked_due asked c.args.moment tree bytes) c.in-Archive.is)
     (cut teller tree bytes (g.E.Sink.written c.args.err.now) known (subst (λ b. TellsLeft b (g.I.Source.left c.args.input.now) bytes) reads tells)))
     c.pg_restore.ensures.cut
+
+-- pg_restore into a folder prints nothing
+pub returns-in-Restore-clause-cut : goal.returns-in-Restore-clause-cut
+returns-in-Restore-clause-cut g c =
+    let reads = reads_asked c.args.words.now c.in_ok-asked.asked c.in_ok-asked.ensures.due ∙ ap asks_for_input c.in-Restore.is in
+    on_err_weaker c.restore_into.result (λ cut teller tree bytes known tells.
+    cut_due teller _ _ _ _ _ _ (ap (λ b. where_read b bytes) reads)
+    (due_asked c.args.words.now c.args.moment tree bytes c.in_ok-asked.asked c.in_ok-asked.ensures.due ∙ ap (λ (asked : Asked). asked_due asked c.args.moment tree bytes) c.in-Restore.is)
+    (cut teller tree bytes (g.O.Sink.written c.args.out.now) known (subst (λ b. TellsLeft b (g.I.Source.left c.args.input.now) bytes) reads tells)))
+    c.restore_into.ensures.cut
 
 -- pg_catcmp puts out nothing
 pub returns-in-Compare-clause-cut : goal.returns-in-Compare-clause-cut
