@@ -1,3 +1,4 @@
 pub mod Having
 mod Numbering
+mod Drawing
 mod Labels

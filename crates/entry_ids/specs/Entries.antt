@@ -1,6 +1,7 @@
 -- What has oids of its own of what an entry of a catalogue says.
-use Rattle.std.specs.Prelude.{◌≡◌, ℕ, ◌+◌, List, [], ◌∷◌, ◌++◌, map, Some, IsSome, if◌then◌else◌}
+use Rattle.std.specs.Prelude.{◌≡◌, ℕ, ◌+◌, List, [], ◌∷◌, ◌++◌, map, false, Some, None, IsSome, if◌then◌else◌}
 use Rattle.std.specs.FinMap.{get, entries}
+use Rattle.std.specs.FinSet.{contains}
 use Rattle.std.specs.List.{slice_get, flat_map}
 use Rattle.cat_model.specs.declared.object.QName.{QName}
 use Rattle.cat_model.specs.declared.key.Key.{Key}
@@ -37,3 +38,7 @@ slots_of es = flat_map (λ e. object_slots e.0 ++ check_slots e) es ++ flat_map 
 -- each has an oid
 abbrev pub HaveIds : IdsOf → List Slot → Type 0
 HaveIds ids slots = (i : ℕ) (s : Slot) → slice_get slots i ≡ Some s → IsSome (get ids.ids s)
+
+-- the oids of what had none before weren't in use then
+abbrev pub AreUnused : IdsOf → IdsOf → Type 0
+AreUnused before after = (s : Slot) (oid : ℕ) → get before.ids s ≡ None → get after.ids s ≡ Some oid → contains before.used oid ≡ false
