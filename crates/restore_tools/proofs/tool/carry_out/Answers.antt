@@ -1,5 +1,6 @@
 use Rattle.std.proofs.Common.{inl, inr, refl, ◌∙◌}
 use Rattle.std.proofs.lemmas.Result.{IfOk-weaker, on_err_weaker, err_from_is_err_and}
+use Rattle.tool_words.proofs.Lining.{always_err}
 use Rattle.restore_folders.specs.Seen.{work_seen}
 use Rattle.restore_folders.specs.Works.{answer_by}
 use Rattle.restore_tools.specs.Due.{restoring}
@@ -12,9 +13,12 @@ returns-in_err-run-clause-refused g c =
     let p = err_from_is_err_and c.from_residual.result c.from_residual.ensures.1 in
     rw (p.1, p.2) (unmade_due _ (restoring c.args.folder.now c.args.how (work_seen c.args.work)) c.in_err-run.ensures.unwritten)
 
+pub returns-in_err-run-clause-cut : goal.returns-in_err-run-clause-cut
+returns-in_err-run-clause-cut g c = always_err c.from_residual.result (inl (record { kept = refl; silent = refl }))
+
 -- the writing of the folder ended on its way
-pub returns-in-Err-clause-cut : goal.returns-in-Err-clause-cut
-returns-in-Err-clause-cut g c = inr (inl (record {
+pub returns-clause-cut : goal.returns-clause-cut
+returns-clause-cut g c = inr (inl (record {
   texts = c.in_ok-run.run'.texts;
   leaves = c.in_ok-run.ensures.leaves;
   saved = c.in-Err.ensures.err;
