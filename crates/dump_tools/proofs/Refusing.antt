@@ -37,7 +37,7 @@ use Rattle.restore_texts.specs.Texts.{custom_due, archive_due}
 use Rattle.restore_words.specs.Words.{options_of, format_of}
 use Rattle.restore_outcomes.specs.Texts.{wish_of, path_text, input_text}
 use Rattle.restore_outcomes.proofs.Passing.{told_never as archive_never}
-use Rattle.restore_input.specs.Inputs.{Input, input_due, custom_input_due}
+use Rattle.restore_input.specs.Inputs.{Input as RestoreTaken, input_due, custom_input_due}
 use Rattle.restore_plan.specs.declared.entry.Entry as planned
 use Rattle.restore_steps.specs.declared.fault.PlanFault.{PlanFault}
 use Rattle.restore_steps.specs.declared.fault.PlanFault.TheVariants as plans
@@ -264,12 +264,12 @@ entries_never (Ok wanted) e = cc
 entries_never (Err (plans.BadDefn entry fault)) e = cc
 entries_never (Err (plans.OutOfProfile entry what)) e = cc
 
-role_never : (owners : Bool) (taken : Input) (opening : Exported) (role : Option Bytes) → with_role owners taken opening role ≡ Err Done → ⊥
+role_never : (owners : Bool) (taken : RestoreTaken) (opening : Exported) (role : Option Bytes) → with_role owners taken opening role ≡ Err Done → ⊥
 role_never owners taken opening None e = cc
 role_never owners taken opening (Some role) e =
     bind_never (in_entries (wanted_due owners taken.entries taken.texts)) _ (entries_never (wanted_due owners taken.entries taken.texts)) (λ wanted h. ok_never _ h) e
 
-work_never : (owners : Bool) (folder : Bytes) (taken : Input) (tree : Tree) → work_due owners folder taken tree ≡ Err Done → ⊥
+work_never : (owners : Bool) (folder : Bytes) (taken : RestoreTaken) (tree : Tree) → work_due owners folder taken tree ≡ Err Done → ⊥
 unfolding work_due
 work_never owners folder taken tree e = bind_never (opened_folder folder tree) _ (folder_never folder tree) (λ opening h. role_never owners taken opening (boot_role opening.cat) h) e
 
