@@ -17,8 +17,8 @@ pub returns-in_err-run-clause-cut : goal.returns-in_err-run-clause-cut
 returns-in_err-run-clause-cut g c = always_err c.from_residual.result (inl (record { kept = refl; silent = refl }))
 
 -- the writing of the folder ended on its way
-pub returns-clause-cut : goal.returns-clause-cut
-returns-clause-cut g c = inr (inl (record {
+pub returns-in-Err-clause-cut : goal.returns-in-Err-clause-cut
+returns-in-Err-clause-cut g c = inr (inl (record {
   texts = c.in_ok-run.run'.texts;
   leaves = c.in_ok-run.ensures.leaves;
   saved = c.in-Err.ensures.err;
