@@ -1,0 +1,5 @@
+pub mod Leaving
+pub mod Grown
+pub mod Giving
+pub mod Started
+pub mod Keeping
