@@ -1,0 +1,4 @@
+pub mod Moving
+pub mod Tables
+pub mod Kept
+pub mod Reading
