@@ -1,5 +1,5 @@
 -- What pg_dump prints of a folder, applied by psql to a fresh one.
-use Rattle.std.proofs.Common.{◌≡◌, ℕ, false, List, [], ◌++◌, length, drop, Option, Some, None, option_map, Result, Ok, refl, sym, ap, subst, ◌∙◌}
+use Rattle.std.proofs.Common.{true, ◌≡◌, ℕ, false, List, [], ◌++◌, length, drop, Option, Some, None, option_map, Result, Ok, refl, sym, ap, subst, ◌∙◌}
 use Rattle.dump_ports.specs.Tree.{Tree}
 use Rattle.dump_ports.specs.declared.moment.Moment.{Moment}
 use Rattle.cat_model.specs.Values.{Bytes}
