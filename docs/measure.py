@@ -1,9 +1,10 @@
 #!/usr/bin/env python3
-"""Measures psql, pg_catcmp, and pg_dump in each format, on some 200 MB of rows, beside cp -r and cmp of the same files.
+"""Measures psql, pg_catcmp, pg_dump in each format, and pg_restore, on some 200 MB of rows, beside cp -r and cmp of the same
+files.
 
     docs/measure.py PROGRAM FOLDER
 
-PROGRAM is the built program (or ./pgtools), FOLDER a folder for what is made, with 2.5 GB of room. Each line tells the
+PROGRAM is the built program (or ./pgtools), FOLDER a folder for what is made, with 3 GB of room. Each line tells the
 seconds on the clock, the processor seconds and the most memory in MB of one run; each command is run three times.
 """
 import os
@@ -54,27 +55,30 @@ def run(label, words, prepare=None, out=None):
 
 def main(program, folder):
     empty = os.path.join(os.path.dirname(os.path.abspath(__file__)), "..", "examples", "empty")
-    at = {name: os.path.join(folder, name) for name in ("script.sql", "made", "copy")}
+    at = {name: os.path.join(folder, name) for name in ("script.sql", "made", "copy", "back")}
     os.makedirs(folder, exist_ok=True)
     script(at["script.sql"])
 
     def fresh(name):
         shutil.rmtree(at[name], ignore_errors=True)
 
-    def opening():
-        fresh("made")
-        shutil.copytree(empty, at["made"])
+    def opening(name="made"):
+        fresh(name)
+        shutil.copytree(empty, at[name])
 
     print(f"script: {os.path.getsize(at['script.sql'])} bytes")
     run("psql", [program, "psql", "-d", at["made"], "-f", at["script.sql"]], opening)
     print(f"folder: {size(at['made'])} bytes")
     run("cp -r", ["cp", "-r", at["made"], at["copy"]], lambda: fresh("copy"))
+    run("cp -r, sync", ["sh", "-c", f"cp -r {at['made']} {at['copy']} && sync {at['copy']}/* {at['copy']}/data/*"], lambda: fresh("copy"))
     run("pg_catcmp", [program, "pg_catcmp", at["made"], at["copy"]])
     run("pg_dump", [program, "pg_dump", at["made"]], None, os.path.join(folder, "dump.sql"))
     for kind, name in (("p", "file.sql"), ("c", "file.dump"), ("d", "directory")):
         target = os.path.join(folder, name)
         shutil.rmtree(target, ignore_errors=True)
         run(f"pg_dump -F{kind} -f", [program, "pg_dump", f"-F{kind}", "-f", target, at["made"]])
+    restored = [program, "pg_restore", "-d", at["back"], os.path.join(folder, "file.dump")]
+    run("pg_restore -d", restored, lambda: opening("back"))
     run("cmp", ["sh", "-c", f"for f in {at['made']}/data/*; do cmp $f {at['copy']}/data/$(basename $f); done"])
 
 
