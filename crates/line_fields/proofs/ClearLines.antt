@@ -24,15 +24,15 @@ use Rattle.copy_text.proofs.RowLemmas.{fields_cons, fields_nil}
 abbrev pub Clear : List ℕ → Type 0
 Clear xs = Nowhere (Passes (is_byte2 backslash carriage_return) xs) 0 (length xs)
 
-neither : (xs : List ℕ) (k : ℕ) → Clear xs → k < length xs → (eqb (get_or xs k 0) backslash ≡ false) × (eqb (get_or xs k 0) carriage_return ≡ false)
+pub neither : (xs : List ℕ) (k : ℕ) → Clear xs → k < length xs → (eqb (get_or xs k 0) backslash ≡ false) × (eqb (get_or xs k 0) carriage_return ≡ false)
 neither xs k clear lt = or_parts _ _ (false_from_ne_true _ (clear k (omega arith) lt))
 
-clear_take : (n : ℕ) (xs : List ℕ) → n ≤ length xs → Clear xs → Clear (take n xs)
+pub clear_take : (n : ℕ) (xs : List ℕ) → n ≤ length xs → Clear xs → Clear (take n xs)
 clear_take n xs le clear k low lt here =
     let below : k < n = omega (arith, length-take n xs) in
     clear k low (omega arith) (ap (is_byte2 backslash carriage_return) (sym (get_or-take n xs k 0 below)) ∙ here)
 
-clear_drop : (n : ℕ) (xs : List ℕ) → Clear xs → Clear (drop n xs)
+pub clear_drop : (n : ℕ) (xs : List ℕ) → Clear xs → Clear (drop n xs)
 clear_drop n xs clear k low lt here =
     clear (n + k) (omega arith) (omega (arith, length-drop n xs)) (ap (is_byte2 backslash carriage_return) (sym (get_or-drop n xs k 0)) ∙ here)
 
@@ -62,7 +62,7 @@ module _ (piece : List ℕ) (clear : Clear piece) where
 
 -- ---- cuts of a text at ASCII
 
-cut_at : (n : ℕ) (xs : List ℕ) → n < length xs → get_or xs n 0 < 128 → IsText xs → IsText (take n xs) × IsText (drop (n + 1) xs)
+pub cut_at : (n : ℕ) (xs : List ℕ) → n < length xs → get_or xs n 0 < 128 → IsText xs → IsText (take n xs) × IsText (drop (n + 1) xs)
 cut_at n xs lt ascii text = (IsUtf8-take xs n text (IsCharBoundary-before_ascii xs n lt ascii), IsUtf8-drop xs (n + 1) text (IsCharBoundary-after_ascii xs n text lt ascii))
 
 -- the place of the first tab, or the length
@@ -128,7 +128,7 @@ reads_as_pieces line clear text = all_spelled (length line) 0 line (omega arith)
 
 -- ---- the lines of a text
 
-line_ends : (text : List ℕ) → len_of text < length text → get_or text (len_of text) 0 ≡ newline
+pub line_ends : (text : List ℕ) → len_of text < length text → get_or text (len_of text) 0 ≡ newline
 line_ends text lt = eqb-true _ _ (not-false _ (prefix_len_stops (λ (b : ℕ). not (eqb b newline)) text 0 lt))
 
 all_texts : (fuel : ℕ) (text : List ℕ) → length text ≤ fuel → IsText text → AllByRecursion IsText (lines text)

@@ -1,2 +1,3 @@
-pub mod ClearLines
 pub mod RawPieces
+pub mod ClearLines
+pub mod Walks

@@ -6,6 +6,8 @@
 
 mod clear;
 mod fields;
+mod walk;
 
 pub use clear::{has_text_lines, is_clear};
 pub use fields::{line_field, split_piece};
+pub use walk::{behind_line, is_clear_text, split_field};

@@ -5,6 +5,7 @@
 #![tactic(auto)]
 
 mod check;
+mod counted;
 mod plain;
 
 pub use check::check_rows;

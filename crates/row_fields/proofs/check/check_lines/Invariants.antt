@@ -1,6 +1,6 @@
 use Rattle.std.proofs.Common.{length}
 use Rattle.data_rows.proofs.RowLemmas.{Kept}
-use Rattle.row_fields.proofs.check.check_rows.Given as goal
+use Rattle.row_fields.proofs.check.check_lines.Given as goal
 
 -- the rows so far are those of the lines so far
 abbrev pub invariant-loop-line : goal.invariant-loop-line

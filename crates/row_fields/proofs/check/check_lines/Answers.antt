@@ -1,6 +1,6 @@
 use Rattle.std.proofs.Common.{◌∙◌, sym}
 use Rattle.data_rows.proofs.RowLemmas.{kept_start, kept_end, kept_fault, kept_step}
-use Rattle.row_fields.proofs.check.check_rows.Goals as goal
+use Rattle.row_fields.proofs.check.check_lines.Goals as goal
 
 pub loop-line-init : goal.loop-line-init
 loop-line-init c = kept_start c.args.columns c.args.text.now
