@@ -1,5 +1,5 @@
 -- Folders that hold the same texts are read alike, file by file.
-use Rattle.std.proofs.Common.{◌≡◌, ℕ, ◌+◌, Bool, true, false, cond, List, [], ◌∷◌, ◌++◌, length, map, Option, Some, None, unwrap_or, Result, Ok, Err, IsSome, refl, sym, ap, ◌∙◌}
+use Rattle.std.proofs.Common.{◌≡◌, ℕ, ◌+◌, Bool, true, false, cond, List, [], ◌∷◌, length, map, Option, Some, None, unwrap_or, Result, Ok, Err, IsSome, refl, sym, ap, ◌∙◌}
 use Rattle.std.specs.List.{AllByRecursion, sum_by}
 use Rattle.std.specs.FinMap.{get, from_entries}
 use Rattle.std.proofs.lemmas.Bool.{true≢false}
@@ -7,7 +7,6 @@ use Rattle.std.proofs.lemmas.List.Elements.{recursion_from_All}
 use Rattle.std.proofs.lemmas.List.Sums.{sum_by-cons}
 use Rattle.dump_ports.specs.Tree.{Tree, text_at, bytes_at}
 use Rattle.cat_rows.specs.declared.table.SysTable.{SysTable}
-use Rattle.cat_rows.specs.declared.cell.Cell.{Cell}
 use Rattle.cat_rows.specs.declared.catalogue.Catalogue.{Catalogue}
 use Rattle.cat_names.specs.DataSets.{TextsByOid}
 use Rattle.cat_names.specs.Lookups.{has_oid}
@@ -21,7 +20,7 @@ use Rattle.folder_io.specs.Folders.{Bytes, TextOfTable, all_tables, marked, mark
 use Rattle.table_rows.specs.Tables.{table_oids}
 use Rattle.folder_rows.specs.Reading.{data_text, total_of, texts_from, rows_from, data_of}
 use Rattle.folder_rows.specs.Holding.{HoldsRows}
-use Rattle.same_texts.specs.Alike.{HasSame, IsData, HoldSame}
+use Rattle.same_texts.specs.Alike.{HasSame, IsData}
 
 module _ (first second : Bytes) (tree : Tree) where
   -- ---- one file

@@ -8,6 +8,7 @@ ghost use Rattle.folder_io.specs.declared.file.ExportFile.TheVariants as file;
 ghost use Rattle.table_rows.specs.Tables.{table_oids};
 ghost use Rattle.same_texts.specs.Alike.{HasSame, IsData, HoldSame, IsCutOff};
 
+use crate::pieces::has_text;
 use cat_names::DataSet;
 use cat_rows::{Catalogue, SysTable};
 use copy_text::Text;
@@ -105,11 +106,7 @@ fn is_data<F: Files>(
     let Some(held) = rows.text(table) else {
         return Ok(false);
     };
-    let file = ExportFile::Data(table);
-    let Some(text) = text_in(alloc, files, folder, file, FolderLimit::DataFile)? else {
-        return Ok(false);
-    };
-    Ok(are_same(&text, held))
+    has_text(alloc, files, folder, ExportFile::Data(table), held)
 }
 
 /// The same of the data files of these tables.
@@ -174,7 +171,8 @@ fn have_same_catalogue<F: Files>(
 /// Whether a second folder holds, byte for byte, the texts of a first one in all files that reading takes: the marker, the
 /// files of the system tables, and the data files of the tables, whose texts `rows` are those that were read of the first.
 ///
-/// It says no where it can't tell, as where a file is absent, and stops there. It holds one file of each folder at a time.
+/// It says no where it can't tell, as where a file is absent, and stops there. It holds the file of one system table of each
+/// folder at a time, and of a data file a piece.
 ///
 /// # Errors
 ///

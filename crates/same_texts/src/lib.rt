@@ -3,5 +3,6 @@
 
 mod comparing;
 pub mod laws;
+mod pieces;
 
 pub use comparing::hold_same_texts;

@@ -1,4 +1,4 @@
-use Rattle.std.proofs.Common.{◌∙◌, get_or, rules, arith}
+use Rattle.std.proofs.Common.{◌∙◌, rules, arith}
 use Rattle.cat_rows.specs.declared.table.SysTable.TheVariants.{PgAuthid}
 use Rattle.folder_io.specs.Folders.{all_tables}
 use Rattle.folder_io.specs.declared.file.ExportFile.TheVariants.{Table}
