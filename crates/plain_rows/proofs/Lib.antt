@@ -3,3 +3,4 @@ pub mod FieldSteps
 pub mod CopiedLines
 pub mod LineKeys
 pub mod Rising
+pub mod RisingLines

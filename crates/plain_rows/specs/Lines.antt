@@ -1,6 +1,6 @@
 -- Lines of a text as rows of a table, and their keys in one column.
 use Rattle.std.specs.Prelude.{◌≡◌, ◌⊎◌, ℕ, Bool, true, false, not, ◌&&◌, List, [], ◌∷◌, length, map, Option, Some, None, Result, Ok, Err}
-use Rattle.std.specs.List.{list_any}
+use Rattle.std.specs.List.{AllByRecursion, list_any}
 use Rattle.std.specs.Borrow.{Bor}
 use Rattle.std.specs.declared.cmp.Ordering.{Ordering}
 use Rattle.std.specs.declared.cmp.Ordering.TheVariants.{Less}
@@ -13,6 +13,7 @@ use Rattle.cat_model.specs.declared.value.Column.{Column}
 use Rattle.cat_model.specs.Values.{Bytes, Row}
 use Rattle.cat_model.specs.Lexemes.{same_text}
 use Rattle.cat_model.specs.FieldTypes.{takes}
+use Rattle.line_fields.specs.Clear.{IsClearText}
 use Rattle.key_sets.specs.declared.key_set.KeySet.{KeySet}
 use Rattle.key_sets.specs.Holding.{holds}
 use Rattle.cat_model.specs.CopiedRows.{fields_cause}
@@ -84,3 +85,11 @@ by_length a b = slice_cmp nat_cmp (length a ∷ a) (length b ∷ b)
 abbrev pub AreUpTo : Option (Bor (List ℕ)) → List Bytes → Type 0
 AreUpTo None known = (key : Bytes) → list_any (same_text key) known ≡ false
 AreUpTo (Some last) known = (key : Bytes) → list_any (same_text key) known ≡ true → (key ≡ last.now) ⊎ (by_length key last.now ≡ Less)
+
+-- ---- lines without an escape
+
+-- The first line of a text has this key, and what stands behind the line is such a text too; where its lines fit, all do.
+pub record FitsFirst (columns : List Column) (place : ℕ) (text key behind : Bytes) : Type 0 where
+  pub keys : line_keys columns place text ≡ Some key ∷ line_keys columns place behind
+  pub fits : (primary : List Bytes) → AllByRecursion (LineFits columns primary) (data_lines behind) → AllByRecursion (LineFits columns primary) (data_lines text)
+  pub rest : IsClearText behind

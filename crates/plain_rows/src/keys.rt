@@ -19,7 +19,10 @@ use row_fields::PlainRow;
 use std::alloc::{AllocError, Global};
 use std::cmp::Ordering;
 
-fn column_at<'c, 'a>(columns: &'c [ColumnValues<'a>], place: usize) -> Option<&'c ColumnValues<'a>>
+pub(crate) fn column_at<'c, 'a>(
+    columns: &'c [ColumnValues<'a>],
+    place: usize,
+) -> Option<&'c ColumnValues<'a>>
     ensures { option_copied result ≡ slice_get columns.now place }
 {
     columns.get(place)
@@ -152,7 +155,7 @@ fn by_length(a: &[u8], b: &[u8]) -> Ordering
 }
 
 // Takes in a key that stands behind the last one.
-fn rise_to<'t>(last: &mut Option<&'t [u8]>, key: &'t [u8]) -> bool
+pub(crate) fn rise_to<'t>(last: &mut Option<&'t [u8]>, key: &'t [u8]) -> bool
     ensures new { IsTrue result → (known : List (List ℕ)) → AreUpTo last.old known → list_any (same_text key.now) known ≡ false }
     ensures risen { IsTrue result → (known : List (List ℕ)) → AreUpTo last.old known → AreUpTo last.new (key.now ∷ known) }
 {

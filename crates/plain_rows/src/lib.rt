@@ -5,8 +5,10 @@
 #![tactic(auto)]
 
 mod fitting;
+mod fused;
 mod keys;
 pub mod laws;
 
 pub use fitting::rows_fit;
+pub use fused::rows_fit_rising;
 pub use keys::{key_set, keys_are_among, keys_differ, keys_rise};
