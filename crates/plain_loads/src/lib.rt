@@ -4,6 +4,7 @@
 #![tactic(auto)]
 
 mod foreigns;
+mod lines;
 mod meeting;
 mod parents;
 mod uniques;

@@ -21,6 +21,7 @@ ghost use Rattle.table_rows.specs.Values.{values_fault};
 ghost use Rattle.plain_loads.specs.Meeting.{Meets, TableMeets, constraints_of, indexes_of};
 
 use crate::foreigns::{Tables, all_have_parents};
+use crate::lines::find_fitting;
 use crate::parents::text_of;
 use crate::uniques::all_differ;
 use cat_model::{Class, Column, ConstraintKind, Key, QName, Value};
@@ -31,7 +32,6 @@ use eng_map::NamedMap;
 use eng_steps::let_go_key;
 use field_values::TableColumns;
 use key_effects::entries_of;
-use plain_rows::rows_fit;
 use std::alloc::{AllocError, Global};
 use table_rows::{CheckValuesError, check_values, table_oids};
 use well_formed::WellFormed;
@@ -116,13 +116,13 @@ fn entries_meet(
         → map (deref_pair {K = TheKey} {X = TheValue}) indexes.now ≡ indexes_of tables.now.named.now q.now
         → Meets tables.now.named.now tables.now.book.now tables.now.rows.now q.now text.now) }
 {
-    if !rows_fit(alloc, columns, primary_columns(constraints), text)? {
+    let Some(fit) = find_fitting(alloc, columns, primary_columns(constraints), text)? else {
+        return Ok(false);
+    };
+    if !all_differ(alloc, columns, fit.rising, constraints, text)? {
         return Ok(false);
     }
-    if !all_differ(alloc, columns, constraints, text)? {
-        return Ok(false);
-    }
-    if !all_differ(alloc, columns, indexes, text)? {
+    if !all_differ(alloc, columns, fit.rising, indexes, text)? {
         return Ok(false);
     }
     all_have_parents(alloc, tables, q, columns, constraints, text)
@@ -214,8 +214,8 @@ fn have_rows(alloc: Global, cat: &WellFormed, rows: &DataSet) -> Result<bool, Al
 /// finds no fault: the tables' texts are tried without making their rows.
 ///
 /// It says no where it can't tell: of a text that isn't UTF-8 or has a line with an escape other than null. A text is gone
-/// over once for its table and once more for each of its keys; memory is taken for one key's values at a time, and for the
-/// rows of the text, and of a parent's, while a key on several columns is tried.
+/// over once for its table, with a primary key on one column that rises, and once more for each other key; memory is taken
+/// for one key's values at a time, and for the rows of the text, and of a parent's, while a key on several columns is tried.
 ///
 /// The error is that memory ran out. See <https://www.postgresql.org/docs/16/ddl-constraints.html>.
 pub fn rows_meet(alloc: Global, cat: &WellFormed, rows: &DataSet) -> Result<bool, AllocError>

@@ -39,13 +39,15 @@ pub(crate) fn one_place(columns: &TableColumns<'_>, names: &[Name]) -> Option<us
 fn names_differ(
     alloc: Global,
     columns: &TableColumns<'_>,
+    rising: Option<usize>,
     names: &[Name],
     text: &[u8],
 ) -> Result<bool, AllocError>
+    requires { IfSome rising (λ place. none_again [] (line_keys columns.now place text.now) ≡ true) }
     ensures { IfOk result (λ differ. IsTrue differ → repeated columns.now names.now (rows_held text.now) ≡ None) }
 {
     match one_place(columns, names) {
-        Some(place) => keys_apart(alloc, columns, place, text),
+        Some(place) => keys_apart(alloc, columns, rising, place, text),
         None => rows_differ(alloc, columns, names, text),
     }
 }
@@ -67,15 +69,26 @@ fn rows_differ(
     }
 }
 
-// Whether no two lines have one key in the column at a place: mostly since the keys rise.
+fn is_place(found: Option<usize>, place: usize) -> bool
+    ensures { IsTrue result → found ≡ Some place }
+{
+    found == Some(place)
+}
+
+// Whether no two lines have one key in the column at a place: mostly since the keys rise, as they may be known to.
 fn keys_apart(
     alloc: Global,
     columns: &TableColumns<'_>,
+    rising: Option<usize>,
     place: usize,
     text: &[u8],
 ) -> Result<bool, AllocError>
+    requires { IfSome rising (λ place. none_again [] (line_keys columns.now place text.now) ≡ true) }
     ensures { IfOk result (λ apart. IsTrue apart → none_again [] (line_keys columns.now place text.now) ≡ true) }
 {
+    if is_place(rising, place) {
+        return Ok(true);
+    }
     if keys_rise(alloc, columns, place, text)? {
         return Ok(true);
     }
@@ -149,31 +162,35 @@ fn unique_columns(
 fn entry_differs(
     alloc: Global,
     columns: &TableColumns<'_>,
+    rising: Option<usize>,
     key: &Key,
     value: &Value,
     text: &[u8],
 ) -> Result<bool, AllocError>
+    requires { IfSome rising (λ place. none_again [] (line_keys columns.now place text.now) ≡ true) }
     ensures { IfOk result (λ differ. IsTrue differ → (u : Unique) → unique_in (key.now, value.now) ≡ Some u → Differ columns.now text.now u) }
 {
     match unique_columns(alloc, key, value)? {
-        Some(names) => names_differ(alloc, columns, names.as_slice(), text),
+        Some(names) => names_differ(alloc, columns, rising, names.as_slice(), text),
         None => Ok(true),
     }
 }
 
-/// Whether no two rows of a text have one key, for each of these entries that keeps rows apart. The error is that memory
-/// ran out.
+/// Whether no two rows of a text have one key, for each of these entries that keeps rows apart. In the column at the place
+/// `rising`, if there is one, no two lines have one key. The error is that memory ran out.
 pub(crate) fn all_differ(
     alloc: Global,
     columns: &TableColumns<'_>,
+    rising: Option<usize>,
     entries: &[(&Key, &Value)],
     text: &[u8],
 ) -> Result<bool, AllocError>
+    requires { IfSome rising (λ place. none_again [] (line_keys columns.now place text.now) ≡ true) }
     ensures { IfOk result (λ differ. IsTrue differ → AllByRecursion (Differ columns.now text.now) (filter_map unique_in (map (deref_pair {K = TheKey} {X = TheValue}) entries.now))) }
 {
     for i in 0..entries.len() {
         let (key, value) = entries[i];
-        if !entry_differs(alloc, columns, key, value, text)? {
+        if !entry_differs(alloc, columns, rising, key, value, text)? {
             return Ok(false);
         }
     }

@@ -18,9 +18,9 @@ returns c =
     IfOk-weaker c.all_have_parents.result _ _ (λ meet parents yes there constraints indexes. record {
       columns = columns;
       table = there;
-      lines = subst (λ (primary : List Bytes). AllByRecursion (LineFits columns primary) (data_lines text)) (c.primary_columns.ensures ∙ ap primary_columns constraints) (c.in_ok-rows_fit.ensures c.if-not-branch.false);
-      unique = subst (λ (es : List (Key × Value)). AllByRecursion (Differ columns text) (filter_map unique_in es)) constraints (c.in_ok-all_differ.ensures c.if-not-branch-2.false);
-      distinct = subst (λ (es : List (Key × Value)). AllByRecursion (Differ columns text) (filter_map unique_in es)) indexes (c.in_ok-all_differ-2.ensures c.if-not-branch-3.false);
+      lines = subst (λ (primary : List Bytes). AllByRecursion (LineFits columns primary) (data_lines text)) (c.primary_columns.ensures ∙ ap primary_columns constraints) (rw c.in-Some.is at c.in_ok-fit.ensures.fit);
+      unique = subst (λ (es : List (Key × Value)). AllByRecursion (Differ columns text) (filter_map unique_in es)) constraints (c.in_ok-all_differ.ensures c.if-not-branch.false);
+      distinct = subst (λ (es : List (Key × Value)). AllByRecursion (Differ columns text) (filter_map unique_in es)) indexes (c.in_ok-all_differ-2.ensures c.if-not-branch-2.false);
       parents = subst (λ (es : List (Key × Value)). AllByRecursion (HasParents tables.named.now tables.book.now tables.rows.now c.args.q.now columns text) (filter_map foreign_in es)) constraints (parents yes);
     })
     c.all_have_parents.ensures
