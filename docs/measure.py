@@ -1,19 +1,20 @@
 #!/usr/bin/env python3
 """Measures psql, pg_catcmp, pg_dump in each format, and pg_restore, on some 200 MB of rows, beside cp -r and cmp of the same
-files.
+files; and psql, pg_dump -Fc, pg_restore -l and pg_restore -d on archives of 1,000 to 100,000 entries.
 
-    docs/measure.py PROGRAM FOLDER
+    docs/measure.py PROGRAM FOLDER [rows|entries]
 
 PROGRAM is the built program (or ./pgtools), FOLDER a folder for what is made, with 3 GB of room. Each line tells the
-seconds on the clock, the processor seconds and the most memory in MB of one run; each command is run three times.
+seconds on the clock, the processor seconds and the most memory in MB of one run; each command is run three times, but
+those on entries once.
 """
 import os
-import resource
 import shutil
 import subprocess
 import sys
 import time
 
+EMPTY = os.path.join(os.path.dirname(os.path.abspath(__file__)), "..", "examples", "empty")
 ROWS = 2_000_000
 
 
@@ -34,12 +35,19 @@ def script(path):
         out.write("ALTER TABLE ONLY public.b\n    ADD CONSTRAINT b_a_fkey FOREIGN KEY (a) REFERENCES public.a(id);\n")
 
 
+def tables(path, count):
+    """Tables without rows: each is an entry of an archive, and its rows another."""
+    with open(path, "w") as out:
+        for i in range(count // 2):
+            out.write(f"CREATE TABLE public.t{i} (\n    id integer NOT NULL,\n    name text\n);\n")
+
+
 def size(folder):
     return sum(os.path.getsize(os.path.join(at, f)) for at, _, fs in os.walk(folder) for f in fs)
 
 
-def run(label, words, prepare=None, out=None):
-    for _ in range(3):
+def run(label, words, prepare=None, out=None, times=3):
+    for _ in range(times):
         if prepare:
             prepare()
         pid = os.fork()
@@ -53,8 +61,23 @@ def run(label, words, prepare=None, out=None):
         print(f"{label}: {time.time() - start:.2f} s, {spent:.2f} s, {usage.ru_maxrss / 1024:.0f} MB, status {os.waitstatus_to_exitcode(status)}", flush=True)
 
 
-def main(program, folder):
-    empty = os.path.join(os.path.dirname(os.path.abspath(__file__)), "..", "examples", "empty")
+def entries(program, folder):
+    at = {name: os.path.join(folder, name) for name in ("tables.sql", "tables", "tables.dump", "tables.back")}
+    os.makedirs(folder, exist_ok=True)
+    for count in (1_000, 10_000, 100_000):
+        for name in ("tables", "tables.back"):
+            shutil.rmtree(at[name], ignore_errors=True)
+            shutil.copytree(EMPTY, at[name])
+        tables(at["tables.sql"], count)
+        print(f"{count} entries")
+        run("psql", [program, "psql", "-d", at["tables"], "-f", at["tables.sql"]], times=1)
+        run("pg_dump -Fc", [program, "pg_dump", "-Fc", "-f", at["tables.dump"], at["tables"]], times=1)
+        run("pg_restore -l", [program, "pg_restore", "-l", at["tables.dump"]], out=os.path.join(folder, "tables.list"), times=1)
+        run("pg_restore -d", [program, "pg_restore", "-d", at["tables.back"], at["tables.dump"]], times=1)
+        run("pg_catcmp", [program, "pg_catcmp", at["tables"], at["tables.back"]], times=1)
+
+
+def rows(program, folder):
     at = {name: os.path.join(folder, name) for name in ("script.sql", "made", "copy", "back")}
     os.makedirs(folder, exist_ok=True)
     script(at["script.sql"])
@@ -64,7 +87,7 @@ def main(program, folder):
 
     def opening(name="made"):
         fresh(name)
-        shutil.copytree(empty, at[name])
+        shutil.copytree(EMPTY, at[name])
 
     print(f"script: {os.path.getsize(at['script.sql'])} bytes")
     run("psql", [program, "psql", "-d", at["made"], "-f", at["script.sql"]], opening)
@@ -82,4 +105,11 @@ def main(program, folder):
     run("cmp", ["sh", "-c", f"for f in {at['made']}/data/*; do cmp $f {at['copy']}/data/$(basename $f); done"])
 
 
-main(sys.argv[1], sys.argv[2])
+def main(program, folder, what=None):
+    if what != "entries":
+        rows(program, folder)
+    if what != "rows":
+        entries(program, folder)
+
+
+main(*sys.argv[1:])
