@@ -1,3 +1,4 @@
 pub mod Trims
 pub mod Lengths
 pub mod Lookups
+mod FewDigits

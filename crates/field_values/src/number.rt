@@ -1,5 +1,5 @@
 //! Numbers in decimals.
-ghost use Rattle.std.specs.Prelude.{◌≡◌, ◌<◌, ◌&&◌, min, nat_lt, nat_le};
+ghost use Rattle.std.specs.Prelude.{◌≡◌, ◌<◌, ◌&&◌, true, IsTrue, min, nat_lt, nat_le};
 ghost use Rattle.std.specs.List.{list_all};
 ghost use Rattle.cat_model.specs.FieldTypes.{is_digit, is_plain, is_number, number_of};
 ghost use Rattle.field_values.specs.Seen.{longest};
@@ -41,12 +41,20 @@ fn is_plain(digits: &[u8]) -> bool
     }
 }
 
+// Whether a plain decimal has so few digits that it is at most `high`.
+#[tactic(auto, using(crate::proofs::FewDigits::few_digits))]
+fn is_few(text: &[u8], high: u64) -> bool
+    ensures { IsTrue result → is_plain text.now ≡ true → nat_le (number_of text.now) high ≡ true }
+{
+    text.len() <= 9 && 999_999_999 <= high
+}
+
 // A plain decimal up to `high`.
 fn is_positive(text: &[u8], high: u64) -> bool
     requires { high < longest }
     ensures { result ≡ (is_plain text.now && nat_le (number_of text.now) high) }
 {
-    is_plain(text) && number(text) <= high
+    is_plain(text) && (is_few(text, high) || number(text) <= high)
 }
 
 // A plain decimal from 1 to `low`.
