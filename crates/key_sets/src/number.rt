@@ -1,5 +1,5 @@
 //! Keys that are digits, as numbers.
-ghost use Rattle.std.specs.Prelude.{◌≡◌, ◌<◌, MatchOption, min, true, false};
+ghost use Rattle.std.specs.Prelude.{◌≡◌, ◌+◌, ◌-◌, ◌*◌, ◌<◌, MatchOption, min, true, false};
 ghost use Rattle.std.specs.List.{list_all};
 ghost use Rattle.key_sets.specs.Numbers.{is_digit, is_numbered, longest, number_of};
 
@@ -15,15 +15,25 @@ fn are_digits(key: &[u8]) -> bool
     key.iter().all(|b| is_digit(*b))
 }
 
+// A number with one digit more, or the greatest that fits where it is greater.
+fn with_digit(n: usize, digit: u8) -> usize
+    ensures { result ≡ min (n * 10 + (digit - 48)) longest }
+{
+    let value = usize::from(digit.saturating_sub(b'0'));
+    if n <= 1_000_000_000_000_000_000 {
+        n * 10 + value
+    } else {
+        n.saturating_mul(10).saturating_add(value)
+    }
+}
+
 // The number of a key of digits, or the greatest that fits where it is greater.
 fn number(key: &[u8]) -> usize
     ensures { result ≡ min (number_of key.now) longest }
 {
     let mut n = 1usize;
     for digit in key {
-        n = n
-            .saturating_mul(10)
-            .saturating_add(usize::from(digit.saturating_sub(b'0')));
+        n = with_digit(n, *digit);
     }
     n
 }
