@@ -44,9 +44,12 @@ fn refuse(
     }
 }
 
-/// Carries a statement out. Where it is refused its cause becomes a note, or is added to those that end the entry.
+/// Carries a statement of an entry out. Where it is refused the catalogue stays, and its cause becomes a note of the entry
+/// with this dump id, for a statement that gives an owner, or is added to `refused`, whose first cause ends the entry.
+///
+/// The only error is want of memory; it may come before or behind what the statement does.
 #[tactic(auto, using(crate::proofs::Runs::taken_next, crate::proofs::Runs::taken_noted, crate::proofs::Runs::taken_ending, crate::proofs::Runs::refused_is))]
-pub(crate) fn run_statement(
+pub fn run_statement(
     engine: &mut Engine,
     id: u32,
     step: &Step,
