@@ -64,3 +64,20 @@ formed_with cat = well_formed (catalogue_fault cat) >>= λ formed. Ok cat
 -- the catalogue that a folder holds: its tables are read, and fit together
 unfoldable pub formed_of : Bytes → Tree → Result Catalogue Outcome
 formed_of folder tree = told (catalogue_of folder tree) >>= λ tables. formed_with (catalogue_with tables)
+
+-- the catalogue and the texts that a folder holds, of which it isn't told yet whether they are rows: the steps of an export
+-- but the last one
+unfoldable pub texts_with : Bytes → ℕ → Catalogue → Tree → Result Exported Outcome
+texts_with folder used cat tree = do
+  formed ← well_formed (catalogue_fault cat)
+  rows ← told (data_of folder used cat tree)
+  Ok (record { cat = cat; rows = rows })
+
+unfoldable pub texts_of : Bytes → Tree → Result Exported Outcome
+texts_of folder tree = do
+  tables ← told (catalogue_of folder tree)
+  texts_with folder (bytes_of folder tree) (catalogue_with tables) tree
+
+-- and the last one: the texts hold rows of their tables
+abbrev pub held : Exported → Result Exported Outcome
+held texts = have_rows (values_fault texts.cat texts.rows) >>= λ done. Ok texts

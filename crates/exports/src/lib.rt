@@ -4,4 +4,4 @@
 pub mod laws;
 mod reading;
 
-pub use reading::{Export, read_export, read_formed};
+pub use reading::{Export, FolderTexts, read_export, read_formed, read_texts};

@@ -4,7 +4,7 @@ ghost use Rattle.dump_ports.specs.Tree.{Tree};
 ghost use Rattle.table_rows.specs.Values.{values_fault};
 ghost use Rattle.folder_io.specs.Folders.{bytes_of};
 ghost use Rattle.tool_words.specs.Answers.{Gives, CountsRead};
-ghost use Rattle.exports.specs.Exports.{formed_with, formed_of, export_with, export_of};
+ghost use Rattle.exports.specs.Exports.{formed_with, formed_of, texts_with, texts_of, held, export_of};
 
 use cat_names::DataSet;
 use cat_rows::Catalogue;
@@ -86,15 +86,65 @@ fn check_formed(alloc: Global, cat: Catalogue) -> Result<WellFormed, Outcome>
     Ok(WellFormed::check(alloc, cat)?)
 }
 
-/// Reads an export folder. The first step that refuses is the answer: the marker and the tables of the catalogue are
-/// read; the catalogue is well-formed; the data files of its tables are read, by rising oid; and each of their texts
-/// holds rows of its table, in the same order.
+/// What an export folder holds, of which it isn't told yet whether the texts hold rows of the tables: a catalogue that is
+/// well-formed, and the text of each table's data file. A contract sees the record of both.
+#[derive(Drop)]
+pub struct FolderTexts {
+    cat: WellFormed,
+    rows: DataSet,
+}
+
+impl Model for FolderTexts {
+    ghost use Rattle.std.specs.Coded.{codes};
+    ghost use Rattle.exports.specs.Exports.{Exported, texts_code};
+
+    ghost Value = { Exported };
+
+    ghost coded = { Prim.hlevel (codes, texts_code) };
+
+    ghost view = { λ t. record { cat = t.cat; rows = t.rows } };
+}
+
+impl FolderTexts {
+    /// The catalogue.
+    pub fn catalogue(&self) -> &WellFormed
+        ensures { result.now ≡ self.now.cat }
+    {
+        &self.cat
+    }
+
+    /// The texts of the tables' data files. Each table has one.
+    pub fn texts(&self) -> &DataSet
+        ensures { result.now ≡ self.now.rows }
+    {
+        &self.rows
+    }
+
+    /// The export, where each of the texts holds rows of its table, by rising oid; else `BadExport` at the first that doesn't.
+    /// `Memory` may come for any texts.
+    pub fn into_export(self, alloc: Global) -> Result<Export, Outcome>
+        ensures due { Gives (λ export. export) result (held self) }
+        ensures count { (n : ℕ) → CountsRead result n n }
+    {
+        let FolderTexts { cat, rows } = self;
+        check_values(alloc, cat.rows(), &rows)?;
+        Ok(Export { cat, rows })
+    }
+}
+
+/// Reads an export folder but for telling whether its texts hold rows. The first step that refuses is the answer: the marker
+/// and the tables of the catalogue are read; the catalogue is well-formed; the data files of its tables are read, by rising
+/// oid.
 ///
 /// `Missing`, `BadExport`, `OutOfProfile` and `TooLarge` are told as these steps meet them. `ReadFault` comes exactly
 /// where a call of the files failed, and `Memory` may come for any folder.
-#[tactic(auto, unfolding(crate::specs::Exports::export_of))]
-pub fn read_export<F: Files>(alloc: Global, files: &mut F, folder: &Text) -> Result<Export, Outcome>
-    ensures due { (tree : Tree) → F.tree files.old ≡ Some tree → Gives (λ export. export) result (export_of folder.now tree) }
+#[tactic(auto, unfolding(crate::specs::Exports::texts_of))]
+pub fn read_texts<F: Files>(
+    alloc: Global,
+    files: &mut F,
+    folder: &Text,
+) -> Result<FolderTexts, Outcome>
+    ensures due { (tree : Tree) → F.tree files.old ≡ Some tree → Gives (λ texts. texts) result (texts_of folder.now tree) }
     ensures kept { F.tree files.new ≡ F.tree files.old }
     ensures read_count { CountsRead result (F.read_faults files.old) (F.read_faults files.new) }
     ensures write_count { F.write_faults files.new ≡ F.write_faults files.old }
@@ -104,21 +154,36 @@ pub fn read_export<F: Files>(alloc: Global, files: &mut F, folder: &Text) -> Res
 }
 
 /// What stands behind the tables of the catalogue, whose files have so many bytes.
-#[tactic(auto, unfolding(crate::specs::Exports::export_with))]
+#[tactic(auto, unfolding(crate::specs::Exports::texts_with))]
 fn read_behind<F: Files>(
     alloc: Global,
     files: &mut F,
     folder: &Text,
     cat: Catalogue,
     bytes: u64,
-) -> Result<Export, Outcome>
-    ensures due { (tree : Tree) → F.tree files.old ≡ Some tree → Gives (λ export. export) result (export_with folder.now bytes cat tree) }
+) -> Result<FolderTexts, Outcome>
+    ensures due { (tree : Tree) → F.tree files.old ≡ Some tree → Gives (λ texts. texts) result (texts_with folder.now bytes cat tree) }
     ensures kept { F.tree files.new ≡ F.tree files.old }
     ensures read_count { CountsRead result (F.read_faults files.old) (F.read_faults files.new) }
     ensures write_count { F.write_faults files.new ≡ F.write_faults files.old }
 {
     let cat = WellFormed::check(alloc, cat)?;
     let rows = read_rows(alloc, files, folder, cat.rows(), bytes)?;
-    check_values(alloc, cat.rows(), &rows)?;
-    Ok(Export { cat, rows })
+    Ok(FolderTexts { cat, rows })
+}
+
+/// Reads an export folder. The first step that refuses is the answer: the marker and the tables of the catalogue are
+/// read; the catalogue is well-formed; the data files of its tables are read, by rising oid; and each of their texts
+/// holds rows of its table, in the same order.
+///
+/// `Missing`, `BadExport`, `OutOfProfile` and `TooLarge` are told as these steps meet them. `ReadFault` comes exactly
+/// where a call of the files failed, and `Memory` may come for any folder.
+pub fn read_export<F: Files>(alloc: Global, files: &mut F, folder: &Text) -> Result<Export, Outcome>
+    ensures due { (tree : Tree) → F.tree files.old ≡ Some tree → Gives (λ export. export) result (export_of folder.now tree) }
+    ensures kept { F.tree files.new ≡ F.tree files.old }
+    ensures read_count { CountsRead result (F.read_faults files.old) (F.read_faults files.new) }
+    ensures write_count { F.write_faults files.new ≡ F.write_faults files.old }
+{
+    let texts = read_texts(alloc, files, folder)?;
+    texts.into_export(alloc)
 }

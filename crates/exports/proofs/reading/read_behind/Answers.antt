@@ -1,6 +1,6 @@
 use Rattle.std.proofs.Common.{◌∙◌}
 use Rattle.std.proofs.lemmas.Result.{err_from_is_err_and}
-use Rattle.exports.proofs.Steps.{rows_due, values_due, told_count}
+use Rattle.exports.proofs.Steps.{rows_due, told_count}
 use Rattle.exports.proofs.reading.read_behind.Goals as goal
 
 pub returns-in_err-rows-clause-due : goal.returns-in_err-rows-clause-due
@@ -13,10 +13,3 @@ pub returns-in_err-rows-clause-read_count : goal.returns-in_err-rows-clause-read
 returns-in_err-rows-clause-read_count g c =
     let p = err_from_is_err_and c.from_residual-in_err-rows.result c.from_residual-in_err-rows.ensures.1 in
     rw (p.1, p.2) (told_count _ _ _ c.in_err-rows.ensures.read_count)
-
-pub returns-in_err-check_values-clause-due : goal.returns-in_err-check_values-clause-due
-returns-in_err-check_values-clause-due g c = λ tree told.
-    let p = err_from_is_err_and c.from_residual-in_err-check_values.result c.from_residual-in_err-check_values.ensures.1 in
-    let cat = c.rows.ensures ∙ c.in_ok-cat.ensures.same in
-    let seen = c.rows-2.ensures ∙ c.in_ok-cat.ensures.same in
-    rw (p.1, p.2) (values_due c.args.folder.now c.args.bytes c.args.cat tree c.in_ok-rows.rows _ c.in_ok-cat.ensures.fault (rw cat at (c.in_ok-rows.ensures.due tree told)) (rw seen at c.in_err-check_values.ensures))
