@@ -1,0 +1,18 @@
+-- Where the entries are in order, the rows so far are those of the entries so far.
+use Rattle.std.proofs.Common.{map, take}
+use Rattle.std.specs.List.{AllByRecursion, flat_map}
+use Rattle.std.specs.Map.Iter.{deref_pair}
+use Rattle.cat_model.specs.declared.key.Key.{Key}
+use Rattle.cat_model.specs.declared.value.Value.{Value}
+use Rattle.cat_sound.specs.Itself.{Itself}
+use Rattle.map_export.specs.Making.{AreSaid}
+use Rattle.named_objects.specs.Relations.{IsColumnRow}
+use Rattle.sound_texts.specs.Grammar.{grammar}
+use Rattle.object_loops.specs.Oids.{with_numbers}
+use Rattle.object_export.specs.Parts.{columns_in}
+use Rattle.object_loops.proofs.columns.column_rows.Given as goal
+
+abbrev pub invariant-loop-i : goal.invariant-loop-i
+invariant-loop-i l =
+    AllByRecursion (λ e. Itself grammar e.0 e.1) (map (deref_pair {K = Key} {X = Value}) l.entries)
+    → AreSaid (IsColumnRow (with_numbers l.ids l.numbers)) (flat_map columns_in (map (deref_pair {K = Key} {X = Value}) (take l.i l.entries))) l.rows

@@ -1,0 +1,14 @@
+use Rattle.cat_names.specs.Naming.{Entry}
+use Rattle.cat_sound.specs.Itself.{Itself}
+use Rattle.sound_texts.specs.Grammar.{grammar}
+use Rattle.named_objects.specs.Relations.{IsIndexRow}
+use Rattle.entry_ids.specs.Ids.{of_keys}
+use Rattle.object_export.specs.Parts.{index_in}
+use Rattle.cluster_loops.proofs.EntryLoops.{one_more, read_good}
+use Rattle.object_loops.proofs.indexes.index_rows.Goals as goal
+
+pub loop-i-preserved : goal.loop-i-preserved
+loop-i-preserved c = λ all.
+    one_more (IsIndexRow (of_keys c.args.ids.now)) c.args.entries.now c.loop-i.i c.index-entries-i.result c.index-entries-i-in-loop-i.result c.loop-i.rows c.push_some.new.rows c.loop-i-test.true c.index-entries-i.is index_in c.in_ok-entry_row.field-0 (c.loop-i.invariant all)
+    (c.in_ok-entry_row.ensures (read_good (λ (e : Entry). Itself grammar e.0 e.1) c.args.entries.now c.loop-i.i c.index-entries-i.result c.index-entries-i-in-loop-i.result c.loop-i-test.true c.index-entries-i.is all))
+    c.in_ok-push_some.ensures
