@@ -1,8 +1,9 @@
 -- A table that takes the rows of a text, said of the text's lines and of the texts of the other tables.
-use Rattle.std.specs.Prelude.{◌≡◌, ℕ, List, [], Option, Some, None, if◌then◌else◌}
+use Rattle.std.specs.Prelude.{◌≡◌, ℕ, true, List, [], Option, Some, None, if◌then◌else◌}
 use Rattle.std.specs.FinMap.{entries, get}
 use Rattle.std.specs.List.{AllByRecursion, filter_map}
 use Rattle.std.specs.Option.{option_map}
+use Rattle.std.specs.Result.{is_ok}
 use Rattle.copy_text.specs.Lines.{data_lines}
 use Rattle.cat_rows.specs.declared.catalogue.Catalogue.{Catalogue}
 use Rattle.cat_model.specs.declared.class.Class.TheVariants as class
@@ -20,6 +21,8 @@ use Rattle.cat_model.specs.Tables.{orphan, repeated}
 use Rattle.cat_model.specs.Trees.{class_of, same_path}
 use Rattle.cat_names.specs.DataSets.{TextsByOid}
 use Rattle.cat_book.specs.Paths.{class_path_of}
+use Rattle.data_rows.specs.Rows.{rows_of}
+use Rattle.table_rows.specs.Tables.{column_count}
 use Rattle.table_rows.specs.Values.{text_of}
 use Rattle.rows_named.specs.Tables.{first_table}
 use Rattle.plain_rows.specs.Lines.{LineFits}
@@ -73,3 +76,11 @@ MeetsAt named cat texts table (Some q) = Meets named cat texts q (text_of texts 
 -- the table of an oid takes the rows of its text, if it has a path
 abbrev pub TableMeets : Named → Catalogue → TextsByOid → ℕ → Type 0
 TableMeets named cat texts table = MeetsAt named cat texts table (class_path_of cat table)
+
+-- the text of the table of an oid holds rows of it
+abbrev pub HasRows : Catalogue → TextsByOid → ℕ → Type 0
+HasRows cat texts table = is_ok (rows_of (column_count cat table) (text_of texts table)) ≡ true
+
+-- the same, and the table takes them
+abbrev pub TableTakes : Named → Catalogue → TextsByOid → ℕ → Type 0
+TableTakes named cat texts table = TableMeets named cat texts table × HasRows cat texts table

@@ -1,5 +1,5 @@
 //! Tables that take the rows of their texts.
-ghost use Rattle.std.specs.Prelude.{◌≡◌, None, Some, map, IfOk, IfSome, IsTrue};
+ghost use Rattle.std.specs.Prelude.{◌≡◌, List, None, Some, length, map, IfOk, IfSome, IsTrue};
 ghost use Rattle.std.specs.FinMap.{get};
 ghost use Rattle.std.specs.List.{AllByRecursion};
 ghost use Rattle.std.specs.Map.Iter.{deref_pair};
@@ -8,6 +8,7 @@ ghost use Rattle.cat_rows.specs.declared.catalogue.Catalogue.{Catalogue as TheCa
 ghost use Rattle.cat_names.specs.DataSets.{TextsByOid};
 ghost use Rattle.cat_model.specs.declared.key.Key.{Key as TheKey};
 ghost use Rattle.cat_model.specs.declared.key.Key.TheVariants as key;
+ghost use Rattle.cat_model.specs.declared.value.Column.{Column as TheColumn};
 ghost use Rattle.cat_model.specs.declared.value.Value.{Value as TheValue};
 ghost use Rattle.cat_model.specs.declared.value.Value.TheVariants as value;
 ghost use Rattle.cat_model.specs.CopyEffect.{primary_columns};
@@ -18,7 +19,7 @@ ghost use Rattle.cat_naming.specs.Relations.{RowsByOid};
 ghost use Rattle.cat_load.specs.Loads.{rows_fault};
 ghost use Rattle.copy_effects.specs.Keys.{primary_in};
 ghost use Rattle.table_rows.specs.Values.{values_fault};
-ghost use Rattle.plain_loads.specs.Meeting.{Meets, TableMeets, constraints_of, indexes_of};
+ghost use Rattle.plain_loads.specs.Meeting.{Meets, TableTakes, constraints_of, indexes_of};
 
 use crate::foreigns::{Tables, all_have_parents};
 use crate::lines::find_fitting;
@@ -159,18 +160,31 @@ fn path_meets(
     }
 }
 
-// Whether the table of an oid takes the rows of its text.
-fn table_meets(alloc: Global, tables: &Tables<'_, '_>, table: u32) -> Result<bool, AllocError>
-    ensures { IfOk result (λ meets. IsTrue meets → TableMeets tables.now.named.now tables.now.book.now tables.now.rows.now table) }
+// Whether a table has this many columns.
+fn has_columns(named: &NamedMap, q: &QName, many: usize) -> Result<bool, AllocError>
+    ensures { IfOk result (λ has. IsTrue has → (columns : List TheColumn) → get named.now (key.Rel q.now) ≡ Some (value.Table columns) → length columns ≡ many) }
 {
-    match tables.book.class_path_of(table)? {
-        Some(q) => path_meets(alloc, tables, &q, text_of(tables.rows, table)),
-        None => Ok(true),
+    match table_columns(named, q)? {
+        Some(columns) => Ok(columns.len() == many),
+        None => Ok(false),
     }
 }
 
+// Whether the table of an oid takes the rows of its text, which are rows of it.
+fn table_meets(alloc: Global, tables: &Tables<'_, '_>, table: u32) -> Result<bool, AllocError>
+    ensures { IfOk result (λ meets. IsTrue meets → TableTakes tables.now.named.now tables.now.book.now tables.now.rows.now table) }
+{
+    let Some(q) = tables.book.class_path_of(table)? else {
+        return Ok(false);
+    };
+    if !has_columns(tables.named, &q, tables.book.column_count(table))? {
+        return Ok(false);
+    }
+    path_meets(alloc, tables, &q, text_of(tables.rows, table))
+}
+
 fn tables_meet(alloc: Global, tables: &Tables<'_, '_>, oids: &[u32]) -> Result<bool, AllocError>
-    ensures { IfOk result (λ meet. IsTrue meet → AllByRecursion (TableMeets tables.now.named.now tables.now.book.now tables.now.rows.now) oids.now) }
+    ensures { IfOk result (λ meet. IsTrue meet → AllByRecursion (TableTakes tables.now.named.now tables.now.book.now tables.now.rows.now) oids.now) }
 {
     for i in 0..oids.len() {
         if !table_meets(alloc, tables, oids[i])? {
@@ -187,7 +201,8 @@ fn named_meets(
     cat: &WellFormed,
     rows: &DataSet,
 ) -> Result<bool, AllocError>
-    ensures { IfOk result (λ meets. IsTrue meets → (other : RowsByOid) → named.now ≡ catalogue_named cat.now other → rows_fault cat.now rows.now ≡ None) }
+    ensures hold { IfOk result (λ meets. IsTrue meets → values_fault cat.now rows.now ≡ None) }
+    ensures meet { IfOk result (λ meets. IsTrue meets → (other : RowsByOid) → named.now ≡ catalogue_named cat.now other → rows_fault cat.now rows.now ≡ None) }
 {
     let book = cat.book(alloc)?;
     let oids = table_oids(alloc, cat.rows())?;
@@ -210,8 +225,8 @@ fn have_rows(alloc: Global, cat: &WellFormed, rows: &DataSet) -> Result<bool, Al
     }
 }
 
-/// Whether the rows of each table meet it, its columns, their types, its keys and its foreign keys, so that `cat_load::load`
-/// finds no fault: the tables' texts are tried without making their rows.
+/// Whether the text of each table holds rows of it, which meet its columns, their types, its keys and its foreign keys, so that
+/// neither `table_rows::check_values` nor `cat_load::load` finds a fault: the texts are tried without making their rows.
 ///
 /// It says no where it can't tell: of a text that isn't UTF-8 or has a line with an escape other than null. A text is gone
 /// over once for its table, with a primary key on one column that rises, and once more for each other key; memory is taken
@@ -219,7 +234,8 @@ fn have_rows(alloc: Global, cat: &WellFormed, rows: &DataSet) -> Result<bool, Al
 ///
 /// The error is that memory ran out. See <https://www.postgresql.org/docs/16/ddl-constraints.html>.
 pub fn rows_meet(alloc: Global, cat: &WellFormed, rows: &DataSet) -> Result<bool, AllocError>
-    ensures { IfOk result (λ meet. IsTrue meet → rows_fault cat.now rows.now ≡ None) }
+    ensures hold { IfOk result (λ meet. IsTrue meet → values_fault cat.now rows.now ≡ None) }
+    ensures meet { IfOk result (λ meet. IsTrue meet → rows_fault cat.now rows.now ≡ None) }
 {
     let none = DataSet::new(alloc);
     if !have_rows(alloc, cat, &none)? {
