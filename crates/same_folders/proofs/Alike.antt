@@ -1,4 +1,5 @@
 -- Folders that hold the same texts have one opening.
+use Rattle.std.specs.Prelude.{IfOk}
 use Rattle.std.proofs.Common.{◌≡◌, ℕ, List, Option, Some, None, Result, Ok, Err, refl, sym, ap, ◌∙◌}
 use Rattle.dump_ports.specs.Tree.{Tree}
 use Rattle.cat_model.specs.Values.{Bytes}
@@ -7,13 +8,15 @@ use Rattle.cat_rows.specs.declared.catalogue.Catalogue.{Catalogue}
 use Rattle.folder_io.specs.declared.fault.FolderFault.{FolderFault}
 use Rattle.folder_io.specs.Folders.{bytes_of, catalogue_of}
 use Rattle.folder_rows.specs.Reading.{data_of}
+use Rattle.table_rows.specs.declared.fault.ValuesFault.{ValuesFault}
+use Rattle.table_rows.specs.Values.{values_fault}
 use Rattle.cat_load.specs.declared.meeting.LoadFault.{LoadFault}
 use Rattle.cat_load.specs.Loads.{rows_fault}
 use Rattle.tool_words.specs.declared.outcome.Outcome.{Outcome}
 use Rattle.tool_words.specs.Answers.{◌>>=◌}
 use Rattle.exports.specs.Cells.{catalogue_with}
-use Rattle.exports.specs.Exports.{Exported, told, export_with, export_of}
-use Rattle.exports.proofs.Steps.{export_read}
+use Rattle.exports.specs.Exports.{Exported, told, have_rows, texts_of, export_with, export_of}
+use Rattle.exports.proofs.Steps.{export_read, texts_held}
 use Rattle.exports.proofs.Wholes.{whole}
 use Rattle.openings.specs.Openings.{meet, opened, opened_folder}
 
@@ -66,3 +69,12 @@ pub opened_one : (folder : Bytes) (tree : Tree) (export : Exported) → rows_fau
 unfolding opened_folder
 opened_one folder tree export none read =
     ap (λ (r : Result Exported Outcome). r >>= opened) read ∙ ap (λ (found : Option LoadFault). meet found >>= λ done. Ok export) none
+
+-- texts that hold rows are an export
+pub held_export : (folder : Bytes) (tree : Tree) (texts : Exported) → values_fault texts.cat texts.rows ≡ None → texts_of folder tree ≡ Ok texts → export_of folder tree ≡ Ok texts
+held_export folder tree texts none read =
+    texts_held folder tree texts read ∙ ap (λ (found : Option ValuesFault). have_rows found >>= λ done. Ok texts) none
+
+pub both_ok : {X E : Type 0} (r : Result X E) (P Q R : X → Type 0) → ((x : X) → P x → Q x → R x) → IfOk r P → IfOk r Q → IfOk r R
+both_ok (Ok x) P Q R f p q = f x p q
+both_ok (Err e) P Q R f p q = tt

@@ -1,4 +1,4 @@
-use Rattle.std.proofs.Common.{◌≡◌, subst}
+use Rattle.std.proofs.Common.{ap, ◌∙◌}
 use Rattle.std.proofs.lemmas.Result.{IfOk-weaker}
 use Rattle.exports.specs.Exports.{Exported}
 use Rattle.same_texts.specs.Alike.{HoldSame}
@@ -12,8 +12,9 @@ returns-clause-same g c =
     let first = c.args.first.now in
     let second = c.args.second.now in
     let one = c.args.one.now in
-    let is : c.export.result.now ≡ one = c.export.ensures.export in
-    let all = subst (λ (e : Exported). HoldSame first second tree e.cat e.rows) is (held same tree known) in
+    let cat = c.catalogue-cat.ensures ∙ ap (λ (e : Exported). e.cat) c.export.ensures.export in
+    let rows = c.rows.ensures.rows ∙ ap (λ (e : Exported). e.rows) c.export-2.ensures.export in
+    let all : HoldSame first second tree one.cat one.rows = rw (cat, rows) at (held same tree known) in
     opened_alike first second tree one
     (laws.catalogue first second tree one.cat one.rows all)
     (laws.bytes first second tree one.cat one.rows all)
