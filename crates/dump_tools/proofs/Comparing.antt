@@ -1,8 +1,9 @@
 -- What is due of pg_catcmp once its folders are read.
-use Rattle.std.proofs.Common.{◌≡◌, Option, Ok, ap, subst, ◌∙◌, Result, inl, inr}
+use Rattle.std.proofs.Common.{◌≡◌, Option, Ok, ap, sym, subst, ◌∙◌, Result, inl, inr}
 use Rattle.dump_ports.specs.Tree.{Tree}
 use Rattle.cat_model.specs.Values.{Bytes, Named}
-use Rattle.exports.specs.Exports.{Exported, export_of}
+use Rattle.exports.specs.Exports.{Exported, held, texts_of, export_of}
+use Rattle.exports.proofs.Steps.{texts_held}
 use Rattle.openings.specs.Openings.{opened, opened_folder, export_named}
 use Rattle.tool_words.specs.declared.outcome.Outcome.{Outcome}
 use Rattle.tool_words.specs.declared.outcome.Outcome.TheVariants.{Done, Usage, ReadFault, WriteFault, Missing, BadExport, BadScript, OutOfProfile, TooLarge, Differs, ScriptStopped, BadArchive, BadList, BadDefn, WithErrors, RestoreStopped, Loop, NoMatch, Memory}
@@ -28,6 +29,11 @@ export_unread outcome first second tree due =
 pub export_refused : (outcome : Outcome) (first second : Bytes) (tree : Tree) (export : Exported) → export_of first tree ≡ Ok export → IsDue outcome (opened export) → IsDue outcome (compare_due first second tree)
 export_refused outcome first second tree export read due =
     due_map outcome (opened export) (compare_due first second tree) (λ o e. export_read first second tree export read ∙ ap (λ (r : Result Exported Outcome). r >>= λ one. second_due one second tree) e) due
+
+-- the texts of the first folder were read, and don't hold rows
+pub texts_unheld : (outcome : Outcome) (first second : Bytes) (tree : Tree) (texts : Exported) → texts_of first tree ≡ Ok texts → IsDue outcome (held texts) → IsDue outcome (compare_due first second tree)
+texts_unheld outcome first second tree texts read due =
+    export_unread outcome first second tree (subst (λ (r : Result Exported Outcome). IsDue outcome r) (sym (texts_held first tree texts read)) due)
 
 -- the second folder was read
 pub second_read : (one : Exported) (second : Bytes) (tree : Tree) (other : Exported) → opened_folder second tree ≡ Ok other → second_due one second tree ≡ Ok (Compares (export_named one) (export_named other))

@@ -10,7 +10,7 @@ ghost use Rattle.tool_words.specs.Lines.{Appends, AppendsPart};
 ghost use Rattle.tool_words.specs.Words.{is_input, reads_input};
 ghost use Rattle.tool_words.specs.Messages.{outcome_line};
 ghost use Rattle.schema_folders.specs.Statements.{are_taken};
-ghost use Rattle.exports.specs.Exports.{export_of};
+ghost use Rattle.exports.specs.Exports.{export_of, texts_of};
 ghost use Rattle.openings.specs.Openings.{export_named, opened_folder};
 ghost use Rattle.dump_targets.specs.Targets.{IsOutside};
 ghost use Rattle.dump_tools.specs.Due.{IsFinal, dump_due, second_due, compare_due, IsUnequal, due, IsAnswerDue, WasDue, counts, NoneRose, Counted, CountsStep};
@@ -27,7 +27,7 @@ use cat_same::{Verdict, compare_maps};
 use copy_text::Text;
 use dump_ports::{Failed, Files, Gate, Moment, Sink, Source};
 use dump_targets::laws::a_dump_is_written_outside_of_its_folder;
-use exports::{Export, read_export};
+use exports::{Export, FolderTexts, read_texts};
 use openings::{Opening, open_export, read_opening};
 use same_folders::{have_one_opening, opens_alike};
 use std::alloc::{AllocError, Global};
@@ -95,12 +95,34 @@ fn pg_catcmp<F: Files>(
     ensures read_count { CountsRead result (F.read_faults files.old) (F.read_faults files.new) }
     ensures write_count { F.write_faults files.new ≡ F.write_faults files.old }
 {
-    let export = read_export(alloc, files, first)?;
+    let texts = read_texts(alloc, files, first)?;
+    compare_texts(alloc, files, first, texts, second)
+}
+
+/// Compares the second folder with the catalogue and the texts that were read of the first. Where both hold the same texts, and
+/// these are rows that meet their tables, they are the same, and no map is made of either.
+fn compare_texts<F: Files>(
+    alloc: Global,
+    files: &mut F,
+    first: &Text,
+    texts: FolderTexts,
+    second: &Text,
+) -> Result<Outcome, Outcome>
+    ensures ends { IfOk result IsFinal }
+    ensures done { IfOk result (λ answer. (tree : Tree) (printed told : Option (List ℕ)) → F.tree files.old ≡ Some tree → texts_of first.now tree ≡ Ok texts → WasDue (compare_due first.now second.now tree) answer (F.tree files.old) (F.tree files.new) printed printed told told) }
+    ensures refused { IfErr result (λ outcome. (tree : Tree) → F.tree files.old ≡ Some tree → texts_of first.now tree ≡ Ok texts → IsAnswerDue outcome (compare_due first.now second.now tree)) }
+    ensures kept { F.tree files.new ≡ F.tree files.old }
+    ensures read_count { CountsRead result (F.read_faults files.old) (F.read_faults files.new) }
+    ensures write_count { F.write_faults files.new ≡ F.write_faults files.old }
+{
+    if have_one_opening(alloc, files, first, &texts, second)? {
+        return Ok(Outcome::Done);
+    }
+    let export = texts.into_export(alloc)?;
     compare_export(alloc, files, first, export, second)
 }
 
-/// Compares the second folder with the export that was read of the first. Where both hold the same texts, and the rows meet
-/// their tables, they are the same, and no map is made of either.
+/// Compares the second folder with the export that was read of the first, whose rows have to meet their tables.
 fn compare_export<F: Files>(
     alloc: Global,
     files: &mut F,
@@ -115,9 +137,6 @@ fn compare_export<F: Files>(
     ensures read_count { CountsRead result (F.read_faults files.old) (F.read_faults files.new) }
     ensures write_count { F.write_faults files.new ≡ F.write_faults files.old }
 {
-    if have_one_opening(alloc, files, first, &export, second)? {
-        return Ok(Outcome::Done);
-    }
     let one = open_export(alloc, export)?;
     compare_with(alloc, files, first, &one, second)
 }
