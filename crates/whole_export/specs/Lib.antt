@@ -1,0 +1,3 @@
+pub mod Data
+pub mod Tables
+pub mod Made
