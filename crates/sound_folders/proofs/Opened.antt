@@ -45,7 +45,7 @@ steps cat None (Ok rows) fault export is e =
     let h = had cat rows (fault rows) export e in
     subst (λ (x : Exported). IsLoaded x.cat x.rows) h.1 (record { tables = is; rows = h.0 })
 
-is_loaded : (folder : Bytes) (tree : Tree) (export : Exported) → opened_folder folder tree ≡ Ok export → IsLoaded export.cat export.rows
+pub is_loaded : (folder : Bytes) (tree : Tree) (export : Exported) → opened_folder folder tree ≡ Ok export → IsLoaded export.cat export.rows
 unfolding opened_folder export_of export_with
 is_loaded folder tree export e = by (catalogue_of folder tree) e
   where
