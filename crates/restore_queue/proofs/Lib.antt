@@ -4,3 +4,6 @@ pub mod Meets
 pub mod Workers
 pub mod Firsts
 pub mod Turns
+pub mod Runs
+pub mod Moves
+pub mod Begun

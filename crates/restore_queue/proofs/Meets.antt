@@ -1,17 +1,17 @@
 -- Places of which the first were met, where one entry more ends.
-use Rattle.std.proofs.Common.{◌≡◌, ◌⊎◌, inl, inr, ℕ, suc, ◌+◌, ◌*◌, ◌/◌, ◌<◌, ◌≤◌, Bool, true, false, ◌&&◌, ◌||◌, ◌==◌, List, [], ◌∷◌, ◌++◌, length, take, get_or, Option, Some, None, refl, ap, sym, subst, ◌∙◌, arith}
+use Rattle.std.proofs.Common.{◌≡◌, ◌⊎◌, inl, inr, ℕ, ◌+◌, ◌/◌, ◌<◌, ◌≤◌, Bool, true, false, ◌&&◌, ◌||◌, ◌==◌, List, [], ◌∷◌, ◌++◌, length, get_or, Option, Some, refl, ap, sym, subst, ◌∙◌, arith}
 use Rattle.std.proofs.Math.ListN.{set}
 use Rattle.std.specs.Global.{Vec}
 use Rattle.std.specs.List.{slice_get}
 use Rattle.std.specs.Option.{option_map_or}
 use Rattle.std.proofs.lemmas.Bool.{cases_eq}
-use Rattle.std.proofs.lemmas.Option.{get_or_from_slice_get, slice_get_within, slice_get_past}
+use Rattle.std.proofs.lemmas.Option.{get_or_from_slice_get, slice_get_within}
 use Rattle.restore_plan.specs.Entries.{is_among}
 use Rattle.restore_core.specs.declared.phase.Phase.{Phase}
 use Rattle.restore_core.specs.Phases.{has_ended, is_waiting}
-use Rattle.restore_core.proofs.Booleans.{and_first, and_second, both_ways, same_number, number_itself}
+use Rattle.restore_core.proofs.Booleans.{and_first, and_second, both_ways, same_number}
 use Rattle.restore_queue.specs.Ready.{ended_in, waits_in, has_met, is_ready_at}
-use Rattle.restore_queue.specs.Indexed.{AllMet, AllNearly, AllPartly, AreMarked, IsMet, IsNearly, IsPartly, block}
+use Rattle.restore_queue.specs.Indexed.{AllMet, AllNearly, AllPartly, AreMarked, IsMet, IsNearly, block}
 use Rattle.restore_queue.proofs.Lists.{get-set, get-others}
 use Rattle.restore_queue.proofs.Ready.{of-places}
 

@@ -1,5 +1,5 @@
 -- What the places of those that an entry waits for say of the entries before it.
-use Rattle.std.proofs.Common.{◌≡◌, ℕ, zero, suc, ◌<◌, Bool, true, false, not, ◌&&◌, ◌||◌, ◌==◌, cond, nat_lt, List, [], ◌∷◌, map, take, Option, Some, None, option_map, refl, ap, sym, subst, ◌∙◌, arith}
+use Rattle.std.proofs.Common.{◌≡◌, ℕ, zero, suc, ◌<◌, Bool, true, false, not, ◌&&◌, ◌||◌, ◌==◌, cond, nat_lt, List, [], ◌∷◌, map, take, Option, Some, None, refl, ap, sym, subst, ◌∙◌, arith}
 use Rattle.std.specs.List.{list_any, list_all, find, filter_map, cons_option, slice_get}
 use Rattle.std.specs.Option.{option_map_or}
 use Rattle.std.proofs.lemmas.Bool.{lt-ltb, ltb-true}
@@ -8,13 +8,13 @@ use Rattle.restore_plan.specs.declared.status.EntryStatus.{EntryStatus}
 use Rattle.restore_plan.specs.Entries.{is_among}
 use Rattle.cat_model.specs.Marks.{conflict}
 use Rattle.restore_plan.specs.Order.{before, before_at, both}
-use Rattle.restore_plan.specs.Serial.{blocks, is_blocked, first_blocked}
+use Rattle.restore_plan.specs.Serial.{blocks, is_blocked}
 use Rattle.restore_core.specs.declared.phase.Phase.{Phase}
 use Rattle.restore_core.specs.declared.phase.Phase.TheVariants.{Waiting, Running, Ended}
 use Rattle.restore_core.specs.Phases.{has_ended, status_in}
 use Rattle.restore_core.specs.Machine.{Going, all_before_ended, with_status, ended_of, blocked_by}
-use Rattle.restore_core.proofs.Booleans.{and_first, and_second, and_both, or_other, or_by_first, or_by_second, both_ways, not_true, same_number, number_itself}
-use Rattle.restore_core.proofs.Pairs.{head_is, no_head}
+use Rattle.restore_core.proofs.Booleans.{and_first, and_second, and_both, or_by_first, or_by_second, both_ways, not_true, same_number, number_itself}
+use Rattle.restore_core.proofs.Pairs.{head_is}
 use Rattle.restore_queue.specs.Lined.{AreGoing}
 use Rattle.restore_queue.specs.Ready.{AreWaited, ended_in, is_blocking, blocking_in, blocks_in, first_in}
 

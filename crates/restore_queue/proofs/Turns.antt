@@ -1,5 +1,5 @@
 -- What is told of a worker's turn is its turn in the machine.
-use Rattle.std.proofs.Common.{◌≡◌, ◌⊎◌, inl, inr, ℕ, suc, ◌+◌, ◌<◌, ◌≤◌, Bool, true, false, not, ◌&&◌, ◌||◌, ◌==◌, cond, nat_lt, List, [], ◌∷◌, length, take, Option, Some, None, is_none, option_map, refl, ap, sym, subst, ◌∙◌, arith}
+use Rattle.std.proofs.Common.{◌≡◌, ◌⊎◌, inl, inr, ℕ, ◌<◌, ◌≤◌, Bool, true, false, not, ◌&&◌, ◌||◌, ◌==◌, cond, nat_lt, List, [], ◌∷◌, length, take, Option, Some, None, is_none, option_map, refl, ap, sym, subst, ◌∙◌, arith}
 use Rattle.std.specs.Global.{Vec}
 use Rattle.std.specs.List.{find, list_all, list_any, range_with_len, slice_get}
 use Rattle.std.specs.Option.{option_map_or}
@@ -11,18 +11,16 @@ use Rattle.restore_core.specs.declared.event.Event.TheVariants as event
 use Rattle.restore_core.specs.declared.phase.Phase.{Phase}
 use Rattle.restore_core.specs.declared.phase.Phase.TheVariants.{Waiting, Running, Ended}
 use Rattle.restore_core.specs.Phases.{has_ended, is_running, is_waiting}
-use Rattle.restore_core.specs.Machine.{Going, State, all_before_ended, all_ended, blocked_by, enabled, is_free, is_ready, locks_are_free, may_skip, may_start, place_of}
+use Rattle.restore_core.specs.Machine.{Going, State, all_ended, blocked_by, enabled, is_free, is_ready, may_skip, may_start, place_of}
 use Rattle.restore_core.proofs.Booleans.{both_ways, same_number}
-use Rattle.restore_turns.specs.declared.turn.Turn.{Turn}
 use Rattle.restore_turns.specs.declared.turn.Turn.TheVariants as turns
 use Rattle.restore_turns.specs.Turns.{first_to_go, may_go, turn, turn_at}
 use Rattle.restore_turns.proofs.Taking.{one-runs}
-use Rattle.restore_queue.specs.declared.choice.Choice.{Choice}
-use Rattle.restore_queue.specs.declared.choice.Choice.TheVariants.{Skip, Run, Stay}
+use Rattle.restore_queue.specs.declared.choice.Choice.TheVariants.{Stay}
 use Rattle.restore_queue.specs.Choosing.{choice_at, choice_in, chosen, first_place, goes, goes_at, next_turn, skips, skips_at, turn_by, turn_of}
 use Rattle.restore_queue.specs.Indexed.{AllMet, IsMet, Kept}
 use Rattle.restore_queue.specs.Lined.{AreGoing}
-use Rattle.restore_queue.specs.Ready.{AllWaited, ended_in, first_in, has_met, is_ready_at, waits_in}
+use Rattle.restore_queue.specs.Ready.{AllWaited, ended_in, has_met, is_ready_at}
 use Rattle.restore_queue.specs.Workers.{clash_in, entry_in, is_any}
 use Rattle.restore_queue.proofs.Lists.{get-there}
 use Rattle.restore_queue.proofs.Ready.{alike, all-at, all-by, all-ended, any-in, Member, phase-of, plan-of, same-first}

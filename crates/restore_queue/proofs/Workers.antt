@@ -1,5 +1,5 @@
 -- What the workers run says of the entries of a state.
-use Rattle.std.proofs.Common.{◌≡◌, ℕ, ◌<◌, Bool, true, false, not, ◌&&◌, ◌==◌, List, Option, Some, None, is_none, refl, ap, sym, subst, ◌∙◌}
+use Rattle.std.proofs.Common.{◌≡◌, ℕ, Bool, true, false, not, ◌&&◌, List, Option, Some, None, is_none, refl, ap, sym, ◌∙◌}
 use Rattle.std.specs.List.{list_any, slice_get}
 use Rattle.std.specs.Option.{option_map_or}
 use Rattle.restore_plan.specs.declared.planned.Planned.{Planned}
@@ -8,12 +8,12 @@ use Rattle.restore_core.specs.declared.phase.Phase.{Phase}
 use Rattle.restore_core.specs.declared.phase.Phase.TheVariants.{Waiting, Running, Ended}
 use Rattle.restore_core.specs.Phases.{is_running, is_run_by}
 use Rattle.restore_core.specs.Machine.{Going, is_free, locks_are_free, place_of}
-use Rattle.restore_core.proofs.Booleans.{and_first, and_second, and_both, both_ways, not_true, same_number, number_itself}
+use Rattle.restore_core.proofs.Booleans.{and_first, and_second, and_both, both_ways, same_number, number_itself}
 use Rattle.restore_core.proofs.Kept.{Found, found}
 use Rattle.restore_queue.specs.Lined.{AreGoing}
 use Rattle.restore_queue.specs.Indexed.{AreRunning}
 use Rattle.restore_queue.specs.Workers.{clash_in, entry_in, is_any}
-use Rattle.restore_queue.proofs.Ready.{alike, Member, any-at, any-in, mapped-at, From, from-mapped, phase-of, plan-of}
+use Rattle.restore_queue.proofs.Ready.{alike, Member, any-at, any-in, From, from-mapped, phase-of, plan-of}
 
 run-as : (worker : ℕ) (p : Phase) → is_run_by worker p ≡ true → (run : ℕ) × (p ≡ Running worker run)
 run-as worker Waiting h = absurd (both_ways false h refl)

@@ -11,7 +11,7 @@ use Rattle.restore_queue.specs.declared.choice.Choice.{Choice}
 use Rattle.restore_queue.specs.declared.choice.Choice.TheVariants.{Skip, Run, Stay}
 use Rattle.restore_queue.specs.Indexed.{block}
 use Rattle.restore_queue.specs.Ready.{first_in, is_ready_at}
-use Rattle.restore_queue.specs.Workers.{clash_in, entry_in, is_any}
+use Rattle.restore_queue.specs.Workers.{clash_in, is_any}
 
 abbrev pub goes : Choice → Bool
 goes Stay = false

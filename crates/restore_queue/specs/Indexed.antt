@@ -1,11 +1,11 @@
 -- What is kept beside a plan: the places that each entry waits for, how many of these an entry has met, which blocks of
 -- entries have one that is ready, and what each worker runs.
-use Rattle.std.specs.Prelude.{◌≡◌, ℕ, ◌+◌, ◌*◌, ◌/◌, ◌<◌, ◌≤◌, Bool, true, false, List, length, Option, Some, None}
+use Rattle.std.specs.Prelude.{◌≡◌, ℕ, ◌/◌, ◌<◌, ◌≤◌, Bool, true, false, List, length, Option, Some}
 use Rattle.std.specs.Global.{Vec}
 use Rattle.std.specs.List.{slice_get}
 use Rattle.restore_plan.specs.declared.planned.Planned.{Planned}
 use Rattle.restore_core.specs.declared.phase.Phase.{Phase}
-use Rattle.restore_core.specs.declared.phase.Phase.TheVariants.{Waiting, Running, Ended}
+use Rattle.restore_core.specs.declared.phase.Phase.TheVariants.{Running}
 use Rattle.restore_queue.specs.Ready.{AllWaited, ended_in, is_ready_at}
 
 -- how many entries a block has

@@ -1,5 +1,5 @@
 -- Whether an entry may be started or skipped, told from the places of those that have to end before it.
-use Rattle.std.specs.Prelude.{◌≡◌, ℕ, Bool, true, false, ◌==◌, ◌&&◌, List, length, Option, Some, None}
+use Rattle.std.specs.Prelude.{◌≡◌, ℕ, Bool, true, false, ◌==◌, ◌&&◌, List, length, Option, Some}
 use Rattle.std.specs.Global.{Vec}
 use Rattle.std.specs.List.{slice_get, list_any, find}
 use Rattle.std.specs.Option.{option_map_or}
@@ -8,7 +8,7 @@ use Rattle.restore_plan.specs.Entries.{is_among}
 use Rattle.restore_plan.specs.Order.{before_at}
 use Rattle.restore_plan.specs.Serial.{blocks}
 use Rattle.restore_core.specs.declared.phase.Phase.{Phase}
-use Rattle.restore_core.specs.declared.phase.Phase.TheVariants.{Waiting, Running, Ended}
+use Rattle.restore_core.specs.declared.phase.Phase.TheVariants.{Ended}
 use Rattle.restore_core.specs.Phases.{has_ended, is_waiting}
 
 -- the places of those that have to end before the i-th starts

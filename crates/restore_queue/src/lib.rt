@@ -10,6 +10,6 @@ mod running;
 mod waiting;
 
 pub use choosing::turn_of;
-pub use laws::phases_change;
+pub use laws::{entries_move, nothing_has_begun, phases_change};
 pub use meeting::meet_all;
 pub use waiting::mark;

@@ -1,4 +1,4 @@
-use Rattle.std.proofs.Common.{◌≡◌, ℕ, ◌+◌, true, List, get_or, take, sym, subst, ◌∙◌}
+use Rattle.std.proofs.Common.{◌≡◌, ℕ, ◌+◌, true, List, get_or, take, subst}
 use Rattle.std.proofs.lemmas.List.{take_more, take_all}
 use Rattle.restore_plan.specs.Entries.{is_among}
 use Rattle.restore_queue.proofs.Meets.{Among, all-met, among-on, among-push, nearly-on}
