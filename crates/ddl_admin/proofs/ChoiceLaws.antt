@@ -1,15 +1,5 @@
 -- Parts that may be left out have the laws of a part, one before another.
-use Rattle.std.proofs.Common.{◌≡◌, ℕ, Bool, true, false, ◌||◌, List, [], ◌∷◌, ◌++◌, Option, Some, None, sym, ap, ◌∙◌, ◌⊎◌, inl, inr}
-use Rattle.std.proofs.lemmas.Bool.{or_parts, or_left, or_right}
-use Rattle.std.specs.Str.{str_eq_ignore_ascii_case}
-use Rattle.ddl_parts.specs.Lexemes.{Lexeme, is_word, starts}
-use Rattle.ddl_parts.specs.Parts.{Part, mark, seen, wider, ◌▸◌}
-use Rattle.ddl_parts.specs.Laws.{Lawful, Apart, Avoids}
-use Rattle.ddl_parts.proofs.Steps.{starts_neither, starts_apart, starts-append, starts_more}
-use Rattle.ddl_parts.proofs.Simple.{seen_laws, wider_laws}
-use Rattle.ddl_parts.proofs.Leads.{words_apart}
-use Rattle.ddl_parts.proofs.Composing.{Headed, lawful_then, headed_word, headed_seen, one_word, lawful_choose, lawful_maybe, avoids_maybe}
-use Rattle.ddl_admin.specs.Choices.{any_word, clause, said, flag, ◌before◌}
+use Rattle.ddl_admin.proofs.Common.{◌≡◌, ℕ, Bool, true, false, ◌||◌, List, [], ◌∷◌, ◌++◌, Option, Some, None, sym, ap, ◌∙◌, ◌⊎◌, inl, inr, or_parts, or_left, or_right, str_eq_ignore_ascii_case, Lexeme, is_word, starts, Part, mark, seen, wider, ◌▸◌, Lawful, Apart, Avoids, starts_neither, starts_apart, starts-append, starts_more, seen_laws, wider_laws, is_far, words_apart, Headed, lawful_then, headed_word, headed_seen, one_word, lawful_choose, lawful_maybe, avoids_maybe, any_word, clause, said, flag, ◌before◌}
 use Rattle.ddl_admin.proofs.Telling.{all_differ, words_differ, any-append}
 
 -- A part that may be left out: what spells it is nothing or begins with one of the key words, and no other token goes on.
@@ -64,12 +54,12 @@ one_key key t e = or_left (is_word key t) false e
 no_key : (key : List ℕ) (keys : List (List ℕ)) (t : Lexeme) → any_word (key ∷ keys) t ≡ false → is_word key t ≡ false
 no_key key keys t e = (or_parts (is_word key t) (any_word keys t) e).0
 
-pub clause_is : {A : Type 0} {p : Part A} (key : List ℕ) → Lawful p → ((t : Lexeme) → p.goes_on t ≡ false) → IsOptional (key ∷ []) (clause key p)
-clause_is {A} {p} key lp free =
+pub clause_is : {A : Type 0} {p : Part A} (key : List ℕ) → is_far key ≡ true → Lawful p → ((t : Lexeme) → p.goes_on t ≡ false) → IsOptional (key ∷ []) (clause key p)
+clause_is {A} {p} key far lp free =
     record { laws = lawful_maybe (any_word (key ∷ [])) None given (no_key key []); skips = skips; only = λ t e. ap (λ (b : Bool). b || any_word (key ∷ []) t) (free t) ∙ e }
   where
     given : Headed (is_word key) (seen Some (is_word key ▸ p))
-    given = headed_seen Some (headed_word key lp)
+    given = headed_seen Some (headed_word key far lp)
 
     skips : (v : Option A) (ts : List Lexeme) → (clause key p).Spells v ts → (ts ≡ []) ⊎ (starts (any_word (key ∷ [])) ts ≡ true)
     skips v ts (inl h) = inr (starts_more (is_word key) (any_word (key ∷ [])) (one_key key) ts (given.begins v ts h))
@@ -77,8 +67,8 @@ clause_is {A} {p} key lp free =
 
 -- ---- a key word, or another that denies it
 
-pub flag_is : (key denial : List ℕ) → str_eq_ignore_ascii_case denial key ≡ false → IsOptional (key ∷ denial ∷ []) (flag key denial)
-flag_is key denial differ =
+pub flag_is : (key denial : List ℕ) → is_far key ≡ true → is_far denial ≡ true → str_eq_ignore_ascii_case denial key ≡ false → IsOptional (key ∷ denial ∷ []) (flag key denial)
+flag_is key denial far far' differ =
     record {
       laws = lawful_choose yes (lawful_maybe (any_word (key ∷ denial ∷ [])) None no no_denial) (avoids_maybe (is_word key) no (words_apart denial key differ) (any_word (key ∷ denial ∷ [])) None (no_key key (denial ∷ [])));
       skips = skips;
@@ -86,10 +76,10 @@ flag_is key denial differ =
     }
   where
     yes : Headed (is_word key) (seen (said true) (mark (is_word key)))
-    yes = headed_seen (said true) (one_word key)
+    yes = headed_seen (said true) (one_word key far)
 
     no : Headed (is_word denial) (seen (said false) (mark (is_word denial)))
-    no = headed_seen (said false) (one_word denial)
+    no = headed_seen (said false) (one_word denial far')
 
     no_denial : (t : Lexeme) → any_word (key ∷ denial ∷ []) t ≡ false → is_word denial t ≡ false
     no_denial t e = no_key denial [] t (or_parts (is_word key t) (any_word (denial ∷ []) t) e).1

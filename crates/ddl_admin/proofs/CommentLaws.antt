@@ -1,20 +1,14 @@
 -- COMMENT ON has the laws of a part.
-use Rattle.std.proofs.Common.{ℕ, List, Some, None, refl, codes}
-use Rattle.cat_model.specs.declared.object.QName.{QName}
+use Rattle.ddl_admin.proofs.Common.{ℕ, List, Some, None, refl, codes, QName, is_sign, Lawful, Apart, name_laws, qualified_laws, one_of_laws, lawful_seen, lawful_word, lawful_sign, lawful_ended, lawful_next, headed_seen, one_word, one_literal, lawful_either, ◌also◌}
 use Rattle.cat_model.specs.declared.grant.Commented.{Commented}
+use Rattle.ddl_admin.proofs.Telling.{literal_no_word}
+use Rattle.ddl_admin.specs.Comments.{remark, remark_end, name_remarked, path_remarked, column_remarked, constraint_remarked, on_path, on_schema, on_others, commented_object, comment_on}
 use Rattle.cat_model.specs.declared.grant.Commented.TheVariants as commented
 use Rattle.cat_model.specs.declared.stmt.Stmt.TheVariants as stmt
-use Rattle.ddl_parts.specs.Lexemes.{is_sign}
-use Rattle.ddl_parts.specs.Laws.{Lawful, Apart}
-use Rattle.ddl_parts.proofs.Leads.{name_laws, qualified_laws}
-use Rattle.ddl_parts.proofs.Tables.{one_of_laws}
-use Rattle.ddl_parts.proofs.Composing.{lawful_seen, lawful_word, lawful_sign, lawful_ended, lawful_next, headed_seen, one_word, one_literal, lawful_either, ◌also◌}
-use Rattle.ddl_admin.specs.Comments.{remark, remark_end, name_remarked, path_remarked, column_remarked, constraint_remarked, on_path, on_schema, on_others, commented_object, comment_on}
-use Rattle.ddl_admin.proofs.Telling.{literal_no_word}
 
 remark_laws : Lawful remark
 unfolding remark
-remark_laws = lawful_either (headed_seen (λ u. None) (one_word (codes "null"))) (headed_seen Some one_literal) (literal_no_word (codes "null"))
+remark_laws = lawful_either (headed_seen (λ u. None) (one_word (codes "null") refl)) (headed_seen Some one_literal) (literal_no_word (codes "null"))
 
 remark_ends : Apart (is_sign 59) remark.goes_on
 unfolding remark
@@ -22,7 +16,7 @@ remark_ends t e = refl
 
 remark_end_laws : Lawful remark_end
 unfolding remark_end
-remark_end_laws = lawful_word (codes "is") (lawful_ended 59 remark_laws remark_ends)
+remark_end_laws = lawful_word (codes "is") refl (lawful_ended 59 remark_laws remark_ends)
 
 name_remarked_laws : Lawful name_remarked
 unfolding name_remarked
@@ -38,7 +32,7 @@ column_remarked_laws = lawful_next qualified_laws (lawful_sign 46 name_remarked_
 
 constraint_remarked_laws : Lawful constraint_remarked
 unfolding constraint_remarked
-constraint_remarked_laws = lawful_next name_laws (lawful_word (codes "on") path_remarked_laws) (λ t. refl)
+constraint_remarked_laws = lawful_next name_laws (lawful_word (codes "on") refl path_remarked_laws) (λ t. refl)
 
 on_path_laws : (key : List ℕ) (kind : QName → Commented) → Lawful (on_path key kind).part
 on_path_laws key kind = lawful_seen (λ x. stmt.Comment (kind x.0) x.1) path_remarked_laws
@@ -54,4 +48,4 @@ commented_object_laws =
 
 pub comment_on_laws : Lawful comment_on
 unfolding comment_on
-comment_on_laws = lawful_word (codes "on") commented_object_laws
+comment_on_laws = lawful_word (codes "on") refl commented_object_laws

@@ -1,36 +1,44 @@
 -- CREATE DATABASE has the laws of a part.
-use Rattle.std.proofs.Common.{◌≡◌, Bool, true, false, not, ◌&&◌, ◌||◌, [], ◌∷◌, Option, Some, None, refl, ap, ◌∙◌, codes, arith}
-use Rattle.std.proofs.lemmas.Bool.{or_parts}
-use Rattle.std.specs.Str.{is_utf8, chars}
-use Rattle.std.proofs.Math.Utf8.{encode}
-use Rattle.sql_lex.specs.Bytes.{next_is}
-use Rattle.sql_lex.specs.Meaning.{literal_of, undoubled, inside}
-use Rattle.sql_lex.specs.declared.token.TokenKind.TheVariants.{Literal}
-use Rattle.cat_model.specs.declared.constraint.Encoding.{Encoding}
-use Rattle.cat_model.specs.declared.constraint.Encoding.TheVariants.{Utf8}
+use Rattle.ddl_admin.proofs.Common.{◌≡◌, ℕ, Bool, true, false, cond, not, ◌&&◌, ◌||◌, List, [], ◌∷◌, Option, Some, None, Result, Ok, Err, bytes_eq, refl, ap, ◌∙◌, inl, inr, codes, arith, or_parts, is_utf8, chars, encode, next_is, literal_of, undoubled, inside, TokenKind, Literal, Encoding, Utf8, Lexeme, is_word, is_sign, Lawful, Apart, Avoids, literal_value, text_in, IsTooLong, shortened, short_word, path_of, path_value, word_no_text, no_long_text, Shortens, one_laws, name_laws, sign_no_word, and_false, Headed, lawful_seen, lawful_word, lawful_sign, lawful_ended, lawful_then, lawful_next, headed_word, headed_seen, headed_next, lawful_maybe, avoids_maybe, any_word, utf8_in, own_options, is_bare, is_option, furthers, utf8_value, utf8, encoded, goes_on, maybe_encoded, options, create_database}
+use Rattle.ddl_admin.proofs.{Telling.sign_not_bare, Further.furthers_laws}
 use Rattle.cat_model.specs.declared.stmt.Stmt.TheVariants as stmt
-use Rattle.ddl_parts.specs.Lexemes.{Lexeme, is_word, is_sign}
-use Rattle.ddl_parts.specs.Laws.{Lawful, Apart, Avoids}
-use Rattle.ddl_parts.specs.Leaves.{literal_value, text_in}
-use Rattle.ddl_parts.proofs.Simple.{one_laws}
-use Rattle.ddl_parts.proofs.Leads.{name_laws}
-use Rattle.ddl_parts.proofs.Telling.{sign_no_word, and_false}
-use Rattle.ddl_parts.proofs.Composing.{Headed, lawful_seen, lawful_word, lawful_sign, lawful_ended, lawful_then, lawful_next, headed_word, headed_seen, headed_next, lawful_maybe, avoids_maybe}
-use Rattle.ddl_admin.specs.Choices.{any_word}
-use Rattle.ddl_admin.specs.Databases.{own_options, is_bare, is_option, furthers, utf8_value, utf8, encoded, goes_on, maybe_encoded, options, create_database}
-use Rattle.ddl_admin.proofs.Telling.{sign_not_bare}
-use Rattle.ddl_admin.proofs.Further.{furthers_laws}
 
 abbrev a_utf8 : Lexeme
 a_utf8 = record { gap = 32 ∷ []; kind = Literal; word = codes "'UTF8'"; start = 0 }
 
+-- a short literal isn't this one
+utf8_long : (r : Result (List ℕ) Bool) → utf8_in r ≡ Err true → r ≡ Err true
+utf8_long (Ok text) e = by (bytes_eq text (codes "UTF8")) e
+  where
+    by : (b : Bool) → cond b (Ok Utf8) (Err false) ≡ (let r : Result Encoding Bool = Err true in r) → Ok text ≡ (let r : Result (List ℕ) Bool = Err true in r)
+    by true f = absurd cc
+    by false f = absurd cc
+utf8_long (Err long) e = cc
+
+utf8_short : (k : TokenKind) (w : List ℕ) → path_of (text_in (literal_of k w)) ≡ Err true → utf8_in (text_in (literal_of k (short_word k))) ≡ Err false
+unfolding text_in literal_of undoubled inside next_is is_utf8 chars encode
+utf8_short Literal w e = refl
+utf8_short x w e = absurd cc
+
+utf8_none : (t : Lexeme) → IsTooLong t → utf8_value t ≡ Err false → utf8_value (shortened t) ≡ Err false
+unfolding utf8_value literal_value path_value
+utf8_none t (inl e) f = ap utf8_in (word_no_text t e)
+utf8_none t (inr e) f = utf8_short t.kind t.word e
+
+utf8_shortens : Shortens utf8_value
+unfolding utf8_value
+utf8_shortens = record {
+  long = λ t e. absurd (no_long_text t (utf8_long (literal_value t) e));
+  none = utf8_none;
+}
+
 utf8_laws : Lawful utf8
 unfolding utf8_value literal_value text_in literal_of undoubled inside next_is is_utf8 chars encode
-utf8_laws = one_laws utf8_value a_utf8 Utf8 refl
+utf8_laws = one_laws utf8_value utf8_shortens a_utf8 Utf8 refl
 
 encoded_is : Headed (is_word (codes "encoding")) encoded
 unfolding encoded
-encoded_is = headed_seen (λ x. x.0) (headed_next (headed_word (codes "encoding") (lawful_sign 61 utf8_laws)) furthers_laws (λ t. refl))
+encoded_is = headed_seen (λ x. x.0) (headed_next (headed_word (codes "encoding") refl (lawful_sign 61 utf8_laws)) furthers_laws (λ t. refl))
 
 abbrev no_encoding : Option Encoding
 no_encoding = None
@@ -69,4 +77,4 @@ pub create_database_laws : Lawful create_database
 unfolding create_database
 create_database_laws =
     lawful_seen (λ x. stmt.CreateDatabase x.0 x.1)
-    (lawful_next name_laws (lawful_word (codes "with") (lawful_word (codes "template") (lawful_sign 61 (lawful_word (codes "template0") (lawful_ended 59 options_laws options_end))))) (λ t. refl))
+    (lawful_next name_laws (lawful_word (codes "with") refl (lawful_word (codes "template") refl (lawful_sign 61 (lawful_word (codes "template0") refl (lawful_ended 59 options_laws options_end))))) (λ t. refl))

@@ -1,27 +1,6 @@
 -- Options that are dropped, and the encoding, as they are read.
-use Rattle.std.proofs.Common.{◌≡◌, ℕ, Bool, true, false, cond, not, ◌&&◌, ◌||◌, List, [], ◌∷◌, Some, None, Result, Ok, Err, bytes_eq, drop, refl, ap, ◌∙◌, codes, arith}
-use Rattle.std.specs.Str.{str_to_ascii_lowercase}
-use Rattle.std.proofs.lemmas.Slice.Eq.{bytes_eq-Decides}
-use Rattle.sql_lex.specs.declared.token.TokenKind.{TokenKind}
-use Rattle.sql_lex.specs.declared.token.TokenKind.TheVariants.{Word, QuotedName, Number}
-use Rattle.sql_lex.specs.Meaning.{is_keyword_of}
-use Rattle.cat_model.specs.declared.constraint.Encoding.{Encoding}
-use Rattle.cat_model.specs.declared.constraint.Encoding.TheVariants.{Utf8}
-use Rattle.ddl_parts.specs.Lexemes.{Lexeme, is_word, is_sign, starts}
-use Rattle.ddl_parts.specs.Leaves.{digits_of, number_first, literal, literal_value, is_name, is_literal}
-use Rattle.ddl_parts.specs.Types.{is_word_kind, is_number, is_number_kind}
-use Rattle.ddl_parts.specs.Parts.{Stop, Reading, stop, first_by, seen_at, mark, many, ◌▸◌, ◌>>=◌}
-use Rattle.ddl_parts.specs.Laws.{Lawful, Begins}
-use Rattle.ddl_parts.specs.declared.fault.ReadError.{ReadError}
-use Rattle.ddl_parts.specs.declared.fault.ReadError.TheVariants.{Halted, Memory}
-use Rattle.ddl_parts.specs.Pieces.{Fails, halted}
-use Rattle.ddl_parts.proofs.Steps.{gives}
-use Rattle.ddl_parts.proofs.Simple.{mark_laws, seen_laws}
-use Rattle.ddl_parts.proofs.Sequence.{lead_laws, lead_begins}
-use Rattle.ddl_parts.proofs.Leads.{a_word, a_literal, sign_laws}
-use Rattle.ddl_parts.proofs.Repeated.{AreApart, many_laws, items_from, from_read, from_stop, from_none}
-use Rattle.ddl_admin.specs.Choices.{any_word}
-use Rattle.ddl_admin.specs.Databases.{word_first, is_bare, own_options, is_option, is_value, further, furthering, furthers, utf8_in, utf8_value, utf8}
+use Rattle.ddl_admin.proofs.Common.{◌≡◌, ℕ, Bool, true, false, cond, not, ◌&&◌, ◌||◌, List, [], ◌∷◌, Some, None, Result, Ok, Err, bytes_eq, drop, refl, ap, ◌∙◌, codes, arith, str_to_ascii_lowercase, bytes_eq-Decides, TokenKind, Word, QuotedName, Number, is_keyword_of, Encoding, Utf8, Lexeme, is_word, is_sign, starts, digits_of, number_first, literal, literal_value, is_name, is_literal, is_word_kind, is_number, is_number_kind, Stop, Reading, stop, first_by, seen_at, mark, many, ◌▸◌, ◌>>=◌, Lawful, Begins, ReadError, Halted, Memory, Fails, halted, Agrees, gives, mark_laws, seen_laws, lead_laws, lead_begins, a_word, a_literal, sign_laws, AreApart, many_laws, from_read, from_stop, from_none, any_word, word_first, is_bare, own_options, is_option, is_value, further, furthering, furthers, utf8_in, utf8_value, utf8, word_like}
+use Rattle.ddl_parts.proofs.Repeated.{items_from}
 
 -- ---- bare words
 
@@ -80,10 +59,18 @@ value_is : is_value a_literal ≡ true
 unfolding is_value is_name is_literal is_number
 value_is = refl
 
+pub option_agrees : Agrees is_option
+unfolding is_option is_bare
+option_agrees t long = simp (word_like t long)
+
+value_agrees : Agrees is_value
+unfolding is_value is_name is_literal is_number
+value_agrees t long = refl
+
 pub further_laws : Lawful further
 unfolding further
 further_laws =
-    lead_laws is_option (a_word (codes "owner")) (is_sign 61 ▸ mark is_value) option_begun (sign_laws 61 (mark is_value) (mark_laws is_value a_literal value_is))
+    lead_laws is_option option_agrees (a_word (codes "owner")) (is_sign 61 ▸ mark is_value) option_begun (sign_laws 61 (mark is_value) (mark_laws is_value value_agrees a_literal value_is))
 
 further_begins : Begins is_option further
 unfolding further
@@ -96,6 +83,7 @@ never_on t = refl
 pub furthers_apart : AreApart is_option furthering
 furthers_apart = record {
   laws = λ s. further_laws;
+  agrees = λ s. option_agrees;
   begins = λ s. further_begins;
   apart = λ s v t e. never_on t;
   covers = λ s t e. (e, never_on t);

@@ -1,15 +1,9 @@
 -- CREATE ROLE and ALTER ROLE have the laws of a part.
-use Rattle.std.proofs.Common.{ℕ, List, [], ◌∷◌, ◌++◌, refl, codes}
-use Rattle.cat_model.specs.declared.stmt.Stmt.TheVariants as stmt
-use Rattle.ddl_parts.specs.Lexemes.{is_sign}
-use Rattle.ddl_parts.specs.Laws.{Lawful, Apart}
-use Rattle.ddl_parts.proofs.Leads.{name_laws, literal_laws}
-use Rattle.ddl_parts.proofs.Telling.{free}
-use Rattle.ddl_parts.proofs.Composing.{lawful_seen, lawful_word, lawful_ended, lawful_next}
+use Rattle.ddl_admin.proofs.Common.{ℕ, List, [], ◌∷◌, ◌++◌, refl, codes, is_sign, Lawful, Apart, name_laws, literal_laws, free, lawful_seen, lawful_word, lawful_ended, lawful_next}
+use Rattle.ddl_admin.proofs.{Telling.sign_no_words, ChoiceLaws.IsOptional, ChoiceLaws.before_is, ChoiceLaws.seen_is, ChoiceLaws.clause_is, ChoiceLaws.flag_is}
 use Rattle.ddl_admin.specs.Roles.{create_role, later_flags, role_flags, role_settings, changes_by, role_changes, alter_role}
-use Rattle.ddl_admin.proofs.Telling.{sign_no_words}
-use Rattle.ddl_admin.proofs.ChoiceLaws.{IsOptional, before_is, seen_is, clause_is, flag_is}
 use Rattle.ddl_numbers.proofs.NumberLaws.{whole_number_laws, whole_number_ends}
+use Rattle.cat_model.specs.declared.stmt.Stmt.TheVariants as stmt
 
 pub create_role_laws : Lawful create_role
 unfolding create_role
@@ -23,9 +17,9 @@ later_keys = codes "createdb" ∷ codes "nocreatedb" ∷ codes "login" ∷ codes
 later_flags_are : IsOptional later_keys later_flags
 unfolding later_flags
 later_flags_are =
-    before_is (flag_is (codes "createdb") (codes "nocreatedb") refl)
-    (before_is (flag_is (codes "login") (codes "nologin") refl)
-    (before_is (flag_is (codes "replication") (codes "noreplication") refl) (flag_is (codes "bypassrls") (codes "nobypassrls") refl) refl) refl) refl
+    before_is (flag_is (codes "createdb") (codes "nocreatedb") refl refl refl)
+    (before_is (flag_is (codes "login") (codes "nologin") refl refl refl)
+    (before_is (flag_is (codes "replication") (codes "noreplication") refl refl refl) (flag_is (codes "bypassrls") (codes "nobypassrls") refl refl refl) refl) refl) refl
 
 abbrev flag_keys : List (List ℕ)
 flag_keys = codes "superuser" ∷ codes "nosuperuser" ∷ codes "inherit" ∷ codes "noinherit" ∷ codes "createrole" ∷ codes "nocreaterole" ∷ later_keys
@@ -33,8 +27,8 @@ flag_keys = codes "superuser" ∷ codes "nosuperuser" ∷ codes "inherit" ∷ co
 role_flags_are : IsOptional flag_keys role_flags
 unfolding role_flags
 role_flags_are =
-    before_is (flag_is (codes "superuser") (codes "nosuperuser") refl)
-    (before_is (flag_is (codes "inherit") (codes "noinherit") refl) (before_is (flag_is (codes "createrole") (codes "nocreaterole") refl) later_flags_are refl) refl) refl
+    before_is (flag_is (codes "superuser") (codes "nosuperuser") refl refl refl)
+    (before_is (flag_is (codes "inherit") (codes "noinherit") refl refl refl) (before_is (flag_is (codes "createrole") (codes "nocreaterole") refl refl refl) later_flags_are refl) refl) refl
 
 -- ---- settings
 
@@ -44,8 +38,8 @@ setting_keys = codes "connection" ∷ codes "password" ∷ codes "valid" ∷ []
 role_settings_are : IsOptional setting_keys role_settings
 unfolding role_settings
 role_settings_are =
-    before_is (clause_is (codes "connection") (lawful_word (codes "limit") whole_number_laws) whole_number_ends)
-    (before_is (clause_is (codes "password") literal_laws (λ t. refl)) (clause_is (codes "valid") (lawful_word (codes "until") literal_laws) (λ t. refl)) refl) refl
+    before_is (clause_is (codes "connection") refl (lawful_word (codes "limit") refl whole_number_laws) whole_number_ends)
+    (before_is (clause_is (codes "password") refl literal_laws (λ t. refl)) (clause_is (codes "valid") refl (lawful_word (codes "until") refl literal_laws) (λ t. refl)) refl) refl
 
 -- ---- ALTER ROLE
 
@@ -59,4 +53,4 @@ changes_end t e = role_changes_are.only t (sign_no_words 59 (flag_keys ++ settin
 pub alter_role_laws : Lawful alter_role
 unfolding alter_role
 alter_role_laws =
-    lawful_seen (λ x. stmt.AlterRole x.0 x.1) (lawful_next name_laws (lawful_word (codes "with") (lawful_ended 59 role_changes_are.laws changes_end)) (λ t. refl))
+    lawful_seen (λ x. stmt.AlterRole x.0 x.1) (lawful_next name_laws (lawful_word (codes "with") refl (lawful_ended 59 role_changes_are.laws changes_end)) (λ t. refl))

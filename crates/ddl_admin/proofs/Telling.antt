@@ -1,16 +1,5 @@
 -- Tokens that are told apart: key words, signs and numbers.
-use Rattle.std.proofs.Common.{◌≡◌, ℕ, Bool, true, false, not, ◌&&◌, ◌||◌, List, [], ◌∷◌, ◌++◌, refl, sym, ap, ◌∙◌, arith}
-use Rattle.std.proofs.lemmas.Bool.{and_parts, not-true}
-use Rattle.std.specs.Str.{str_eq_ignore_ascii_case}
-use Rattle.sql_lex.specs.declared.token.TokenKind.{TokenKind}
-use Rattle.sql_lex.specs.Meaning.{is_keyword_of}
-use Rattle.ddl_parts.specs.Lexemes.{Lexeme, is_word, is_sign}
-use Rattle.ddl_parts.specs.Laws.{Apart}
-use Rattle.ddl_parts.specs.Leaves.{is_literal, is_literal_kind}
-use Rattle.ddl_parts.specs.Types.{is_word_kind}
-use Rattle.ddl_parts.proofs.Leads.{words_apart}
-use Rattle.ddl_parts.proofs.Telling.{sign_no_word, sign_kind_by}
-use Rattle.ddl_admin.specs.Choices.{any_word}
+use Rattle.ddl_admin.proofs.Common.{◌≡◌, ℕ, Bool, true, false, not, ◌&&◌, ◌||◌, List, [], ◌∷◌, ◌++◌, refl, sym, ap, ◌∙◌, arith, and_parts, not-true, str_eq_ignore_ascii_case, TokenKind, is_keyword_of, Lexeme, is_word, is_sign, Apart, is_literal, is_literal_kind, is_word_kind, words_apart, sign_no_word, sign_kind_by, any_word}
 
 pub sign_not_bare : (b : ℕ) (t : Lexeme) → is_sign b t ≡ true → is_word_kind t.kind ≡ false
 unfolding is_sign

@@ -6,12 +6,12 @@ ghost use Rattle.ddl_admin.specs.Comments.{remark, remark_end, name_remarked, pa
 
 use cat_model::{Commented, QName, Stmt};
 use copy_text::{Name, Text};
-use ddl_parts::{Pieces, ReadError, qualified_name};
+use ddl_parts::{Parsed, Pieces, qualified_name};
 use std::alloc::Global;
 
 /// NULL or a text.
 #[tactic(auto, unfolding(crate::specs::Comments::remark))]
-fn remark(alloc: Global, pieces: &Pieces<'_>, at: usize) -> Result<(Option<Text>, usize), ReadError>
+fn remark(alloc: Global, pieces: &Pieces<'_>, at: usize) -> Parsed<Option<Text>>
     ensures { GivesPart pieces.now (λ t. t) result (remark.read (drop at pieces.now)) }
 {
     if pieces.is_word(at, "null") {
@@ -24,11 +24,7 @@ fn remark(alloc: Global, pieces: &Pieces<'_>, at: usize) -> Result<(Option<Text>
 
 /// IS with NULL or a text, and the semicolon.
 #[tactic(auto, unfolding(crate::specs::Comments::remark_end))]
-fn remark_end(
-    alloc: Global,
-    pieces: &Pieces<'_>,
-    at: usize,
-) -> Result<(Option<Text>, usize), ReadError>
+fn remark_end(alloc: Global, pieces: &Pieces<'_>, at: usize) -> Parsed<Option<Text>>
     ensures { GivesPart pieces.now (λ t. t) result (remark_end.read (drop at pieces.now)) }
 {
     let at = pieces.word(at, "is")?;
@@ -39,11 +35,7 @@ fn remark_end(
 
 /// A name, and what is said of it.
 #[tactic(auto, unfolding(crate::specs::Comments::name_remarked))]
-fn name_remarked(
-    alloc: Global,
-    pieces: &Pieces<'_>,
-    at: usize,
-) -> Result<((Name, Option<Text>), usize), ReadError>
+fn name_remarked(alloc: Global, pieces: &Pieces<'_>, at: usize) -> Parsed<(Name, Option<Text>)>
     ensures { GivesPart pieces.now (λ x. (x.0, x.1)) result (name_remarked.read (drop at pieces.now)) }
 {
     let (name, at) = pieces.name(alloc, at)?;
@@ -53,11 +45,7 @@ fn name_remarked(
 
 /// A path, and what is said of it.
 #[tactic(auto, unfolding(crate::specs::Comments::path_remarked))]
-fn path_remarked(
-    alloc: Global,
-    pieces: &Pieces<'_>,
-    at: usize,
-) -> Result<((QName, Option<Text>), usize), ReadError>
+fn path_remarked(alloc: Global, pieces: &Pieces<'_>, at: usize) -> Parsed<(QName, Option<Text>)>
     ensures { GivesPart pieces.now (λ x. (x.0, x.1)) result (path_remarked.read (drop at pieces.now)) }
 {
     let (q, at) = qualified_name(alloc, pieces, at)?;
@@ -71,7 +59,7 @@ fn column_remarked(
     alloc: Global,
     pieces: &Pieces<'_>,
     at: usize,
-) -> Result<((QName, Name, Option<Text>), usize), ReadError>
+) -> Parsed<(QName, Name, Option<Text>)>
     ensures { GivesPart pieces.now (λ x. (x.0, (x.1, x.2))) result (column_remarked.read (drop at pieces.now)) }
 {
     let (q, at) = qualified_name(alloc, pieces, at)?;
@@ -86,7 +74,7 @@ fn constraint_remarked(
     alloc: Global,
     pieces: &Pieces<'_>,
     at: usize,
-) -> Result<((Name, QName, Option<Text>), usize), ReadError>
+) -> Parsed<(Name, QName, Option<Text>)>
     ensures { GivesPart pieces.now (λ x. (x.0, (x.1, x.2))) result (constraint_remarked.read (drop at pieces.now)) }
 {
     let (name, at) = pieces.name(alloc, at)?;
@@ -104,11 +92,7 @@ fn comment(object: Commented, text: Option<Text>) -> Stmt
 
 /// The kind of the object, the object, and what is said of it.
 #[tactic(auto, unfolding(crate::specs::Comments::commented_object))]
-fn commented_object(
-    alloc: Global,
-    pieces: &Pieces<'_>,
-    at: usize,
-) -> Result<(Stmt, usize), ReadError>
+fn commented_object(alloc: Global, pieces: &Pieces<'_>, at: usize) -> Parsed<Stmt>
     ensures { GivesPart pieces.now (λ s. s) result (commented_object.read (drop at pieces.now)) }
 {
     if pieces.is_word(at, "schema") {
@@ -165,7 +149,7 @@ fn commented_object(
 ///
 /// `Halted` tells the first token with which no such statement goes on, `Memory` that memory ran out.
 #[tactic(auto, unfolding(crate::specs::Comments::comment_on))]
-pub fn comment_on(alloc: Global, pieces: &Pieces<'_>, at: usize) -> Result<(Stmt, usize), ReadError>
+pub fn comment_on(alloc: Global, pieces: &Pieces<'_>, at: usize) -> Parsed<Stmt>
     ensures { GivesPart pieces.now (λ s. s) result (comment_on.read (drop at pieces.now)) }
 {
     let at = pieces.word(at, "on")?;

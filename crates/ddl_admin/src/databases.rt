@@ -9,7 +9,7 @@ ghost use Rattle.ddl_admin.specs.Databases.{word_first, is_bare, own_options, is
 
 use cat_model::{Encoding, Stmt};
 use copy_text::Text;
-use ddl_parts::{Halt, Pieces, ReadError};
+use ddl_parts::{Halt, Parsed, Pieces, ReadError};
 use std::alloc::{AllocError, Global};
 
 /// The bytes of the token at a place.
@@ -137,7 +137,7 @@ fn furthers(alloc: Global, pieces: &Pieces<'_>, from: usize) -> Result<usize, Re
 
 /// The literal UTF8.
 #[tactic(auto, using(crate::proofs::Further::utf8_read))]
-fn utf8(alloc: Global, pieces: &Pieces<'_>, at: usize) -> Result<(Encoding, usize), ReadError>
+fn utf8(alloc: Global, pieces: &Pieces<'_>, at: usize) -> Parsed<Encoding>
     ensures { GivesPart pieces.now (λ e. e) result (utf8.read (drop at pieces.now)) }
 {
     let (text, next) = pieces.literal(alloc, at)?;
@@ -149,7 +149,7 @@ fn utf8(alloc: Global, pieces: &Pieces<'_>, at: usize) -> Result<(Encoding, usiz
 
 /// The encoding, and further options.
 #[tactic(auto, unfolding(crate::specs::Databases::encoded))]
-fn encoded(alloc: Global, pieces: &Pieces<'_>, at: usize) -> Result<(Encoding, usize), ReadError>
+fn encoded(alloc: Global, pieces: &Pieces<'_>, at: usize) -> Parsed<Encoding>
     ensures { GivesPart pieces.now (λ e. e) result (encoded.read (drop at pieces.now)) }
 {
     let at = pieces.word(at, "encoding")?;
@@ -161,11 +161,7 @@ fn encoded(alloc: Global, pieces: &Pieces<'_>, at: usize) -> Result<(Encoding, u
 
 /// The encoding, if there is one.
 #[tactic(auto, unfolding(crate::specs::Databases::maybe_encoded))]
-fn maybe_encoded(
-    alloc: Global,
-    pieces: &Pieces<'_>,
-    at: usize,
-) -> Result<(Option<Encoding>, usize), ReadError>
+fn maybe_encoded(alloc: Global, pieces: &Pieces<'_>, at: usize) -> Parsed<Option<Encoding>>
     ensures { GivesPart pieces.now (λ e. e) result (maybe_encoded.read (drop at pieces.now)) }
 {
     if pieces.is_word(at, "encoding") {
@@ -177,11 +173,7 @@ fn maybe_encoded(
 
 /// The options behind the template.
 #[tactic(auto, unfolding(crate::specs::Databases::options))]
-fn options(
-    alloc: Global,
-    pieces: &Pieces<'_>,
-    at: usize,
-) -> Result<(Option<Encoding>, usize), ReadError>
+fn options(alloc: Global, pieces: &Pieces<'_>, at: usize) -> Parsed<Option<Encoding>>
     ensures { GivesPart pieces.now (λ e. e) result (options.read (drop at pieces.now)) }
 {
     let at = furthers(alloc, pieces, at)?;
@@ -197,11 +189,7 @@ fn options(
 ///
 /// `Halted` tells the first token with which no such statement goes on, `Memory` that memory ran out.
 #[tactic(auto, unfolding(crate::specs::Databases::create_database))]
-pub fn create_database(
-    alloc: Global,
-    pieces: &Pieces<'_>,
-    at: usize,
-) -> Result<(Stmt, usize), ReadError>
+pub fn create_database(alloc: Global, pieces: &Pieces<'_>, at: usize) -> Parsed<Stmt>
     ensures { GivesPart pieces.now (λ s. s) result (create_database.read (drop at pieces.now)) }
 {
     let (name, at) = pieces.name(alloc, at)?;

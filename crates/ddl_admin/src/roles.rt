@@ -11,7 +11,7 @@ ghost use Rattle.ddl_admin.specs.Roles.{create_role, later_flags, role_flags, ro
 use cat_model::{RoleChanges, Stmt};
 use copy_text::Text;
 use ddl_numbers::whole_number;
-use ddl_parts::{Pieces, ReadError};
+use ddl_parts::{Parsed, Pieces, ReadError};
 use std::alloc::Global;
 
 /// The statement CREATE ROLE, behind these words, and the place behind it.
@@ -20,11 +20,7 @@ use std::alloc::Global;
 ///
 /// `Halted` tells the first token with which no such statement goes on, `Memory` that memory ran out.
 #[tactic(auto, unfolding(crate::specs::Roles::create_role))]
-pub fn create_role(
-    alloc: Global,
-    pieces: &Pieces<'_>,
-    at: usize,
-) -> Result<(Stmt, usize), ReadError>
+pub fn create_role(alloc: Global, pieces: &Pieces<'_>, at: usize) -> Parsed<Stmt>
     ensures { GivesPart pieces.now (λ s. s) result (create_role.read (drop at pieces.now)) }
 {
     let (name, at) = pieces.name(alloc, at)?;
@@ -33,12 +29,7 @@ pub fn create_role(
 }
 
 /// Whether a key word stands at a place, or another that denies it, and the place behind it.
-fn flag(
-    pieces: &Pieces<'_>,
-    at: usize,
-    key: &str,
-    denial: &str,
-) -> Result<(Option<bool>, usize), ReadError>
+fn flag(pieces: &Pieces<'_>, at: usize, key: &str, denial: &str) -> Parsed<Option<bool>>
     ensures { GivesPart pieces.now (λ b. b) result ((flag key.now denial.now).read (drop at pieces.now)) }
 {
     if pieces.is_word(at, key) {
@@ -75,7 +66,7 @@ fn later_flags(
 
 /// The attributes in their order, no limit and no texts.
 #[tactic(auto, unfolding(crate::specs::Roles::role_flags))]
-fn role_flags(pieces: &Pieces<'_>, at: usize) -> Result<(RoleChanges, usize), ReadError>
+fn role_flags(pieces: &Pieces<'_>, at: usize) -> Parsed<RoleChanges>
     ensures { GivesPart pieces.now (λ c. (c.superuser, (c.inherit, (c.create_role, (c.create_db, (c.login, (c.replication, c.bypass_rls))))))) result (role_flags.read (drop at pieces.now)) }
 {
     let (superuser, at) = flag(pieces, at, "superuser", "nosuperuser")?;
@@ -98,7 +89,7 @@ fn role_flags(pieces: &Pieces<'_>, at: usize) -> Result<(RoleChanges, usize), Re
 }
 
 /// The connection limit, if there is one.
-fn limit(pieces: &Pieces<'_>, at: usize) -> Result<(Option<i64>, usize), ReadError>
+fn limit(pieces: &Pieces<'_>, at: usize) -> Parsed<Option<i64>>
     ensures { GivesPart pieces.now (λ n. n) result ((clause (codes "connection") (is_word (codes "limit") ▸ whole_number)).read (drop at pieces.now)) }
 {
     if pieces.is_word(at, "connection") {
@@ -111,11 +102,7 @@ fn limit(pieces: &Pieces<'_>, at: usize) -> Result<(Option<i64>, usize), ReadErr
 }
 
 /// The password, if there is one.
-fn password(
-    alloc: Global,
-    pieces: &Pieces<'_>,
-    at: usize,
-) -> Result<(Option<Text>, usize), ReadError>
+fn password(alloc: Global, pieces: &Pieces<'_>, at: usize) -> Parsed<Option<Text>>
     ensures { GivesPart pieces.now (λ t. t) result ((clause (codes "password") literal).read (drop at pieces.now)) }
 {
     if pieces.is_word(at, "password") {
@@ -127,11 +114,7 @@ fn password(
 }
 
 /// How long the password is valid, if it is said.
-fn valid_until(
-    alloc: Global,
-    pieces: &Pieces<'_>,
-    at: usize,
-) -> Result<(Option<Text>, usize), ReadError>
+fn valid_until(alloc: Global, pieces: &Pieces<'_>, at: usize) -> Parsed<Option<Text>>
     ensures { GivesPart pieces.now (λ t. t) result ((clause (codes "valid") (is_word (codes "until") ▸ literal)).read (drop at pieces.now)) }
 {
     if pieces.is_word(at, "valid") {
@@ -149,7 +132,7 @@ fn role_settings(
     alloc: Global,
     pieces: &Pieces<'_>,
     at: usize,
-) -> Result<((Option<i64>, Option<Text>, Option<Text>), usize), ReadError>
+) -> Parsed<(Option<i64>, Option<Text>, Option<Text>)>
     ensures { GivesPart pieces.now (λ x. (x.0, (x.1, x.2))) result (role_settings.read (drop at pieces.now)) }
 {
     let (limit, at) = limit(pieces, at)?;
@@ -160,11 +143,7 @@ fn role_settings(
 
 /// What changes of a role.
 #[tactic(auto, unfolding(crate::specs::Roles::role_changes))]
-fn role_changes(
-    alloc: Global,
-    pieces: &Pieces<'_>,
-    at: usize,
-) -> Result<(RoleChanges, usize), ReadError>
+fn role_changes(alloc: Global, pieces: &Pieces<'_>, at: usize) -> Parsed<RoleChanges>
     ensures { GivesPart pieces.now (λ c. c) result (role_changes.read (drop at pieces.now)) }
 {
     let (flags, at) = role_flags(pieces, at)?;
@@ -187,7 +166,7 @@ fn role_changes(
 ///
 /// `Halted` tells the first token with which no such statement goes on, `Memory` that memory ran out.
 #[tactic(auto, unfolding(crate::specs::Roles::alter_role))]
-pub fn alter_role(alloc: Global, pieces: &Pieces<'_>, at: usize) -> Result<(Stmt, usize), ReadError>
+pub fn alter_role(alloc: Global, pieces: &Pieces<'_>, at: usize) -> Parsed<Stmt>
     ensures { GivesPart pieces.now (λ s. s) result (alter_role.read (drop at pieces.now)) }
 {
     let (name, at) = pieces.name(alloc, at)?;

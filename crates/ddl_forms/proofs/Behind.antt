@@ -1,8 +1,6 @@
 -- What may stand behind a text, and what a text begins with.
-use Rattle.std.proofs.Common.{◌≡◌, ℕ, ◌+◌, Bool, true, false, cond, ◌||◌, List, [], ◌∷◌, ◌++◌, append_assoc, refl, ap, ◌∙◌, arith}
-use Rattle.std.specs.Prelude.{◌==◌, nat_lt}
-use Rattle.std.proofs.lemmas.Bool.{lt-ltb, ltb-true}
-use Rattle.std.proofs.lemmas.Bool.Decides.{nat_tests}
+use Rattle.ddl_forms.proofs.Common.{◌≡◌, ℕ, ◌+◌, Bool, true, false, cond, ◌||◌, List, [], ◌∷◌, ◌++◌, append_assoc, refl, ap, ◌∙◌, arith, ◌==◌, nat_lt, lt-ltb, nat_tests}
+use Rattle.std.proofs.lemmas.Bool.{ltb-true}
 use Rattle.ddl_forms.proofs.Standing.{is_safe, is_safe_byte}
 
 -- anything; what parts words, names and literals; what goes on with no token; or nothing

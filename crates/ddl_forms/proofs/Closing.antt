@@ -1,8 +1,5 @@
 -- A part ends with a token, and no such token stands before the last.
-use Rattle.std.proofs.Common.{◌≡◌, Bool, true, false, not, ◌&&◌, List, [], ◌∷◌, ◌++◌, refl, arith}
-use Rattle.std.proofs.lemmas.Bool.{and_parts}
-use Rattle.ddl_parts.specs.Lexemes.{Lexeme}
-use Rattle.ddl_parts.specs.Parts.{Part}
+use Rattle.ddl_forms.proofs.Common.{◌≡◌, Bool, true, false, not, ◌&&◌, List, [], ◌∷◌, ◌++◌, refl, arith, and_parts, Lexeme, Part}
 
 -- ---- the last token
 

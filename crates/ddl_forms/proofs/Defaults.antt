@@ -1,34 +1,8 @@
 -- A default is written with the tokens that it has, with NOT NULL behind it or without; and what is read of a text as a
 -- default can be written.
-use Rattle.std.proofs.Common.{◌≡◌, ℕ, ◌+◌, ◌-◌, Bool, true, false, cond, List, [], ◌∷◌, ◌++◌, length, length-append, append_assoc, append-nil, take, drop, Option, Some, None, refl, sym, ap, subst, ◌∙◌, ◌⊎◌, arith, inl, inr, codes, option_and_then}
-use Rattle.std.specs.Str.{is_utf8, chars}
-use Rattle.std.proofs.Math.Utf8.{encode}
-use Rattle.std.proofs.lemmas.Bool.{and_parts, and_from}
-use Rattle.std.proofs.lemmas.List.{take_at, drop_at}
-use Rattle.sql_lex.specs.declared.token.TokenKind.{TokenKind}
-use Rattle.sql_lex.specs.declared.token.TokenKind.TheVariants.{Word, Sign, MetaLine}
-use Rattle.sql_lex.specs.Bytes.{begins_word, in_word, is_digit}
-use Rattle.sql_lex.specs.Meaning.{is_keyword_of}
-use Rattle.ddl_parts.specs.declared.runs.Bracket.{Bracket}
-use Rattle.ddl_parts.specs.declared.runs.Spot.{Spot}
-use Rattle.ddl_parts.specs.declared.runs.Spot.TheVariants.{First, FirstNot, LaterNot, Inside, Closed as Shut}
-use Rattle.ddl_parts.specs.Lexemes.{Lexeme, spelled, source, is_word, is_sign}
-use Rattle.ddl_parts.specs.Parts.{run, Runs}
-use Rattle.ddl_parts.specs.Expressions.{Nest, nested, nest_step, nest_done, ends_run, behind_kind, behind_not, behind_null, behind_other, is_inside, moved, step_by, default_and_null, are_not_null, without_not_null}
-use Rattle.ddl_parts.proofs.Leads.{words_apart}
-use Rattle.ddl_parts.proofs.RunLaws.{nest}
-use Rattle.ddl_parts.proofs.Machines.{run_none}
-use Rattle.ddl_forms.specs.Texts.{semicolon, IsDefaultText}
-use Rattle.ddl_forms.proofs.Standing.{Stood, placed}
-use Rattle.ddl_forms.proofs.Kept.{AllCame, AllPlain, came_front, spelled-append}
-use Rattle.ddl_forms.proofs.Tokens.{space, word_token, a_word}
+use Rattle.ddl_forms.proofs.Common.{◌≡◌, ℕ, ◌+◌, ◌-◌, Bool, true, false, cond, List, [], ◌∷◌, ◌++◌, length, length-append, append_assoc, append-nil, take, drop, Option, Some, None, refl, sym, ap, subst, ◌∙◌, ◌⊎◌, arith, inl, inr, codes, option_and_then, is_utf8, chars, encode, and_parts, and_from, take_at, drop_at, TokenKind, Word, Sign, MetaLine, begins_word, in_word, is_digit, is_keyword_of, Bracket, Spot, First, FirstNot, LaterNot, Inside, Closed as Shut, Lexeme, spelled, source, is_word, is_sign, run, Runs, Nest, nested, nest_step, nest_done, ends_run, behind_kind, behind_not, behind_null, behind_other, is_inside, moved, step_by, default_and_null, are_not_null, without_not_null, words_apart, nest, run_none, semicolon, IsDefaultText}
 use Rattle.ddl_write.specs.Paths.{only_if}
-use Rattle.ddl_forms.proofs.RunTexts.{not_some, run-append, placed-append, plain_last, run_kept, run_read}
-use Rattle.ddl_forms.proofs.Behind.{Words, Safe, admits, admitted}
-use Rattle.ddl_forms.proofs.Putting.{Follows, IsPut, same_text}
-use Rattle.ddl_forms.proofs.Written.{Written, leaf_as, pieces_as, run_put}
-use Rattle.ddl_forms.proofs.Closing.{only_last}
-use Rattle.ddl_forms.proofs.Expressions.{nested_plain}
+use Rattle.ddl_forms.proofs.{Standing.Stood, Standing.placed, Kept.AllCame, Kept.AllPlain, Kept.came_front, Kept.spelled-append, Tokens.space, Tokens.word_token, Tokens.a_word, RunTexts.not_some, RunTexts.run-append, RunTexts.placed-append, RunTexts.plain_last, RunTexts.run_kept, RunTexts.run_read, Behind.Words, Behind.Safe, Behind.admits, Behind.admitted, Putting.Follows, Putting.IsPut, Putting.same_text, Written.Written, Written.leaf_as, Written.pieces_as, Written.run_put, Closing.only_last, Expressions.nested_plain}
 
 -- ---- steps of the two machines of defaults
 

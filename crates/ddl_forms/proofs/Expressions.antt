@@ -1,12 +1,6 @@
 -- The text of an expression, or of a default, is written with the tokens that it has.
-use Rattle.std.proofs.Common.{ℕ, Bool, true, false, List, [], ◌∷◌, refl}
-use Rattle.ddl_parts.specs.declared.runs.Bracket.{Bracket}
-use Rattle.ddl_parts.specs.declared.runs.Spot.{Spot}
-use Rattle.ddl_parts.specs.Lexemes.{is_sign, is_word}
-use Rattle.ddl_parts.specs.Expressions.{nested, nest_step, nest_done, ends_run, step_by, expression, default_text}
-use Rattle.ddl_forms.proofs.Tokens.{Gap, space}
-use Rattle.ddl_forms.proofs.RunTexts.{IsPlainMachine, GoesByWords, plain_by}
-use Rattle.ddl_forms.proofs.Written.{Written, run_as}
+use Rattle.ddl_forms.proofs.Common.{ℕ, Bool, true, false, List, [], ◌∷◌, refl, Bracket, Spot, is_sign, is_word, nested, nest_step, nest_done, ends_run, step_by, expression, default_text}
+use Rattle.ddl_forms.proofs.{Tokens.Gap, Tokens.space, RunTexts.IsPlainMachine, RunTexts.GoesByWords, RunTexts.plain_by, Written.Written, Written.run_as}
 
 -- ---- the tokens of a run
 

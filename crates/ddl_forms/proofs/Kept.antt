@@ -1,31 +1,6 @@
 -- Tokens of a text are read as the same tokens in another text, where they are kept with what stands between them.
-use Rattle.std.proofs.Common.{◌≡◌, ℕ, zero, suc, ◌+◌, ◌-◌, ◌<◌, ◌≤◌, Bool, true, false, cond, ◌&&◌, List, [], ◌∷◌, ◌++◌, length, length-append, append_assoc, take, drop, Option, Some, None, Result, Ok, Err, refl, sym, ap, subst, ◌∙◌, ◌⊎◌, arith, inl, inr}
-use Rattle.std.specs.Prelude.{◌==◌, slice_range}
-use Rattle.std.specs.List.{list_all}
-use Rattle.std.specs.Str.{is_utf8}
-use Rattle.std.proofs.lemmas.Bool.{and_parts, or_parts, cases_Bool}
-use Rattle.std.proofs.lemmas.Bool.Decides.{nat_tests}
-use Rattle.std.proofs.lemmas.List.{drop_at}
-use Rattle.std.proofs.lemmas.List.Folds.{drop_split}
-use Rattle.sql_lex.specs.declared.token.TokenKind.{TokenKind}
-use Rattle.sql_lex.specs.declared.token.TokenKind.TheVariants.{Word, QuotedName, Literal, Number, Sign, MetaLine}
-use Rattle.sql_lex.specs.declared.token.Token.{Token}
-use Rattle.sql_lex.specs.declared.fault.LexFault.{LexFault}
-use Rattle.sql_lex.specs.Bytes.{is_blank, is_digit, begins_word, in_word, is_sign as is_sign_byte, marks_escapes, next_is}
-use Rattle.sql_lex.specs.Next.{next_token_of, LiesBehind}
-use Rattle.sql_lex.specs.Meaning.{spelling}
-use Rattle.sql_lex.specs.Spelling.{Spells, AreDigits, IsGap, goes_on, goes_on_behind_dot}
-use Rattle.sql_lex.specs.Answers.{Between, nothing, gap, IsNext}
-use Rattle.sql_lex.proofs.TextLaws.{next_found, piece_word}
-use Rattle.sql_lex.proofs.PieceLaws.{quoted_is, word_free, digit_free}
-use Rattle.sql_lex.proofs.Passing.{lies_behind}
-use Rattle.sql_lex.proofs.WriteLaws.{spelling_is_read, gap_is_passed}
-use Rattle.ddl_parts.specs.Lexemes.{Lexeme, spelled, is_sign_kind}
-use Rattle.ddl_parts.specs.Pieces.{lexeme_of, lexemes}
-use Rattle.ddl_parts.specs.Collecting.{Collected, collected, collected_within, collected_by, nothing_more, preceded}
-use Rattle.ddl_parts.proofs.Telling.{and_false}
-use Rattle.ddl_parts.proofs.Slices.{drop_twice, seam, between_low}
-use Rattle.ddl_forms.specs.Texts.{semicolon}
+use Rattle.ddl_forms.proofs.Common.{◌≡◌, ℕ, zero, suc, ◌+◌, ◌-◌, ◌<◌, ◌≤◌, Bool, true, false, cond, ◌&&◌, List, [], ◌∷◌, ◌++◌, length, length-append, append_assoc, take, drop, Option, Some, None, Result, Ok, Err, refl, sym, ap, subst, ◌∙◌, ◌⊎◌, arith, inl, inr, ◌==◌, slice_range, list_all, is_utf8, and_parts, or_parts, cases_Bool, nat_tests, drop_at, drop_split, TokenKind, Word, QuotedName, Literal, Number, Sign, MetaLine, Token, LexFault, is_blank, is_digit, begins_word, in_word, marks_escapes, next_is, next_token_of, LiesBehind, spelling, Spells, AreDigits, IsGap, goes_on, goes_on_behind_dot, Between, gap, IsNext, next_found, piece_word, quoted_is, word_free, digit_free, lies_behind, spelling_is_read, gap_is_passed, Lexeme, spelled, is_sign_kind, lexeme_of, lexemes, Collected, collected, collected_within, collected_by, nothing_more, preceded, and_false, drop_twice, seam, between_low, semicolon}
+use Rattle.sql_lex.specs.{Bytes.is_sign as is_sign_byte, Answers.nothing}
 use Rattle.ddl_forms.proofs.Standing.{is_safe, is_safe_byte, Stands, Stood}
 
 -- ---- tokens as they came

@@ -1,33 +1,9 @@
 -- Whole numbers as they are written, in tokens that stand; and that what is read has 64 bits.
-use Rattle.std.proofs.Common.{◌≡◌, ℕ, zero, suc, ◌+◌, ◌<◌, ◌^◌, ℤ, pos, negsuc, Bool, true, false, cond, ◌&&◌, List, [], ◌∷◌, ◌++◌, length, append_assoc, append-nil, Option, Some, None, Ok, refl, sym, ap, subst, ◌∙◌, arith, ◌⊎◌, inl, inr, option_and_then}
-use Rattle.std.specs.Prelude.{◌==◌, nat_lt}
-use Rattle.std.specs.List.{list_all}
-use Rattle.std.specs.Char.{digit_value}
-use Rattle.std.specs.Fmt.{decimal, signed_decimal}
-use Rattle.std.specs.Str.{is_utf8, chars}
-use Rattle.std.specs.Str.Parse.{AllDigits, digits_value}
-use Rattle.std.proofs.Math.Utf8.{encode}
-use Rattle.std.proofs.lemmas.Bool.{and_from, lt-ltb, ltb-true}
-use Rattle.std.proofs.lemmas.Bool.Decides.{nat_tests}
-use Rattle.std.proofs.lemmas.Fmt.{decimal_is_IsNumeral, IsAscii-decimal}
-use Rattle.std.proofs.lemmas.Str.Parse.{digit_from_value}
-use Rattle.std.proofs.lemmas.Str.{IsUtf8-from_ascii, is_utf8-from_IsUtf8}
-use Rattle.sql_lex.specs.Bytes.{is_blank, is_digit, next_is, is_sign as is_sign_byte}
-use Rattle.sql_lex.specs.Spelling.{goes_on}
-use Rattle.sql_lex.specs.declared.token.TokenKind.TheVariants.{Number, Sign}
-use Rattle.sql_lex.proofs.WriteLaws.{spelling_is_read}
-use Rattle.ddl_parts.specs.Lexemes.{Lexeme, spelled, is_sign}
-use Rattle.ddl_parts.specs.Leaves.{number_first}
-use Rattle.ddl_parts.specs.Parts.{mark, seen, ◌then◌, ◌▸◌}
+use Rattle.ddl_forms.proofs.Common.{◌≡◌, ℕ, zero, suc, ◌+◌, ◌<◌, ◌^◌, ℤ, pos, negsuc, Bool, true, false, cond, ◌&&◌, List, [], ◌∷◌, ◌++◌, length, append_assoc, append-nil, Option, Some, None, Ok, refl, sym, ap, subst, ◌∙◌, arith, ◌⊎◌, inl, inr, option_and_then, ◌==◌, nat_lt, list_all, digit_value, decimal, signed_decimal, is_utf8, chars, AllDigits, digits_value, encode, and_from, lt-ltb, nat_tests, decimal_is_IsNumeral, IsAscii-decimal, digit_from_value, IsUtf8-from_ascii, is_utf8-from_IsUtf8, is_blank, is_digit, next_is, goes_on, Number, Sign, spelling_is_read, Lexeme, spelled, is_sign, number_first, mark, seen, ◌then◌, ◌▸◌, is_int, IsInt}
+use Rattle.std.proofs.lemmas.Bool.{ltb-true}
+use Rattle.sql_lex.specs.Bytes.{is_sign as is_sign_byte}
+use Rattle.ddl_forms.proofs.{Standing.Stands, Kept.safe_ends, Kept.spelled-append, Kept.Begun, Tokens.Gap, Tokens.none, Tokens.gap_stands, Tokens.sign_token, Behind.Safe, Behind.admits, RunTexts.safe_behind, Putting.Follows, Putting.IsPut, Putting.followed, Putting.put_as, Putting.one_put, Putting.same_text, Putting.then_put, Putting.Yields, Written.Written, Written.leaf_as}
 use Rattle.ddl_numbers.specs.Numbers.{count, count_first, count_value, counted, digits_below, opposite, whole_number}
-use Rattle.ddl_forms.specs.Texts.{is_int, IsInt}
-use Rattle.ddl_forms.proofs.Standing.{Stands}
-use Rattle.ddl_forms.proofs.Kept.{safe_ends, spelled-append, Begun}
-use Rattle.ddl_forms.proofs.Tokens.{Gap, none, gap_stands, sign_token}
-use Rattle.ddl_forms.proofs.Behind.{Safe, admits}
-use Rattle.ddl_forms.proofs.RunTexts.{safe_behind}
-use Rattle.ddl_forms.proofs.Putting.{Follows, IsPut, followed, put_as, one_put, same_text, then_put, Yields}
-use Rattle.ddl_forms.proofs.Written.{Written, leaf_as}
 
 -- ---- digits
 

@@ -1,15 +1,5 @@
 -- What is passed over wherever it stands, whatever stands behind it: white space, and comments with the ends of their lines.
-use Rattle.std.proofs.Common.{◌≡◌, ℕ, ◌+◌, ◌<◌, true, false, List, [], ◌∷◌, ◌++◌, length, length-append, append_assoc, refl, sym, ap, subst, ◌∙◌, inl, inr, arith}
-use Rattle.std.specs.List.{list_all}
-use Rattle.std.specs.Str.{is_utf8, IsUtf8, chars}
-use Rattle.std.proofs.Math.Utf8.{encode, scalar, low_scalar}
-use Rattle.std.proofs.lemmas.Bool.{cases_Bool, and_from, and_parts}
-use Rattle.std.proofs.lemmas.Bool.Decides.{nat_tests}
-use Rattle.std.proofs.lemmas.List.Folds.{list_all-append}
-use Rattle.std.proofs.lemmas.Str.{IsUtf8-nil, IsUtf8-append, IsUtf8-from_is_utf8, is_utf8-from_IsUtf8, encode_ascii}
-use Rattle.sql_lex.specs.Bytes.{is_blank, in_line, next_is}
-use Rattle.sql_lex.specs.Next.{next_token_of}
-use Rattle.sql_lex.proofs.WriteLaws.{gap_is_passed}
+use Rattle.ddl_forms.proofs.Common.{◌≡◌, ℕ, ◌+◌, ◌<◌, true, false, List, [], ◌∷◌, ◌++◌, length, length-append, append_assoc, refl, sym, ap, subst, ◌∙◌, inl, inr, arith, list_all, is_utf8, IsUtf8, chars, encode, scalar, low_scalar, cases_Bool, and_from, and_parts, nat_tests, list_all-append, IsUtf8-nil, IsUtf8-append, IsUtf8-from_is_utf8, is_utf8-from_IsUtf8, encode_ascii, is_blank, in_line, next_is, next_token_of, gap_is_passed}
 
 -- from its front on the next token is the one behind it
 abbrev pub Passed : List ℕ → Type 0

@@ -1,14 +1,6 @@
 -- Written texts are laid out in tokens that stand wherever they are put.
-use Rattle.std.proofs.Common.{◌≡◌, ℕ, ◌+◌, true, false, List, [], ◌∷◌, ◌++◌, length, append_assoc, append-nil, refl, sym, ap, subst, ◌∙◌, ◌⊎◌, inl, inr}
-use Rattle.ddl_parts.specs.Lexemes.{Lexeme, spelled}
-use Rattle.ddl_parts.specs.Parts.{Part, ◌then◌}
-use Rattle.ddl_write.specs.Paths.{joined}
-use Rattle.ddl_forms.specs.Texts.{semicolon}
-use Rattle.ddl_forms.proofs.Behind.{Behind, admits}
-use Rattle.ddl_forms.proofs.Closing.{only_last}
-use Rattle.ddl_forms.proofs.Kept.{AllCame, spelled-append}
-use Rattle.ddl_forms.proofs.RunTexts.{placed-append, last_more}
-use Rattle.ddl_forms.proofs.Standing.{Stands, Stood, placed}
+use Rattle.ddl_forms.proofs.Common.{◌≡◌, ℕ, ◌+◌, true, false, List, [], ◌∷◌, ◌++◌, length, append_assoc, append-nil, refl, sym, ap, subst, ◌∙◌, ◌⊎◌, inl, inr, Lexeme, spelled, Part, ◌then◌, joined, semicolon}
+use Rattle.ddl_forms.proofs.{Behind.Behind, Behind.admits, Closing.only_last, Kept.AllCame, Kept.spelled-append, RunTexts.placed-append, RunTexts.last_more, Standing.Stands, Standing.Stood, Standing.placed}
 
 -- the others stand, and have no semicolon but the last
 pub record Follows (others : List Lexeme) : Type 0 where

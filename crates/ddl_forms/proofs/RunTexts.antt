@@ -1,21 +1,7 @@
 -- The text of a run of a machine is written with the tokens that it has: behind a gap and before other tokens, and what
 -- was read of a text is such a text.
-use Rattle.std.proofs.Common.{◌≡◌, ℕ, ◌+◌, ◌-◌, ◌≤◌, Bool, true, false, not, List, [], ◌∷◌, ◌++◌, length, length-append, append-nil, take, drop, Option, Some, None, refl, sym, ap, subst, ◌∙◌, arith, option_and_then, eqb-true}
-use Rattle.std.proofs.Math.Seq.{drop-length}
-use Rattle.std.proofs.lemmas.Bool.{and_from}
-use Rattle.sql_lex.specs.declared.token.TokenKind.{TokenKind}
-use Rattle.sql_lex.specs.declared.token.TokenKind.TheVariants.{Sign, MetaLine}
-use Rattle.ddl_parts.specs.declared.pieces.Piece.{Piece}
-use Rattle.ddl_parts.specs.Lexemes.{Lexeme, spelled, source, is_sign, is_sign_kind, start_of}
-use Rattle.ddl_parts.specs.Parts.{Machine, run, Runs}
-use Rattle.ddl_parts.specs.Pieces.{lexeme_of, lexemes}
-use Rattle.ddl_parts.proofs.Machines.{run_none}
-use Rattle.ddl_parts.specs.Collecting.{collected}
-use Rattle.ddl_forms.specs.Texts.{semicolon, IsRunText}
-use Rattle.ddl_forms.proofs.Closing.{only_last}
-use Rattle.ddl_forms.proofs.Standing.{is_safe, Stands, Stood, placed, NoSemicolon, collects_all}
-use Rattle.ddl_forms.proofs.Kept.{AllCame, AllPlain, begun_some, token_begun, have_come, whole_text, stands_again, all_stand_again, spelled-append}
-use Rattle.ddl_forms.proofs.Tokens.{Gap, none as none_before, gap_stands}
+use Rattle.ddl_forms.proofs.Common.{◌≡◌, ℕ, ◌+◌, ◌-◌, ◌≤◌, Bool, true, false, not, List, [], ◌∷◌, ◌++◌, length, length-append, append-nil, take, drop, Option, Some, None, refl, sym, ap, subst, ◌∙◌, arith, option_and_then, eqb-true, drop-length, and_from, TokenKind, Sign, MetaLine, Piece, Lexeme, spelled, source, is_sign, is_sign_kind, start_of, Machine, run, Runs, lexeme_of, lexemes, run_none, collected, semicolon, IsRunText}
+use Rattle.ddl_forms.proofs.{Closing.only_last, Standing.is_safe, Standing.Stands, Standing.Stood, Standing.placed, Standing.NoSemicolon, Standing.collects_all, Kept.AllCame, Kept.AllPlain, Kept.begun_some, Kept.token_begun, Kept.have_come, Kept.whole_text, Kept.stands_again, Kept.all_stand_again, Kept.spelled-append, Tokens.Gap, Tokens.none as none_before, Tokens.gap_stands}
 
 -- ---- machines
 

@@ -1,18 +1,5 @@
 -- Tokens that are read as they are wherever they stand: the tokens of a text that is made of them are they.
-use Rattle.std.proofs.Common.{◌≡◌, ℕ, zero, suc, ◌+◌, ◌-◌, ◌<◌, ◌≤◌, Bool, true, false, not, cond, ◌||◌, List, [], ◌∷◌, ◌++◌, length, length-append, append_assoc, append-nil, take, drop, Some, None, Ok, refl, sym, ap, subst, ◌∙◌, arith}
-use Rattle.std.specs.Prelude.{◌==◌, slice_range}
-use Rattle.std.proofs.lemmas.List.{take_at, drop_at}
-use Rattle.std.proofs.lemmas.Bool.{and_parts, not-true}
-use Rattle.sql_lex.specs.declared.token.TokenKind.{TokenKind}
-use Rattle.sql_lex.specs.Next.{next_token_of}
-use Rattle.sql_lex.proofs.Passing.{next_at_end}
-use Rattle.sql_lex.specs.Meaning.{spelling}
-use Rattle.sql_lex.specs.ReadBack.{token_at, IsTokenAt}
-use Rattle.ddl_parts.specs.declared.pieces.Piece.{Piece}
-use Rattle.ddl_parts.specs.Lexemes.{Lexeme, spelled, is_sign, is_sign_kind}
-use Rattle.ddl_parts.specs.Pieces.{lexeme_of, lexemes}
-use Rattle.ddl_parts.specs.Collecting.{Collected, collected, collected_within, collected_by, nothing_more, preceded}
-use Rattle.ddl_forms.specs.Texts.{semicolon}
+use Rattle.ddl_forms.proofs.Common.{◌≡◌, ℕ, zero, suc, ◌+◌, ◌-◌, ◌<◌, ◌≤◌, Bool, true, false, not, cond, ◌||◌, List, [], ◌∷◌, ◌++◌, length, length-append, append_assoc, append-nil, take, drop, Some, None, Ok, refl, sym, ap, subst, ◌∙◌, arith, ◌==◌, slice_range, take_at, drop_at, and_parts, not-true, TokenKind, next_token_of, next_at_end, spelling, token_at, IsTokenAt, Piece, Lexeme, spelled, is_sign, is_sign_kind, lexeme_of, lexemes, Collected, collected, collected_within, collected_by, nothing_more, preceded, semicolon}
 use Rattle.ddl_forms.proofs.Closing.{ends_with, only_last}
 
 -- ---- what stands

@@ -1,31 +1,9 @@
 -- A type is written with the tokens that it has: words with those of their text, a path with three; and what is read of
 -- a text as a type can be written.
-use Rattle.std.proofs.Common.{◌≡◌, ℕ, Bool, true, false, cond, List, [], ◌∷◌, ◌++◌, append-nil, Option, Some, None, Result, Ok, Err, is_ok, refl, sym, ap, subst, ◌∙◌, option_and_then, arith}
-use Rattle.sql_lex.specs.declared.token.TokenKind.{TokenKind}
-use Rattle.sql_lex.specs.Meaning.{name_of, is_keyword_of}
-use Rattle.copy_text.specs.Texts.{IsName}
-use Rattle.cat_model.specs.declared.object.QName.{QName}
-use Rattle.cat_model.specs.declared.type_name.TypeName.{TypeName}
-use Rattle.cat_model.specs.declared.type_name.TypeName.TheVariants as type_name
-use Rattle.ddl_parts.specs.Lexemes.{Lexeme, spelled, source, is_sign, is_sign_kind, is_word}
-use Rattle.ddl_parts.specs.Parts.{run, Runs}
-use Rattle.ddl_parts.specs.Pieces.{lexemes}
-use Rattle.ddl_parts.specs.Collecting.{collected}
-use Rattle.ddl_parts.specs.Leaves.{name_in, name_value, qualified}
-use Rattle.ddl_parts.specs.declared.types.TypeSpot.{TypeSpot}
-use Rattle.ddl_parts.specs.declared.types.TypeSpot.TheVariants.{Begin, FirstWord, Schema, Dotted, Path}
-use Rattle.ddl_parts.specs.Types.{typing, type_step, type_done, is_type_word, is_number, if_name, only_if, named, type_of, type_part}
-use Rattle.ddl_write.specs.Paths.{path}
+use Rattle.ddl_forms.proofs.Common.{◌≡◌, ℕ, Bool, true, false, cond, List, [], ◌∷◌, ◌++◌, append-nil, Option, Some, None, Result, Ok, Err, is_ok, refl, sym, ap, subst, ◌∙◌, option_and_then, arith, TokenKind, name_of, is_keyword_of, IsName, QName, TypeName, Lexeme, spelled, source, is_sign, is_sign_kind, is_word, run, Runs, lexemes, collected, name_in, name_value, qualified, TypeSpot, Begin, FirstWord, Schema, Dotted, Path, typing, type_step, type_done, is_type_word, is_number, if_name, only_if, named, type_of, type_part, path, IsPath, IsTypeText, IsType, passes_true as passed, run_none}
 use Rattle.ddl_write.specs.Tables.{type_text}
-use Rattle.ddl_forms.specs.Texts.{IsPath, IsTypeText, IsType}
-use Rattle.ddl_forms.proofs.Behind.{Words, Safe, admits, admitted}
-use Rattle.ddl_parts.proofs.Simple.{passes_true as passed}
-use Rattle.ddl_forms.proofs.Kept.{AllCame}
-use Rattle.ddl_forms.proofs.Tokens.{Gap, value_name}
-use Rattle.ddl_parts.proofs.Machines.{run_none}
-use Rattle.ddl_forms.proofs.RunTexts.{IsPlainMachine, GoesByWords, plain_by, not_some, kinds, run_read}
-use Rattle.ddl_forms.proofs.Putting.{Follows, IsPut, same_text, put_as}
-use Rattle.ddl_forms.proofs.Written.{Written, leaf_as, path_as, run_put}
+use Rattle.ddl_forms.proofs.{Behind.Words, Behind.Safe, Behind.admits, Behind.admitted, Kept.AllCame, Tokens.Gap, Tokens.value_name, RunTexts.IsPlainMachine, RunTexts.GoesByWords, RunTexts.plain_by, RunTexts.not_some, RunTexts.kinds, RunTexts.run_read, Putting.Follows, Putting.IsPut, Putting.same_text, Putting.put_as, Written.Written, Written.leaf_as, Written.path_as, Written.run_put}
+use Rattle.cat_model.specs.declared.type_name.TypeName.TheVariants as type_name
 
 -- ---- the machine
 

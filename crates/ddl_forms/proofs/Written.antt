@@ -1,36 +1,8 @@
 -- A part of the grammar with the texts of its values: what can be written lies in tokens that spell it, wherever they
 -- are put, and what tokens of a text spell has a property. A law for each way to put parts together.
-use Rattle.std.proofs.Common.{◌≡◌, ℕ, zero, suc, ◌<◌, Bool, true, false, not, cond, ◌&&◌, ◌||◌, List, [], ◌∷◌, ◌++◌, length, append_assoc, append-nil, Option, Some, None, Result, Ok, Err, refl, sym, ap, subst, ◌∙◌, ◌⊎◌, inl, inr, arith}
-use Rattle.std.specs.Prelude.{◌==◌}
-use Rattle.std.proofs.lemmas.Bool.{and_parts, and_from, not-true}
-use Rattle.std.proofs.lemmas.Bool.Decides.{nat_tests}
-use Rattle.std.specs.List.{list_all, AllByRecursion}
-use Rattle.std.specs.Str.{IsUtf8, is_utf8, chars, str_to_ascii_lowercase}
-use Rattle.std.proofs.Math.Utf8.{encode}
-use Rattle.sql_lex.specs.declared.token.TokenKind.{TokenKind}
-use Rattle.sql_lex.specs.declared.token.TokenKind.TheVariants.{Word, Literal, Sign}
-use Rattle.sql_lex.specs.Bytes.{is_digit, begins_word, in_word}
-use Rattle.sql_lex.specs.Meaning.{is_keyword_of}
-use Rattle.sql_lex.specs.Spelling.{IsWord}
-use Rattle.sql_lex.specs.Written.{written_name, written_literal}
-use Rattle.sql_lex.specs.ReadBack.{written_kind}
-use Rattle.copy_text.specs.Texts.{IsName}
-use Rattle.cat_model.specs.declared.object.QName.{QName}
-use Rattle.ddl_write.specs.Paths.{path, joined}
-use Rattle.ddl_parts.specs.Lexemes.{Lexeme, never, is_word, is_sign, is_sign_kind, spelled, source}
-use Rattle.ddl_parts.specs.Parts.{Part, Items, Many, no_more, one_more, Machine, Runs, runs_of, one, many, mark, stop, seen, choose, nothing, wider, ◌then◌, ◌▸◌, ◌◂◌}
-use Rattle.ddl_parts.specs.Leaves.{name, name_value, literal, literal_value, qualified}
-use Rattle.ddl_parts.specs.Pieces.{lexemes}
-use Rattle.ddl_parts.specs.Collecting.{collected}
-use Rattle.ddl_forms.specs.Texts.{semicolon, IsPath, IsRunText}
-use Rattle.ddl_parts.proofs.Simple.{passes_true}
-use Rattle.ddl_forms.proofs.Behind.{Behind, Anything, Words, Safe, End, admits, covers, covers_all, covers_same, through, admitted, looser, tighter, tight, Opens, opens_of, opened, then_opens, one_opens, other_opens}
-use Rattle.ddl_forms.proofs.Closing.{ends_with, ends_append, Closes}
-use Rattle.ddl_forms.proofs.Kept.{AllCame, came_front, came_behind}
-use Rattle.ddl_forms.proofs.RunTexts.{IsPlainMachine, kinds, run_kept, run_read, plain_last}
-use Rattle.ddl_forms.proofs.Standing.{Stands, Stood, placed}
-use Rattle.ddl_forms.proofs.Tokens.{Gap, none, space, a_word, a_name, a_literal, is_single, a_sign, name_means, literal_means, name_no_sign, value_name, text_value}
-use Rattle.ddl_forms.proofs.Putting.{Follows, IsPut, followed, begun, same_text, put_as, none_put, one_put, then_put, joined-append, Yields}
+use Rattle.ddl_forms.proofs.Common.{◌≡◌, ℕ, zero, suc, ◌<◌, Bool, true, false, not, cond, ◌&&◌, ◌||◌, List, [], ◌∷◌, ◌++◌, length, append_assoc, append-nil, Option, Some, None, Result, Ok, Err, refl, sym, ap, subst, ◌∙◌, ◌⊎◌, inl, inr, arith, ◌==◌, and_parts, and_from, not-true, nat_tests, list_all, AllByRecursion, IsUtf8, is_utf8, chars, str_to_ascii_lowercase, encode, TokenKind, Word, Literal, Sign, is_digit, begins_word, in_word, is_keyword_of, IsWord, written_name, written_literal, written_kind, IsName, QName, path, joined, Lexeme, never, is_word, is_sign, is_sign_kind, spelled, source, Part, Items, Many, no_more, Machine, Runs, runs_of, one, many, mark, stop, seen, choose, nothing, wider, ◌then◌, ◌▸◌, ◌◂◌, name, name_value, literal, literal_value, qualified, lexemes, collected, semicolon, IsPath, IsRunText, passes_true}
+use Rattle.ddl_parts.specs.Parts.{one_more}
+use Rattle.ddl_forms.proofs.{Behind.Behind, Behind.Anything, Behind.Words, Behind.Safe, Behind.End, Behind.admits, Behind.covers, Behind.covers_all, Behind.covers_same, Behind.through, Behind.admitted, Behind.looser, Behind.tighter, Behind.tight, Behind.Opens, Behind.opens_of, Behind.opened, Behind.then_opens, Behind.one_opens, Behind.other_opens, Closing.ends_with, Closing.ends_append, Closing.Closes, Kept.AllCame, Kept.came_front, Kept.came_behind, RunTexts.IsPlainMachine, RunTexts.kinds, RunTexts.run_kept, RunTexts.run_read, RunTexts.plain_last, Standing.Stands, Standing.Stood, Standing.placed, Tokens.Gap, Tokens.none, Tokens.space, Tokens.a_word, Tokens.a_name, Tokens.a_literal, Tokens.is_single, Tokens.a_sign, Tokens.name_means, Tokens.literal_means, Tokens.name_no_sign, Tokens.value_name, Tokens.text_value, Putting.Follows, Putting.IsPut, Putting.followed, Putting.begun, Putting.same_text, Putting.put_as, Putting.none_put, Putting.one_put, Putting.then_put, Putting.joined-append, Putting.Yields}
 
 -- Which values of a part can be written and how, by the proof that they can; what may stand behind, and what the text
 -- begins with, or that it may be empty; and what is known of a value that was read. Where it is closed, each spelling

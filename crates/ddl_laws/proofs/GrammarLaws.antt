@@ -1,66 +1,13 @@
 -- The grammar of statements has the laws of a part: what is read is spelled so, what is spelled so is read, and where
 -- reading stops nothing goes on.
-use Rattle.std.proofs.Common.{◌≡◌, Bool, true, false, ◌||◌, List, [], ◌∷◌, Some, None, refl, ap, codes, ℕ, ◌+◌, ◌^◌, pos, arith, ◌++◌, append-nil, append_assoc, Ok, Err, sym, ◌∙◌, not, cond, Result, Option, subst}
-use Rattle.std.proofs.lemmas.Bool.{not-true, not-false}
-use Rattle.std.specs.Str.{is_utf8, chars}
-use Rattle.std.proofs.Math.Utf8.{encode}
-use Rattle.std.specs.Prelude.{◌==◌, is_some}
-use Rattle.sql_lex.specs.Meaning.{is_keyword_of, name_of}
-use Rattle.ddl_parts.specs.Lexemes.{Lexeme, is_word, is_sign, source, starts}
-use Rattle.ddl_parts.specs.Parts.{Runs, run, runs_of, seen, Part, Reading, Stop, stop, choose_at, ◌then◌, Many, no_more, one_more, many, passes, ◌◂◌}
-use Rattle.ddl_parts.specs.Laws.{Lawful, Begins, Apart, Avoids}
-use Rattle.ddl_parts.specs.Lists.{comma, listed}
-use Rattle.ddl_parts.specs.Leaves.{name_in, name_value, is_name, qualified, literal, is_literal}
-use Rattle.ddl_parts.proofs.Repeated.{many_laws}
-use Rattle.ddl_parts.proofs.Machines.{CanEnd, run_none, machine_laws}
-use Rattle.ddl_parts.proofs.Leads.{a_word, a_sign, name_laws, qualified_laws, sign_is, words_apart, qualified_begins, literal_laws, literal_begins, word_no_sign}
-use Rattle.ddl_parts.proofs.Telling.{sign_no_word, signs_apart, free, stop_no_type, sign_no_name, sign_no_literal}
-use Rattle.ddl_parts.proofs.Composing.{Headed, lawful_seen, lawful_ended, lawful_next, headed_sign, headed_seen, lawful_unless, lawful_word, lawful_sign, headed_word, lawful_either, headed_next, lawful_choose, lawful_then, one_word, lawful_worded, one_sign, ◌also◌}
-use Rattle.ddl_forms.proofs.RunTexts.{sign_kind}
+use Rattle.ddl_laws.proofs.Common.{◌≡◌, Bool, true, false, ◌||◌, List, [], ◌∷◌, Some, None, refl, ap, codes, ℕ, ◌+◌, ◌^◌, pos, arith, ◌++◌, append-nil, append_assoc, Ok, Err, sym, ◌∙◌, inl, inr, not, Result, Option, subst, not-true, not-false, is_utf8, chars, encode, ◌==◌, is_some, is_keyword_of, name_of, literal_of, Lexeme, is_word, is_sign, source, starts, Runs, run, runs_of, seen, Part, Reading, Stop, stop, choose_at, ◌then◌, Many, no_more, many, passes, ◌◂◌, Like, Lawful, Begins, Apart, Avoids, comma, name_in, name_value, is_name, qualified, literal, is_literal, text_in, literal_value, many_laws, CanEnd, Shorter, run_none, machine_laws, a_word, a_sign, name_laws, qualified_laws, sign_is, words_apart, qualified_begins, literal_laws, literal_begins, word_no_sign, sign_no_word, signs_apart, free, stop_no_type, sign_no_name, sign_no_literal, Headed, lawful_seen, lawful_ended, lawful_next, headed_sign, headed_seen, lawful_unless, lawful_word, lawful_sign, headed_word, lawful_either, headed_next, lawful_choose, lawful_then, one_word, lawful_worded, one_sign, ◌also◌, sign_kind, RestSpot, Begin, Deferrable, Initially, FirstOn, Update, UpdateNo, UpdateSet, SecondOn, Delete, DeleteNo, DeleteSet, Opened, Named, more_names, names_of, columns, either, if_name, is_long_by, rest_step, rest_long, rest_done, rest_goes_on, resting, key_rest, begins_foreign, foreign_rest, TokenKind, Number, Literal, digits_below, whole_number, First, Step, Both, Lower, Upper, ClauseSpot, Between, BehindAs, BehindStart, BehindIncrement, BehindNo, Due, BehindMinus, Clauses, with_number, reached, clause_first, kind_first, usual_first, step_first, begins_clause, first_reached, clausing, clauses_of, sequence_clauses, sequence_of, create_sequence, expression, nested, nest_step, nest_done, ends_run, default_text, is_end_kind, Inside, IsTooLong, shortened, short_word, if_last, whole_path, path_in, path_of, path_value, word_agrees, sign_agrees, name_agrees, literal_agrees, name_shortens, guarded_shortens, refused_shortens, word_no_text, Agrees, passes_like, starts-append, starts_kept, starts_again, Tells, Fits, left_of, long_of, told, lawful, named_by, expression_laws, expression_ends, expression_ends_bracket, default_text_laws, run_ends, one_of_laws, one_of_avoids, one_of_avoids_others, new_owner, owned_by, its_role, its_column, sequence_changed, sequence_change, altered_sequence, view_and_body, create_view, replace_view, begun_by, bracketed, index_made, index_body, index_parts, index_of, unique_index_of, create_index, create_unique_index, view_branch, more_relations, Shortens, one_laws, one_begins, seen_avoids, mark_begins, Check, Owner, check_body, primary_of, primary_body, unique_of, unique_body, foreign_of, foreign_body, constraint_body, added_of, added, default_of, new_default, own_change, table_change, table_changed, only_value, only_name, other_value, other_name, other_path, in_schema, key_word, behind_only, only_changed, altered_table, listed_laws, CheckDef, create_enum, enum_of, attributes, typed, checking, domain_of, create_domain, more_elements, elements, parted, table_elements, table_of, create_table, named_check_is, checks_apart, typed_laws, attributes_end, sign_end, column_ends, elements_apart, named_check_free, LexFault, QName, lexemes, collected, whole_number_laws, zero_below, no_count_first, literal_path, truth, value_of_sequence, set_value, some_columns, copy_from, create_role, alter_role, create_database, create_schema, created, new_check, its_owner, one_more_check, domain_changed, domain_change, altered_domain, name_and_owner, path_and_owner, owned_name, owned_path, altered, set_config, catalog_calls, selected, equals_or_to, setting, more_commands, command, statement, word_like, sign_like}
+use Rattle.ddl_parts.proofs.Lemmas.{listed}
+use Rattle.ddl_parts.specs.Parts.{one_more}
+use Rattle.ddl_admin.proofs.{CommentLaws.comment_on_laws, RoleLaws.create_role_laws, RoleLaws.alter_role_laws, DatabaseLaws.create_database_laws}
 use Rattle.ddl_laws.proofs.Computing.{reads}
-use Rattle.ddl_read.specs.declared.rests.RestSpot.{RestSpot}
-use Rattle.ddl_read.specs.declared.rests.RestSpot.TheVariants.{Begin, Deferrable, Initially, Foreign, FirstOn, Update, UpdateNo, UpdateSet, SecondOn, Delete, DeleteNo, DeleteSet, Opened, Named}
-use Rattle.ddl_read.specs.Columns.{more_names, names_of, columns}
-use Rattle.ddl_read.specs.Rests.{only_if, either, rest_step, rest_done, rest_goes_on, resting, key_rest, begins_foreign, foreign_rest}
 use Rattle.ddl_read.proofs.ColumnLaws.{names_apart}
-use Rattle.sql_lex.specs.declared.token.TokenKind.TheVariants.{Number, Literal}
-use Rattle.ddl_numbers.specs.Numbers.{digits_below, whole_number}
-use Rattle.ddl_read.specs.declared.sequences.Field.TheVariants.{First, Step}
-use Rattle.ddl_read.specs.declared.sequences.Open.TheVariants.{Both, Lower, Upper}
-use Rattle.ddl_read.specs.declared.sequences.ClauseSpot.{ClauseSpot}
-use Rattle.ddl_read.specs.declared.sequences.ClauseSpot.TheVariants.{Between, BehindAs, BehindStart, BehindIncrement, BehindNo, Due, BehindMinus}
-use Rattle.ddl_read.specs.declared.sequences.Clauses.{Clauses}
-use Rattle.ddl_read.specs.SequenceGrammar.{with_number, reached, clause_first, kind_first, usual_first, step_first, is_between, begins_clause, first_reached, clausing, clauses_of, sequence_clauses, sequence_of, create_sequence}
-use Rattle.ddl_parts.specs.Expressions.{expression, nested, nest_step, nest_done, ends_run, default_text, is_end_kind}
-use Rattle.ddl_parts.specs.declared.runs.Spot.TheVariants.{Inside}
-use Rattle.ddl_parts.proofs.Steps.{starts-append, starts_again}
-use Rattle.ddl_parts.proofs.Told.{Tells, Fits, left_of, told, lawful}
-use Rattle.ddl_parts.proofs.RunLaws.{expression_laws, expression_ends, expression_ends_bracket, default_text_laws, run_ends}
-use Rattle.ddl_parts.proofs.Tables.{one_of_laws, one_of_avoids, one_of_avoids_others}
-use Rattle.ddl_read.specs.Clauses.{semicolon, new_owner}
-use Rattle.ddl_read.specs.RelationGrammar.{owned_by, its_role, its_column, sequence_changed, sequence_change, altered_sequence, view_and_body, create_view, replace_view, begun_by, bracketed, index_parts, index_of, unique_index_of, create_index, create_unique_index, view_branch, more_relations}
-use Rattle.ddl_parts.proofs.Simple.{one_laws, one_begins, seen_avoids, mark_begins}
-use Rattle.ddl_read.specs.declared.alters.Constraint.TheVariants.{Check}
-use Rattle.ddl_read.specs.declared.alters.TableChange.TheVariants.{Owner}
-use Rattle.ddl_read.specs.AlterGrammar.{check_body, primary_of, primary_body, unique_of, unique_body, foreign_of, foreign_body, constraint_body, added_of, added, default_of, new_default, own_change, table_change, table_changed, only_value, only_name, other_value, other_name, path_of, other_path, in_schema, key_word, behind_only, only_changed, altered_table}
-use Rattle.ddl_parts.proofs.Listing.{listed_laws}
-use Rattle.cat_model.specs.declared.table.CheckDef.{CheckDef}
-use Rattle.ddl_read.specs.TableGrammar.{create_enum, enum_of, attributes, typed, checking, domain_of, create_domain, more_elements, elements, parted, table_elements, table_of, create_table}
-use Rattle.ddl_read.proofs.TableLaws.{named_check_is, checks_apart, typed_laws, attributes_end, sign_end, column_ends, elements_apart, named_check_free}
-use Rattle.sql_lex.specs.declared.fault.LexFault.{LexFault}
-use Rattle.cat_model.specs.declared.object.QName.{QName}
-use Rattle.ddl_parts.specs.Pieces.{lexemes}
-use Rattle.ddl_parts.specs.Collecting.{collected}
-use Rattle.ddl_numbers.proofs.NumberLaws.{whole_number_laws, zero_below}
-use Rattle.ddl_read.specs.ValueGrammar.{if_last, whole_path, path_in, path_value, literal_path, truth, value_of_sequence, set_value}
-use Rattle.ddl_read.specs.CopyGrammar.{some_columns, copy_from}
+use Rattle.ddl_read.specs.{declared.rests.RestSpot.TheVariants.Foreign, declared.rests.RestSpot.TheVariants.Ended, Rests.only_if, SequenceGrammar.is_between, Clauses.semicolon, AlterGrammar.path_of as its_path}
 use Rattle.ddl_rights.proofs.GrantLaws.{granted_laws, revoked_laws}
-use Rattle.ddl_admin.specs.Roles.{create_role, alter_role}
-use Rattle.ddl_admin.specs.Databases.{create_database}
-use Rattle.ddl_admin.proofs.CommentLaws.{comment_on_laws}
-use Rattle.ddl_admin.proofs.RoleLaws.{create_role_laws, alter_role_laws}
-use Rattle.ddl_admin.proofs.DatabaseLaws.{create_database_laws}
-use Rattle.ddl_read.specs.Grammar.{create_schema, created, new_check, its_owner, one_more_check, domain_changed, domain_change, altered_domain, name_and_owner, path_and_owner, owned_name, owned_path, altered, set_config, catalog_calls, selected, equals_or_to, setting, more_commands, command, statement}
 use Rattle.cat_model.specs.declared.stmt.Stmt.TheVariants as stmt
 use Rattle.cat_model.specs.declared.grant.Owned.TheVariants as owned
 
@@ -103,8 +50,31 @@ rest_covers : (s : RestSpot) (t : Lexeme) → rest_done s ≡ true → rest_goes
 unfolding rest_step rest_done rest_goes_on
 rest_covers s t d e = grind arith
 
+-- it goes by words and signs, but where it takes a name
+rest_same : (s : RestSpot) (t : Lexeme) → IsTooLong t → (s ≡ Opened → ⊥) → (rest_step s (shortened t) ≡ rest_step s t) × (rest_long s (shortened t) ≡ false)
+unfolding rest_step rest_long
+rest_same Opened t long other = absurd (other refl)
+rest_same Ended t long other = (refl, refl)
+rest_same s t long other = (simp (word_like t long, sign_like t), refl)
+
+rest_shorter : (m s : RestSpot) (t : Lexeme) → rest_step s t ≡ None → Shorter (resting m) s t
+unfolding rest_step rest_long rest_done
+rest_shorter m Opened t none = by (name_value t) refl none
+  where
+    by : (r : Result (List ℕ) Bool) → name_value t ≡ r → if_name r Named ≡ None → Shorter (resting m) Opened t
+    by (Ok n) is e = absurd cc
+    by (Err long) is e = record {
+      undone = λ l. refl;
+      takes = λ l. (let h = name_shortens.long t (is ∙ ap failed (sym (ap is_long_by is) ∙ l)) in (h.0, (Named, ap (λ r. if_name r Named) h.1.1)));
+      stays = λ l long'. (let h = name_shortens.none t long' (is ∙ ap failed (sym (ap is_long_by is) ∙ l)) in (ap (λ r. if_name r Named) h, ap is_long_by h));
+    }
+      where
+        failed : Bool → Result (List ℕ) Bool
+        failed b = Err b
+rest_shorter m s t none = record { undone = λ l. absurd cc; takes = λ l. absurd cc; stays = λ l long. (let h = rest_same s t long (λ e. absurd cc) in (h.0 ∙ none, h.1)) }
+
 resting_ends : (s : RestSpot) → CanEnd (resting s)
-resting_ends s = record { finish = rest_finish; last = λ x. (rest_ended s x).0; finished = λ x. (rest_ended s x).1; done = λ x. (rest_ended s x).2; covers = rest_covers }
+resting_ends s = record { finish = rest_finish; last = λ x. (rest_ended s x).0; finished = λ x. (rest_ended s x).1; done = λ x. (rest_ended s x).2; covers = rest_covers; shorter = rest_shorter s }
 
 start_goes : (s x : RestSpot) (us : List Lexeme) (last : RestSpot) (b : Bool) → run (resting s) (only_if b x) us ≡ Some last → b ≡ true
 start_goes s x us last true e = refl
@@ -129,16 +99,20 @@ foreign_begins : Begins begins_foreign (runs_of (resting Foreign))
 unfolding rest_step rest_done begins_foreign
 foreign_begins = begins_by Foreign begins_foreign refl (λ t us last. one_goes Foreign FirstOn Deferrable us last (is_word (codes "on") t) (is_word (codes "deferrable") t))
 
-some_rest : (s : RestSpot) (test : Lexeme → Bool) → Begins test (runs_of (resting s)) → Headed test (seen source (runs_of (resting s)))
-some_rest s test begins = let h : Headed test (runs_of (resting s)) = record { laws = machine_laws (resting s) (resting_ends s); begins = begins } in headed_seen source h
+some_rest : (s : RestSpot) (test : Lexeme → Bool) → Agrees test → Begins test (runs_of (resting s)) → Headed test (seen source (runs_of (resting s)))
+some_rest s test agrees begins = let h : Headed test (runs_of (resting s)) = record { laws = machine_laws (resting s) (resting_ends s); begins = begins; agrees = agrees } in headed_seen source h
 
 key_rest_laws : Lawful key_rest
 unfolding key_rest
-key_rest_laws = lawful_unless [] (some_rest Begin (is_word (codes "deferrable")) rest_begins)
+key_rest_laws = lawful_unless [] (some_rest Begin (is_word (codes "deferrable")) (word_agrees (codes "deferrable") refl) rest_begins)
+
+foreign_agrees : Agrees begins_foreign
+unfolding begins_foreign
+foreign_agrees t long = simp (word_like t long)
 
 foreign_rest_laws : Lawful foreign_rest
 unfolding foreign_rest
-foreign_rest_laws = lawful_unless [] (some_rest Foreign begins_foreign foreign_begins)
+foreign_rest_laws = lawful_unless [] (some_rest Foreign begins_foreign foreign_agrees foreign_begins)
 
 ends_goes_on : (t : Lexeme) → is_sign 59 t ≡ true → rest_goes_on t ≡ false
 unfolding rest_goes_on
@@ -195,6 +169,17 @@ unfolding step_first
 covers_at Between c t d e = none_begins c t e
 covers_at spot c t d e = absurd cc
 
+-- clauses go by words and numbers, and none of their tokens is too long
+clauses_same : (spot : ClauseSpot) (c : Clauses) (t : Lexeme) → IsTooLong t → step_first (reached c spot) (shortened t ∷ []) ≡ step_first (reached c spot) (t ∷ [])
+unfolding step_first clause_first kind_first usual_first
+clauses_same Between c t long = simp (word_like t long)
+clauses_same (BehindNo Both) c t long = simp (word_like t long)
+clauses_same (BehindNo Lower) c t long = simp (word_like t long)
+clauses_same (BehindNo Upper) c t long = simp (word_like t long)
+clauses_same (Due field) c t long = simp (sign_like t, no_count_first (2 ^ 63) t long)
+clauses_same (BehindMinus field) c t long = simp (no_count_first (2 ^ 63 + 1) t long)
+clauses_same spot c t long = simp (word_like t long)
+
 clausing_ends : CanEnd clausing
 clausing_ends = record {
   finish = λ r. finish_at r.spot;
@@ -202,23 +187,14 @@ clausing_ends = record {
   finished = λ r. (ended_at r.spot r.clauses).1;
   done = λ r. (ended_at r.spot r.clauses).2;
   covers = λ r t d e. covers_at r.spot r.clauses t d e;
+  shorter = λ r t none. record { undone = λ l. absurd cc; takes = λ l. absurd cc; stays = λ l long. (clauses_same r.spot r.clauses t long ∙ none, refl) };
 }
 
 -- ---- the statement
 
 clauses_end : Apart (is_sign 59) sequence_clauses.goes_on
 unfolding sequence_clauses
-clauses_end t e =
-    rw (
-      sign_no_word 59 (codes "as") t e,
-      sign_no_word 59 (codes "start") t e,
-      sign_no_word 59 (codes "increment") t e,
-      sign_no_word 59 (codes "no") t e,
-      sign_no_word 59 (codes "minvalue") t e,
-      sign_no_word 59 (codes "maxvalue") t e,
-      sign_no_word 59 (codes "cache") t e,
-      sign_no_word 59 (codes "cycle") t e,
-    ) refl
+clauses_end t e = simp (sign_no_word 59)
 
 create_sequence_laws : Lawful create_sequence
 unfolding create_sequence sequence_clauses
@@ -230,8 +206,8 @@ create_sequence_laws =
 
 -- A part has the laws where the next token passes a test, if it takes a token at least, and some of its spellings begin
 -- with each token that passes.
-begun_by_laws : {A : Type 0} (test : Lexeme → Bool) (p : Part A) → Lawful p → ((v : A) → p.Spells v [] → ⊥) → ((t : Lexeme) → test t ≡ true → (v : A) × (more : List Lexeme) × p.Spells v (t ∷ more)) → (t : Lexeme) → test t ≡ true → Lawful (begun_by test p)
-begun_by_laws {A} test p lp some goes x passes =
+begun_by_laws : {A : Type 0} (test : Lexeme → Bool) → Agrees test → (p : Part A) → Lawful p → ((v : A) → p.Spells v [] → ⊥) → ((t : Lexeme) → test t ≡ true → (v : A) × (more : List Lexeme) × p.Spells v (t ∷ more)) → (t : Lexeme) → test t ≡ true → Lawful (begun_by test p)
+begun_by_laws {A} test agrees p lp some goes x passes =
     lawful (λ ts. tells ts (starts test ts) refl) (λ v front rest spells free. chosen (front ++ rest) true (starts-append test front rest spells.0) ∙ lp.only v front rest spells.1 free)
     (record { value = w.0; tokens = x ∷ w.1; spells = (passes, w.2) })
   where
@@ -250,12 +226,12 @@ begun_by_laws {A} test p lp some goes x passes =
 
     -- where reading stops something was read before
     moved : (s : Stop) (ts front : List Lexeme) → starts test ts ≡ true → ts ≡ front ++ s.rest
-        → ((t : Lexeme) (behind : List Lexeme) → s.rest ≡ t ∷ behind → (other : List Lexeme) → p.read (front ++ t ∷ other) ≡ Err (record { long = s.long; rest = t ∷ other })) → starts test front ≡ true
+        → ((t : Lexeme) (behind : List Lexeme) → s.rest ≡ t ∷ behind → (u : Lexeme) → Like s.long t u → (other : List Lexeme) → p.read (front ++ u ∷ other) ≡ Err (record { long = s.long; rest = u ∷ other })) → starts test front ≡ true
     moved s [] [] is parts local = absurd cc
     moved s (t ∷ ts) [] is parts local =
         let w = goes t is in
         let read : p.read (t ∷ w.1) ≡ Ok (w.0, []) = ap p.read (sym (append-nil (t ∷ w.1))) ∙ lp.only w.0 (t ∷ w.1) [] w.2 refl in
-        absurd (not_both (p.read (t ∷ w.1)) w.0 [] (record { long = s.long; rest = t ∷ w.1 }) read (local t ts (sym parts) w.1))
+        absurd (not_both (p.read (t ∷ w.1)) w.0 [] (record { long = s.long; rest = t ∷ w.1 }) read (local t ts (sym parts) t (inl refl) w.1))
     moved s ts (t ∷ front) is parts local = ap (starts test) (sym parts) ∙ is
 
     fits : (ts : List Lexeme) (r : Reading A) → starts test ts ≡ true → (f : Tells p ts r) → Fits (begun_by test p).Spells f.front r
@@ -263,12 +239,13 @@ begun_by_laws {A} test p lp some goes x passes =
     fits ts (Err s) e f = (f.fits.0, f.fits.1, (starts-append test f.front f.fits.1 (moved s ts f.front e f.parts f.local), f.fits.2))
 
     tells : (ts : List Lexeme) (b : Bool) → starts test ts ≡ b → Tells (begun_by test p) ts (choose_at b (p.read ts) (stop ts))
-    tells ts false e = record { front = []; parts = refl; fits = (w.0, x ∷ w.1, (passes, w.2)); local = λ t behind is other. chosen (t ∷ other) false (ap (starts test) (sym is) ∙ e) }
+    tells ts false e = record { front = []; parts = refl; fits = (w.0, x ∷ w.1, (passes, w.2)); local = λ t behind is u like other. chosen (u ∷ other) false (passes_like test agrees false t u like ∙ ap (starts test) (sym is) ∙ e); named = λ e. absurd cc }
     tells ts true e = let f = told lp ts (p.read ts) refl in record {
       front = f.front;
       parts = f.parts;
       fits = fits ts (p.read ts) e f;
-      local = λ t behind is other. chosen (f.front ++ t ∷ other) true (starts_again test true ts f.front (left_of (p.read ts)) t behind other e f.parts is) ∙ f.local t behind is other;
+      local = λ t behind is u like other. chosen (f.front ++ u ∷ other) true (starts_again test agrees true ts f.front (left_of (p.read ts)) t behind e f.parts is (long_of (p.read ts)) u like other) ∙ f.local t behind is u like other;
+      named = λ l. (let n = f.named l in named_by n n.value n.more (starts_kept test f.front n.token (shortened n.token) n.behind n.more (agrees n.token n.long) ∙ ap (starts test) (sym (f.parts ∙ ap (λ (r : List Lexeme). f.front ++ r) n.is)) ∙ e, n.spells));
     }
 
 -- what a bracket opens is closed again
@@ -286,18 +263,22 @@ some_token v spells =
     let same : (nested false false).start ≡ runs.last = cc runs.runs in
     absurd (let d = runs.done in let e = ap nest_done same ∙ d in cc)
 
+pub index_body_laws : Lawful index_body
+unfolding index_body bracketed
+index_body_laws =
+    let bracket = begun_by_laws (is_sign 40) (sign_agrees 40) expression expression_laws some_token opened (a_sign 40) (sign_is 40) in
+    let method = lawful_next name_laws bracket (λ t. refl) in
+    lawful_seen index_made (lawful_next name_laws (lawful_word (codes "on") refl (lawful_next qualified_laws (lawful_word (codes "using") refl method) (λ t. refl))) (λ t. refl))
+
 index_parts_laws : Lawful index_parts
-unfolding index_parts bracketed
-index_parts_laws =
-    let bracket = begun_by_laws (is_sign 40) expression expression_laws some_token opened (a_sign 40) (sign_is 40) in
-    let method = lawful_next name_laws (lawful_ended 59 bracket expression_ends) (λ t. refl) in
-    lawful_next name_laws (lawful_word (codes "on") (lawful_next qualified_laws (lawful_word (codes "using") method) (λ t. refl))) (λ t. refl)
+unfolding index_body bracketed
+index_parts_laws = lawful_ended 59 index_body_laws expression_ends
 
 -- ---- ALTER TABLE
 
 new_owner_is : Headed (is_word (codes "owner")) new_owner
 unfolding new_owner
-new_owner_is = headed_word (codes "owner") (lawful_word (codes "to") (lawful_ended 59 name_laws (free semicolon)))
+new_owner_is = headed_word (codes "owner") refl (lawful_word (codes "to") refl (lawful_ended 59 name_laws (free semicolon)))
 
 keyed_laws : Lawful (columns then key_rest)
 keyed_laws = lawful_next columns_are.laws key_rest_laws columns_free
@@ -306,11 +287,11 @@ pub constraint_body_laws : Lawful constraint_body
 unfolding constraint_body check_body primary_body unique_body foreign_body
 constraint_body_laws =
     let check = lawful_seen Check (lawful_sign 40 (lawful_ended 41 expression_laws expression_ends_bracket)) in
-    let parents = lawful_word (codes "references") (lawful_next qualified_laws (lawful_next columns_are.laws foreign_rest_laws columns_free) (λ t. refl)) in
-    let foreign = lawful_seen foreign_of (lawful_word (codes "key") (lawful_next columns_are.laws parents columns_free)) in
+    let parents = lawful_word (codes "references") refl (lawful_next qualified_laws (lawful_next columns_are.laws foreign_rest_laws columns_free) (λ t. refl)) in
+    let foreign = lawful_seen foreign_of (lawful_word (codes "key") refl (lawful_next columns_are.laws parents columns_free)) in
     one_of_laws (record { key = codes "check"; part = check_body })
     (record { key = codes "primary"; part = primary_body } ∷ record { key = codes "unique"; part = unique_body } ∷ record { key = codes "foreign"; part = foreign_body } ∷ [])
-    refl (check also lawful_seen primary_of (lawful_word (codes "key") keyed_laws) also lawful_seen unique_of keyed_laws also foreign)
+    refl (check also lawful_seen primary_of (lawful_word (codes "key") refl keyed_laws) also lawful_seen unique_of keyed_laws also foreign)
 
 constraint_ends : Apart semicolon constraint_body.goes_on
 unfolding constraint_body check_body primary_body unique_body foreign_body
@@ -323,10 +304,10 @@ default_ends = run_ends true 59 refl
 own_change_laws : Lawful own_change
 unfolding own_change added new_default
 own_change_laws =
-    let constraint = lawful_seen added_of (lawful_word (codes "constraint") (lawful_next name_laws (lawful_ended 59 constraint_body_laws constraint_ends) (λ t. refl))) in
-    let value = lawful_word (codes "set") (lawful_word (codes "default") (lawful_ended 59 default_text_laws default_ends)) in
+    let constraint = lawful_seen added_of (lawful_word (codes "constraint") refl (lawful_next name_laws (lawful_ended 59 constraint_body_laws constraint_ends) (λ t. refl))) in
+    let value = lawful_word (codes "set") refl (lawful_word (codes "default") refl (lawful_ended 59 default_text_laws default_ends)) in
     one_of_laws (record { key = codes "add"; part = added }) (record { key = codes "alter"; part = new_default } ∷ []) refl
-    (constraint also lawful_seen default_of (lawful_word (codes "column") (lawful_next name_laws value (λ t. refl))))
+    (constraint also lawful_seen default_of (lawful_word (codes "column") refl (lawful_next name_laws value (λ t. refl))))
 
 own_change_avoids : Avoids (is_word (codes "owner")) own_change
 unfolding own_change
@@ -351,15 +332,15 @@ other_is t v e = grind arith
 
 only_name_is : Headed (is_word (codes "only")) only_name
 unfolding only_value is_word is_keyword_of name_value name_in name_of is_utf8 chars encode
-only_name_is = record { laws = one_laws only_value (a_word (codes "only")) (codes "only") refl; begins = one_begins only_value (is_word (codes "only")) (λ t v e. (only_is t v e).0) }
+only_name_is = record { agrees = word_agrees (codes "only") refl; laws = one_laws only_value (guarded_shortens (is_word (codes "only")) name_value (λ t. Err false) only_value (word_agrees (codes "only") refl) name_shortens refused_shortens (λ t. refl)) (a_word (codes "only")) (codes "only") refl; begins = one_begins only_value (is_word (codes "only")) (λ t v e. (only_is t v e).0) }
 
 other_name_is : Headed is_no_only other_name
 unfolding other_value is_word is_keyword_of name_value name_in name_of is_utf8 chars encode
-other_name_is = record { laws = one_laws other_value (a_word (codes "a")) (codes "a") refl; begins = one_begins other_value is_no_only (λ t v e. ap not (other_is t v e).0) }
+other_name_is = record { agrees = λ t long. ap not (word_agrees (codes "only") refl t long); laws = one_laws other_value (guarded_shortens (is_word (codes "only")) (λ t. Err false) name_value other_value (word_agrees (codes "only") refl) refused_shortens name_shortens (λ t. refl)) (a_word (codes "a")) (codes "a") refl; begins = one_begins other_value is_no_only (λ t v e. ap not (other_is t v e).0) }
 
 other_path_is : Headed is_no_only other_path
 unfolding other_path
-other_path_is = headed_seen path_of (headed_next other_name_is (lawful_sign 46 name_laws) (λ t. refl))
+other_path_is = headed_seen its_path (headed_next other_name_is (lawful_sign 46 name_laws) (λ t. refl))
 
 name_no_sign : (b : ℕ) → Apart is_name (is_sign b)
 name_no_sign b t e = by (is_sign b t) refl
@@ -371,7 +352,7 @@ name_no_sign b t e = by (is_sign b t) refl
 altered_table_laws : Lawful altered_table
 unfolding altered_table other_path behind_only
 altered_table_laws =
-    let path : Headed is_name qualified = record { laws = qualified_laws; begins = qualified_begins } in
+    let path : Headed is_name qualified = record { laws = qualified_laws; begins = qualified_begins; agrees = name_agrees } in
     let schema = headed_seen (λ x. in_schema x.0 x.1) (headed_sign 46 (lawful_next name_laws table_change_laws (λ t. refl))) in
     let behind = lawful_either schema (headed_seen (λ x. key_word x.0 x.1) (headed_next path own_change_laws (λ t. refl))) (name_no_sign 46) in
     lawful_either (headed_seen (λ x. only_changed x.0 x.1) (headed_next only_name_is behind (λ t. refl)))
@@ -432,20 +413,37 @@ bracket_no_elements t e = rw (sign_no_name 41 t e, signs_apart 41 44 refl t e, c
 abbrev a_literal_path : Lexeme
 a_literal_path = record { gap = 32 ∷ []; kind = Literal; word = 39 ∷ 97 ∷ 46 ∷ 98 ∷ 39 ∷ []; start = 0 }
 
+short_path : (k : TokenKind) (w : List ℕ) → path_of (text_in (literal_of k w)) ≡ Err true → (q : QName) × (path_of (text_in (literal_of k (short_word k))) ≡ Ok q)
+unfolding reads
+short_path Literal w e = (record { schema = codes "a"; name = codes "a" }, refl)
+short_path x w e = absurd cc
+
+path_shortens : Shortens path_value
+unfolding path_value literal_value
+path_shortens = record { long = λ t e. (inr e, short_path t.kind t.word e); none = none }
+  where
+    none : (t : Lexeme) → IsTooLong t → path_value t ≡ Err false → path_value (shortened t) ≡ Err false
+    none t (inl e) f = ap path_of (word_no_text t e)
+    none t (inr e) f = absurd (cc (e, f))
+
 literal_path_laws : Lawful literal_path
 unfolding reads
-literal_path_laws = one_laws path_value a_literal_path (record { schema = codes "a"; name = codes "b" }) refl
+literal_path_laws = one_laws path_value path_shortens a_literal_path (record { schema = codes "a"; name = codes "b" }) refl
 
 abbrev read_as : QName → List Lexeme → Reading QName
 read_as q rest = Ok (q, rest)
 
-whole_is : (r : Reading QName) (q : QName) → whole_path r ≡ Ok q → r ≡ Ok (q, [])
+whole_is : (r : Reading QName) (q : QName) → whole_path false r ≡ Ok q → r ≡ Ok (q, [])
 whole_is (Ok x) q e = by x.1 refl e
   where
-    by : (ts : List Lexeme) → x.1 ≡ ts → if_last x.0 ts ≡ Ok q → read_as x.0 x.1 ≡ Ok (q, [])
+    by : (ts : List Lexeme) → x.1 ≡ ts → if_last false x.0 ts ≡ Ok q → read_as x.0 x.1 ≡ Ok (q, [])
     by [] is e = let same : x.0 ≡ q = cc in ap (λ (p : QName). read_as p x.1) same ∙ ap (read_as q) is
     by (t ∷ ts) is e = absurd cc
 whole_is (Err s) q e = absurd cc
+
+fault_is : (r : Reading QName) (q : QName) → whole_path true r ≡ Ok q → ⊥
+fault_is (Ok x) q e = absurd cc
+fault_is (Err s) q e = absurd cc
 
 -- a text's path is what all of its tokens spell, with no fault behind them
 abbrev pub SpellsPath : List ℕ → QName → Type 0
@@ -458,8 +456,8 @@ path_found text q e = by (collected text 0).fault refl e
     ts : List Lexeme
     ts = lexemes text (collected text 0).pieces
 
-    by : (o : Option LexFault) → (collected text 0).fault ≡ o → cond (is_some o) (Err false) (whole_path (qualified.read ts)) ≡ (let r : Result QName Bool = Ok q in r) → SpellsPath text q
-    by (Some f) is e = absurd cc
+    by : (o : Option LexFault) → (collected text 0).fault ≡ o → whole_path (is_some o) (qualified.read ts) ≡ Ok q → SpellsPath text q
+    by (Some f) is e = absurd (fault_is (qualified.read ts) q e)
     by None is e =
         let f = qualified_laws.found ts q [] (whole_is (qualified.read ts) q e) in
         (is, subst (qualified.Spells q) (sym (f.parts ∙ append-nil f.front)) f.spells)
@@ -469,13 +467,13 @@ unfolding path_in
 path_only text q h =
     let ts = lexemes text (collected text 0).pieces in
     let read : qualified.read ts ≡ Ok (q, []) = ap qualified.read (sym (append-nil ts)) ∙ qualified_laws.only q ts [] h.1 refl in
-    rw h.0 (ap whole_path read)
+    rw h.0 (ap (whole_path false) read)
 
 -- ---- the statement
 
 truth_laws : Lawful truth
 unfolding truth
-truth_laws = lawful_either (headed_seen (λ u. true) (one_word (codes "true"))) (headed_seen (λ u. false) (one_word (codes "false"))) (words_apart (codes "false") (codes "true") refl)
+truth_laws = lawful_either (headed_seen (λ u. true) (one_word (codes "true") refl)) (headed_seen (λ u. false) (one_word (codes "false") refl)) (words_apart (codes "false") (codes "true") refl)
 
 set_value_laws : Lawful set_value
 unfolding set_value whole_number truth
@@ -490,17 +488,17 @@ created_laws : Lawful created
 unfolding created create_schema create_enum create_domain typed create_table table_elements create_view replace_view create_index create_unique_index
 created_laws =
     let schema = lawful_seen stmt.CreateSchema (lawful_ended 59 name_laws (free semicolon)) in
-    let labels = lawful_ended 59 (lawful_ended 41 (listed_laws is_literal literal literal_laws literal_begins (free comma)) labels_end) (free semicolon) in
-    let enum = lawful_seen enum_of (lawful_next qualified_laws (lawful_word (codes "as") (lawful_word (codes "enum") (lawful_sign 40 labels))) (λ t. refl)) in
+    let labels = lawful_ended 59 (lawful_ended 41 (listed_laws is_literal literal_agrees literal literal_laws literal_begins (free comma)) labels_end) (free semicolon) in
+    let enum = lawful_seen enum_of (lawful_next qualified_laws (lawful_word (codes "as") refl (lawful_word (codes "enum") refl (lawful_sign 40 labels))) (λ t. refl)) in
     let checked = lawful_ended 59 (many_laws (is_word (codes "constraint")) checking checks_apart) (sign_no_word 59 (codes "constraint")) in
     let base = lawful_then typed_laws checked (checks_avoid attributes.goes_on constraint_no_attributes semicolon_no_attributes) in
-    let domain = lawful_seen domain_of (lawful_next qualified_laws (lawful_word (codes "as") base) (λ t. refl)) in
+    let domain = lawful_seen domain_of (lawful_next qualified_laws (lawful_word (codes "as") refl base) (λ t. refl)) in
     let body = lawful_ended 59 (lawful_ended 41 (lawful_seen parted (many_laws more_elements elements elements_apart)) bracket_no_elements) (free semicolon) in
     let table = lawful_seen table_of (lawful_next qualified_laws (lawful_sign 40 body) (λ t. refl)) in
-    let viewed : Lawful view_and_body = lawful_next qualified_laws (lawful_word (codes "as") (lawful_ended 59 expression_laws expression_ends)) (λ t. refl) in
+    let viewed : Lawful view_and_body = lawful_next qualified_laws (lawful_word (codes "as") refl (lawful_ended 59 expression_laws expression_ends)) (λ t. refl) in
     let view = lawful_seen (λ x. stmt.CreateView x.0 x.1) viewed in
-    let replaced = lawful_word (codes "replace") (lawful_word (codes "view") (lawful_seen (λ x. stmt.ReplaceView x.0 x.1) viewed)) in
-    let unique = lawful_word (codes "index") (lawful_seen unique_index_of index_parts_laws) in
+    let replaced = lawful_word (codes "replace") refl (lawful_word (codes "view") refl (lawful_seen (λ x. stmt.ReplaceView x.0 x.1) viewed)) in
+    let unique = lawful_word (codes "index") refl (lawful_seen unique_index_of index_parts_laws) in
     one_of_laws (record { key = codes "schema"; part = create_schema })
     (record { key = codes "type"; part = create_enum } ∷ record { key = codes "domain"; part = create_domain } ∷ record { key = codes "table"; part = create_table }
     ∷ record { key = codes "role"; part = create_role } ∷ record { key = codes "database"; part = create_database } ∷ view_branch ∷ more_relations)
@@ -513,11 +511,11 @@ unfolding altered name_and_owner path_and_owner altered_domain domain_change new
 altered_laws =
     let name : Lawful name_and_owner = lawful_next name_laws new_owner_is.laws (λ t. refl) in
     let path : Lawful path_and_owner = lawful_next qualified_laws new_owner_is.laws (λ t. refl) in
-    let check = headed_word (codes "add") (lawful_ended 59 named_check_is.laws (λ t e. named_check_free t)) in
+    let check = headed_word (codes "add") refl (lawful_ended 59 named_check_is.laws (λ t e. named_check_free t)) in
     let changed = lawful_either (headed_seen its_owner new_owner_is) (headed_seen one_more_check check) (words_apart (codes "add") (codes "owner") refl) in
     let domain = lawful_seen (λ x. domain_changed x.0 x.1) (lawful_next qualified_laws changed (λ t. refl)) in
     let column = lawful_next qualified_laws (lawful_sign 46 (lawful_ended 59 name_laws (free semicolon))) (λ t. refl) in
-    let given = lawful_either (headed_seen its_role new_owner_is) (headed_seen its_column (headed_word (codes "owned") (lawful_word (codes "by") column))) (words_apart (codes "owned") (codes "owner") refl) in
+    let given = lawful_either (headed_seen its_role new_owner_is) (headed_seen its_column (headed_word (codes "owned") refl (lawful_word (codes "by") refl column))) (words_apart (codes "owned") (codes "owner") refl) in
     let sequence = lawful_seen (λ x. sequence_changed x.0 x.1) (lawful_next qualified_laws given (λ t. refl)) in
     one_of_laws (owned_name (codes "schema") owned.Schema)
     (owned_path (codes "type") owned.Type ∷ record { key = codes "domain"; part = altered_domain } ∷ record { key = codes "table"; part = altered_table }
@@ -536,16 +534,16 @@ some_columns_ends t e = rw (columns_free t, word_no_sign (codes "from") 40 t e) 
 command_laws : Lawful command
 unfolding command selected set_config setting equals_or_to copy_from some_columns columns
 command_laws =
-    let not_local = lawful_worded (codes "false") (lawful_ended 44 literal_laws (free (is_sign 44))) (free (is_word (codes "false"))) in
+    let not_local = lawful_worded (codes "false") refl (lawful_ended 44 literal_laws (free (is_sign 44))) (free (is_word (codes "false"))) in
     let value = lawful_ended 59 (lawful_ended 41 not_local (free (is_sign 41))) (free semicolon) in
     let config = lawful_seen (λ x. stmt.SetConfig x.0 x.1) (lawful_sign 40 (lawful_next literal_laws (lawful_sign 44 value) (λ t. refl))) in
     let calls : Lawful catalog_calls = one_of_laws (record { key = codes "set_config"; part = set_config }) (record { key = codes "setval"; part = set_value } ∷ []) refl (config also set_value_laws) in
-    let equals : Lawful equals_or_to = lawful_either (one_sign 61) (one_word (codes "to")) (word_no_sign (codes "to") 61) in
+    let equals : Lawful equals_or_to = lawful_either (one_sign 61) (one_word (codes "to") refl) (word_no_sign (codes "to") 61) in
     let set = lawful_seen (λ x. stmt.Set x.0 x.1.1) (lawful_next name_laws (lawful_next equals (lawful_ended 59 expression_laws expression_ends) (λ t. refl)) (λ t. refl)) in
-    let from = lawful_worded (codes "from") (lawful_unless [] columns_are) some_columns_ends in
-    let stdin = lawful_ended 59 (lawful_worded (codes "stdin") from (free (is_word (codes "stdin")))) (free (is_sign 59)) in
+    let from = lawful_worded (codes "from") refl (lawful_unless [] columns_are) some_columns_ends in
+    let stdin = lawful_ended 59 (lawful_worded (codes "stdin") refl from (free (is_word (codes "stdin")))) (free (is_sign 59)) in
     one_of_laws (record { key = codes "create"; part = created }) more_commands refl
-    (created_laws also altered_laws also lawful_word (codes "pg_catalog") (lawful_sign 46 calls) also set also lawful_seen (λ x. stmt.CopyRows x.0 x.1 []) (lawful_next qualified_laws stdin (λ t. refl))
+    (created_laws also altered_laws also lawful_word (codes "pg_catalog") refl (lawful_sign 46 calls) also set also lawful_seen (λ x. stmt.CopyRows x.0 x.1 []) (lawful_next qualified_laws stdin (λ t. refl))
     also granted_laws also revoked_laws also comment_on_laws)
 
 command_avoids : Avoids semicolon command

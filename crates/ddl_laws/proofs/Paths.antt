@@ -1,26 +1,6 @@
 -- A path in a literal: it is UTF-8, and read back where it is a whole text.
-use Rattle.std.proofs.Common.{◌≡◌, ℕ, Bool, true, List, [], ◌∷◌, ◌++◌, append-nil, Result, Ok, Err, refl, sym, ap, subst, ◌∙◌, arith}
-use Rattle.std.specs.Str.{IsUtf8, is_utf8, chars}
-use Rattle.std.proofs.Math.Utf8.{encode}
-use Rattle.std.proofs.lemmas.Bool.{and_parts}
-use Rattle.std.proofs.lemmas.Str.{IsUtf8-append, IsUtf8-from_is_utf8}
-use Rattle.sql_lex.specs.Meaning.{spelling}
-use Rattle.sql_lex.specs.Written.{written_name}
-use Rattle.sql_lex.specs.ReadBack.{token_at, written_kind}
-use Rattle.copy_text.specs.Texts.{IsName}
-use Rattle.cat_model.specs.declared.object.QName.{QName}
-use Rattle.ddl_parts.specs.Lexemes.{Lexeme, is_sign, spelled}
-use Rattle.ddl_parts.specs.Leaves.{literal_value, qualified}
-use Rattle.ddl_parts.specs.Pieces.{lexemes, is_sound}
-use Rattle.ddl_parts.specs.Collecting.{collected}
-use Rattle.ddl_parts.proofs.Slices.{token_sound}
-use Rattle.ddl_write.specs.Paths.{path}
-use Rattle.ddl_read.specs.ValueGrammar.{path_in, path_of, path_value, literal_path}
-use Rattle.ddl_forms.specs.Texts.{IsPath}
-use Rattle.ddl_forms.proofs.Kept.{have_come}
-use Rattle.ddl_forms.proofs.Standing.{Stood, placed, NoSemicolon, collects_all}
-use Rattle.ddl_forms.proofs.Tokens.{name_token, sign_token, Gap, none, a_name, is_single, a_sign, name_means, name_no_sign}
-use Rattle.ddl_forms.proofs.Written.{Written, literal_said, path_as}
+use Rattle.ddl_laws.proofs.Common.{◌≡◌, ℕ, Bool, true, List, [], ◌∷◌, ◌++◌, append-nil, Result, Ok, Err, refl, sym, ap, subst, ◌∙◌, arith, IsUtf8, is_utf8, chars, encode, and_parts, IsUtf8-append, IsUtf8-from_is_utf8, spelling, written_name, token_at, written_kind, IsName, QName, Lexeme, is_sign, spelled, literal_value, qualified, lexemes, is_sound, collected, token_sound, path, path_in, path_of, path_value, literal_path, IsPath, have_come, Stood, placed, NoSemicolon, collects_all, name_token, sign_token, Gap, none, a_name, is_single, name_means, name_no_sign, Written, literal_said, path_as}
+use Rattle.ddl_forms.proofs.Tokens.{a_sign}
 use Rattle.ddl_laws.proofs.GrammarLaws.{path_found, path_only}
 
 pub name_utf8 : (n : List ℕ) → IsName n → IsUtf8 (written_name n)

@@ -1,47 +1,8 @@
 -- A text reads as statements exactly where it is read so, and a fault is the first: reading fails where a text fails at a
 -- fault, at the same place.
-use Rattle.std.proofs.Common.{◌≡◌, ℕ, zero, suc, ◌+◌, Bool, true, false, not, cond, List, [], ◌∷◌, ◌++◌, Option, Some, None, Result, Ok, Err, refl, sym, ap, ◌∙◌, length, ◌-◌, ◌<◌, ◌≤◌, subst, arith, append-nil}
-use Rattle.std.proofs.lemmas.Bool.{and_from}
-use Rattle.sql_lex.specs.declared.token.Token.{Token}
-use Rattle.sql_lex.specs.declared.fault.LexFault.{LexFault}
-use Rattle.sql_lex.specs.Next.{next_token_of}
-use Rattle.cat_model.specs.declared.stmt.Stmt.{Stmt}
-use Rattle.ddl_parts.specs.declared.pieces.Piece.{Piece}
-use Rattle.ddl_parts.specs.Lexemes.{Lexeme, is_sign, is_sign_kind, starts, is_word, start_of}
-use Rattle.ddl_parts.specs.Pieces.{lexeme_of, lexemes, value_of}
-use Rattle.ddl_parts.proofs.Steps.{gives}
-use Rattle.ddl_parts.specs.Collecting.{Collected, collected, collected_within, collected_by}
-use Rattle.ddl_read.specs.Grammar.{semicolon, statement, command, created, altered, set_config, selected, setting, create_schema, altered_domain, domain_change, new_check, name_and_owner, path_and_owner, new_owner}
-use Rattle.ddl_forms.proofs.Tokens.{none as no_gap}
-use Rattle.ddl_laws.proofs.Whole.{statement_as}
-use Rattle.ddl_forms.proofs.Closing.{Closes, only_last, nothing_left}
-use Rattle.ddl_forms.proofs.Kept.{collected_has}
-use Rattle.sql_lex.specs.declared.token.TokenKind.{TokenKind}
-use Rattle.sql_lex.specs.declared.token.TokenKind.TheVariants.{MetaLine}
-use Rattle.sql_lex.specs.Meaning.{spelling, is_keyword_of}
-use Rattle.cat_model.specs.declared.object.QName.{QName}
-use Rattle.sql_lex.proofs.Passing.{lies_behind}
-use Rattle.ddl_parts.specs.Parts.{Stop, Reading}
-use Rattle.ddl_read.specs.declared.located.Located.{Located}
-use Rattle.ddl_read.specs.declared.fault.DdlFault.{DdlFault}
-use Rattle.ddl_read.specs.declared.fault.DdlFault.TheVariants.{Lex}
-use Rattle.ddl_read.specs.RelationGrammar.{altered_sequence, sequence_change, owned_by, create_view, replace_view, index_parts, create_index, create_unique_index}
-use Rattle.ddl_read.specs.SequenceGrammar.{create_sequence}
-use Rattle.ddl_read.specs.CopyGrammar.{copy_from}
-use Rattle.ddl_read.specs.ValueGrammar.{truth, set_value}
-use Rattle.ddl_admin.specs.Comments.{remark_end, name_remarked, path_remarked, column_remarked, constraint_remarked, commented_object, comment_on}
-use Rattle.ddl_admin.specs.Roles.{create_role, alter_role}
-use Rattle.ddl_admin.specs.Databases.{create_database}
-use Rattle.ddl_read.specs.TableGrammar.{create_enum, create_domain, create_table}
-use Rattle.ddl_read.specs.AlterGrammar.{added, new_default, own_change, table_change, behind_only, altered_table}
-use Rattle.ddl_lines.specs.CopyRows.{Copied, rows_behind}
-use Rattle.ddl_lines.specs.MetaLines.{meta_line}
-use Rattle.ddl_lines.proofs.RowTexts.{rows_bounds}
-use Rattle.ddl_read.specs.Reading.{◌>>=◌, Whole, whole, whole_of, with_rows, completed, is_line_kind, line_in, line_at, line_fault, line_said, statements_at, listed, first_start, fault_of, told, no_more, statement_of, statements_by, statements_within, statements_of, fault_by}
-use Rattle.ddl_laws.specs.Readings.{IsStatement, IsLine, line_token, Reads, all_read, one_read, line_read, IsStuck, FailsAt, no_token, stuck, no_rows, bad_line, later, later_line}
-use Rattle.ddl_rights.specs.Grants.{granted, revoked}
-use Rattle.ddl_laws.proofs.GrammarLaws.{statement_laws}
-use Rattle.ddl_read.specs.Faults.{fault_place}
+use Rattle.ddl_laws.proofs.Common.{◌≡◌, ℕ, zero, suc, ◌+◌, Bool, true, false, not, cond, List, [], ◌∷◌, ◌++◌, Option, Some, None, Result, Ok, Err, refl, sym, ap, ◌∙◌, length, ◌-◌, ◌<◌, ◌≤◌, subst, arith, append-nil, length-append, inl, inr, and_from, Token, LexFault, next_token_of, Stmt, Piece, Lexeme, is_sign, is_sign_kind, starts, is_word, start_of, lexeme_of, lexemes, value_of, gives, Collected, collected, collected_within, collected_by, semicolon, statement, command, created, altered, set_config, selected, setting, create_schema, altered_domain, domain_change, new_check, name_and_owner, path_and_owner, none as no_gap, Closes, only_last, nothing_left, collected_has, TokenKind, MetaLine, spelling, is_keyword_of, QName, lies_behind, Stop, Reading, Located, DdlFault, altered_sequence, sequence_change, owned_by, create_view, replace_view, index_body, create_index, create_unique_index, create_sequence, copy_from, truth, set_value, remark_end, name_remarked, path_remarked, column_remarked, constraint_remarked, commented_object, comment_on, create_role, alter_role, create_database, create_enum, create_domain, create_table, added, new_default, own_change, table_change, behind_only, altered_table, Copied, rows_behind, Wrong, meta_line, rows_bounds, ◌>>=◌, Whole, whole, whole_of, with_rows, completed, is_line_kind, line_in, line_at, line_fault, line_said, statements_at, listed, first_start, fault_of, statement_of, statements_by, statements_within, statements_of, fault_by, shortened, Stopped, IsStatement, IsLine, line_token, Reads, all_read, one_read, line_read, IsLongThere, IsStuck, FailsAt, no_token, stuck, no_rows, bad_line, later, later_line, granted, revoked}
+use Rattle.ddl_laws.proofs.{Whole.statement_as, GrammarLaws.statement_laws}
+use Rattle.ddl_read.specs.{Grammar.new_owner, Reading.told, Reading.no_more}
 use Rattle.cat_model.specs.declared.stmt.Stmt.TheVariants as stmt
 
 pub statement_closes : Closes semicolon statement
@@ -90,7 +51,7 @@ err_read limit fault (Err s) f e = (s, refl, sym (let is : fault_of limit fault 
 
 -- nothing goes on with a statement
 left_free : (ts : List Lexeme) → starts statement.goes_on ts ≡ false
-unfolding statement command created altered set_config truth set_value selected setting create_schema create_enum create_domain create_table altered_domain domain_change new_check name_and_owner path_and_owner new_owner added new_default own_change table_change behind_only altered_table altered_sequence sequence_change owned_by create_view replace_view create_index create_unique_index index_parts create_sequence copy_from granted revoked create_role alter_role create_database comment_on commented_object name_remarked path_remarked column_remarked constraint_remarked remark_end
+unfolding statement command created altered set_config truth set_value selected setting create_schema create_enum create_domain create_table altered_domain domain_change new_check name_and_owner path_and_owner new_owner added new_default own_change table_change behind_only altered_table altered_sequence sequence_change owned_by create_view replace_view create_index create_unique_index index_body create_sequence copy_from granted revoked create_role alter_role create_database comment_on commented_object name_remarked path_remarked column_remarked constraint_remarked remark_end
 left_free [] = refl
 left_free (t ∷ ts) = refl
 
@@ -115,6 +76,14 @@ read_whole s ts spells = ap statement.read (sym (append-nil ts)) ∙ statement_l
 pub not_both : (r : Reading (Option Stmt)) (s : Option Stmt) (u : Stop) → r ≡ Ok (s, []) → r ≡ Err u → ⊥
 not_both r s u e f = absurd (cc (e, f))
 
+-- where a token is too long and a shorter one would go on, the reader says so
+told_long : (ts : List Lexeme) (s : Stop) (f : Stopped statement ts s) (there : IsLongThere f.front s.rest) (b : Bool) → s.long ≡ b → s.long ≡ true
+told_long ts s f there true e = e
+told_long ts s f there false e =
+    let x = there.finished in
+    let us = f.front ++ shortened there.token ∷ x.1 in
+    absurd (not_both (statement.read us) x.0 (record { long = s.long; rest = shortened there.token ∷ x.1 }) (read_whole x.0 us x.2) (f.local there.token there.behind there.is (shortened there.token) (inr (e, there.long, refl)) x.1))
+
 -- where reading tokens stops
 pub is_stuck : (text : List ℕ) (at : ℕ) (fault : DdlFault) → statement_of (length text) (lexemes text (collected text at).pieces) (collected text at).fault ≡ Err fault → IsStuck text at fault
 unfolding statement_of
@@ -128,9 +97,13 @@ is_stuck text at fault e =
       rest = t.0.rest;
       tokens = f.parts;
       finished = (f.value, f.more, f.finished);
-      none = λ x behind is s more spells. not_both (statement.read (f.front ++ x ∷ more)) s (record { long = t.0.long; rest = x ∷ more }) (read_whole s (f.front ++ x ∷ more) spells) (f.local x behind is more);
+      none = λ x behind is s more spells. not_both (statement.read (f.front ++ x ∷ more)) s (record { long = t.0.long; rest = x ∷ more }) (read_whole s (f.front ++ x ∷ more) spells) (f.local x behind is x (inl refl) more);
       short = λ is s spells. not_both (statement.read ts) s t.0 (ap statement.read (f.parts ∙ ap (λ (r : List Lexeme). f.front ++ r) is ∙ append-nil f.front) ∙ read_whole s f.front spells) read;
       long = t.0.long;
+      too_long = (
+        λ e. (let n = f.named e in record { token = n.token; behind = n.behind; is = n.is; long = n.long; finished = (n.value, n.more, n.spells) }),
+        λ there. told_long ts t.0 f there t.0.long refl,
+      );
       place = t.2;
     }
 
@@ -303,12 +276,12 @@ told_within (suc n) text at le enough = subst (Told text at) (sym (begun_by n te
     by_starts plain behind None first = by_end first (collected text at).fault refl
     by_starts plain behind (Some start) first = by_header start plain first behind (header text at) refl
 
-    by_said : (t : Token) → next_token_of text at ≡ Ok (Some (line_token t.start t.end)) → ((end : ℕ) → end ≤ length text → length text - end < n → Told text end (statements_within n text end)) → (r : Result (Option Stmt) Bool) → meta_line (spelling text t) ≡ r
+    by_said : (t : Token) → next_token_of text at ≡ Ok (Some (line_token t.start t.end)) → ((end : ℕ) → end ≤ length text → length text - end < n → Told text end (statements_within n text end)) → (r : Result (Option Stmt) Wrong) → meta_line (spelling text t) ≡ r
         → Told text at (line_said t.start r >>= λ s. statements_within n text t.end >>= λ more. Ok (listed s t.start t.end more))
     by_said t next behind (Ok s) e =
         let past = line_past text at t.start t.end le next in
         line_told_on text at s t.start t.end (record { next = next; says = same_spelling text t ∙ e }) (statements_within n text t.end) (behind t.end past.1 (omega (arith, past.0)))
-    by_said t next behind (Err long) e = bad_line at (line_fault long t.start) (record { start = t.start; end = t.end; next = next; long = long; none = same_spelling text t ∙ e; is = refl })
+    by_said t next behind (Err wrong) e = bad_line at (line_fault t.start wrong) (record { start = t.start; end = t.end; next = next; wrong = wrong; none = same_spelling text t ∙ e; is = refl })
 
     by_lines : (line : Option Token) → line_at text at ≡ line → ((end : ℕ) → end ≤ length text → length text - end < n → Told text end (statements_within n text end)) → Told text at (by_line n text at line)
     by_lines None plain behind = by_starts plain behind (first_start (collected text at).pieces) refl
@@ -345,7 +318,7 @@ line_step : (text : List ℕ) (at n : ℕ) (s : Option Stmt) (start end : ℕ) �
 line_step text at n s start end le enough is =
     let k = some_fuel n (length text - at) enough in
     let past = line_past text at start end le is.next in
-    let says = ap (λ (r : Result (Option Stmt) Bool). line_said start r >>= λ s. statements_within k.0 text end >>= λ more. Ok (listed s start end more)) is.says in
+    let says = ap (λ (r : Result (Option Stmt) Wrong). line_said start r >>= λ s. statements_within k.0 text end >>= λ more. Ok (listed s start end more)) is.says in
     record { fuel = k.0; low = past.1; enough = omega (arith, past.0, k.1); same = ap (λ m. statements_within m text at) k.1 ∙ begun_by k.0 text at (Some (line_token start end)) (line_next text at start end is.next) ∙ says }
 
 abbrev going_on : Option Stmt → ℕ → ℕ → Result (List Located) DdlFault → Result (List Located) DdlFault
@@ -385,24 +358,33 @@ same_rest S (x ∷ a) (y ∷ b) r q m n e ends ends' one other =
     let first : y ≡ x = sym (ap (first_or x) e) in
     same_rest (λ ts. S (x ∷ ts)) a b r q m n (ap behind_first e) ends (λ t behind is more s. ends' t behind is more (subst (λ z. S (z ∷ (b ++ t ∷ more))) (sym first) s)) one (subst (λ z. S (z ∷ (b ++ n))) first other)
 
-place_by : (limit : ℕ) (fault : Option LexFault) (long long' : Bool) (at : Option ℕ) → fault_place (fault_by limit fault long at) ≡ fault_place (fault_by limit fault long' at)
-place_by limit fault long long' at = grind arith
-
 abbrev Spelled : List Lexeme → Type 0
 Spelled ts = (s : Option Stmt) × statement.Spells s ts
 
-stuck_once : (text : List ℕ) (at : ℕ) (f g : DdlFault) → IsStuck text at f → IsStuck text at g → fault_place f ≡ fault_place g
+-- what stands before the same tokens
+same_front : (a b r : List Lexeme) → a ++ r ≡ b ++ r → a ≡ b
+same_front [] [] r e = refl
+same_front [] (x ∷ b) r e = absurd (omega (arith, length-append (x ∷ b) r, ap (λ (ts : List Lexeme). length ts) e))
+same_front (x ∷ a) [] r e = absurd (omega (arith, length-append (x ∷ a) r, ap (λ (ts : List Lexeme). length ts) e))
+same_front (x ∷ a) (y ∷ b) r e = ap (λ (ts : List Lexeme). x ∷ ts) (same_front a b r (ap behind_first e)) ∙ ap (λ (t : Lexeme). t ∷ b) (ap (first_or x) e)
+
+both_true : (a b : Bool) → (a ≡ true → b ≡ true) → (b ≡ true → a ≡ true) → a ≡ b
+both_true true b f g = sym (f refl)
+both_true false true f g = g refl
+both_true false false f g = refl
+
+-- tokens are stuck in one way
+stuck_once : (text : List ℕ) (at : ℕ) (f g : DdlFault) → IsStuck text at f → IsStuck text at g → f ≡ g
 stuck_once text at f g h k =
     let ends : Ends Spelled h.front h.rest = λ t behind is more s. h.none t behind is s.0 more s.1 in
     let ends' : Ends Spelled k.front k.rest = λ t behind is more s. k.none t behind is s.0 more s.1 in
     let rest = same_rest Spelled h.front k.front h.rest k.rest h.finished.1 k.finished.1 (sym h.tokens ∙ k.tokens) ends ends' (h.finished.0, h.finished.2) (k.finished.0, k.finished.2) in
+    let front = same_front h.front k.front k.rest (ap (λ (r : List Lexeme). h.front ++ r) (sym rest) ∙ sym h.tokens ∙ k.tokens) in
+    let there : h.long ≡ true → k.long ≡ true = λ e. k.too_long.1 (subst (λ (x : List Lexeme). IsLongThere x k.rest) front (subst (IsLongThere h.front) rest (h.too_long.0 e))) in
+    let back : k.long ≡ true → h.long ≡ true = λ e. h.too_long.1 (subst (λ (x : List Lexeme). IsLongThere x h.rest) (sym front) (subst (IsLongThere k.front) (sym rest) (k.too_long.0 e))) in
     let limit = length text in
     let fault = (collected text at).fault in
-    ap fault_place h.place ∙ place_by limit fault h.long k.long (start_of h.rest) ∙ ap (λ (r : List Lexeme). fault_place (fault_by limit fault k.long (start_of r))) rest ∙ sym (ap fault_place k.place)
-
--- a read fails, at the place of this fault
-abbrev Fails : {A : Type 0} → Result A DdlFault → DdlFault → Type 0
-Fails r fault = (g : DdlFault) × (r ≡ Err g) × (fault_place g ≡ fault_place fault)
+    h.place ∙ ap (λ (long : Bool). fault_by limit fault long (start_of h.rest)) (both_true h.long k.long there back) ∙ ap (λ (r : List Lexeme). fault_by limit fault k.long (start_of r)) rest ∙ sym k.place
 
 not_stuck : (text : List ℕ) (at : ℕ) (fault : DdlFault) (s : Option Stmt) → IsStuck text at fault → statement.Spells s (lexemes text (collected text at).pieces) → ⊥
 not_stuck text at fault s h spells = by h.rest refl
@@ -411,12 +393,15 @@ not_stuck text at fault s h spells = by h.rest refl
     by [] is = h.short is s (subst (statement.Spells s) (h.tokens ∙ ap (λ (r : List Lexeme). h.front ++ r) is ∙ append-nil h.front) spells)
     by (t ∷ behind) is = h.none t behind is s behind (subst (statement.Spells s) (h.tokens ∙ ap (λ (r : List Lexeme). h.front ++ r) is) spells)
 
-header_fails : (text : List ℕ) (at : ℕ) (fault : DdlFault) → at ≤ length text → IsStuck text at fault → Fails (header text at) fault
+abbrev failed : DdlFault → Result (Option Stmt) DdlFault
+failed fault = Err fault
+
+header_fails : (text : List ℕ) (at : ℕ) (fault : DdlFault) → at ≤ length text → IsStuck text at fault → header text at ≡ Err fault
 header_fails text at fault le h = by (header text at) refl
   where
-    by : (r : Result (Option Stmt) DdlFault) → header text at ≡ r → Fails r fault
+    by : (r : Result (Option Stmt) DdlFault) → header text at ≡ r → r ≡ Err fault
     by (Ok s) e = absurd (not_stuck text at fault s h (spelled_whole text at le s e))
-    by (Err g) e = (g, refl, stuck_once text at g fault (is_stuck text at g e) h)
+    by (Err g) e = ap failed (stuck_once text at g fault (is_stuck text at g e) h)
 
 -- ---- a statement has a token
 
@@ -428,35 +413,35 @@ some_first : (text : List ℕ) (s : Option Stmt) (ps : List Piece) → statement
 some_first text s [] spells = absurd (not_both (statement.read []) s (record { long = false; rest = [] }) (read_whole s [] spells) reads_nothing)
 some_first text s (p ∷ ps) spells = (p.token.start, refl)
 
-fails_only : (text : List ℕ) (at : ℕ) (fault : DdlFault) → FailsAt text at fault → at ≤ length text → (n : ℕ) → length text - at < n → Fails (statements_within n text at) fault
+abbrev none_read : DdlFault → Result (List Located) DdlFault
+none_read fault = Err fault
+
+fails_only : (text : List ℕ) (at : ℕ) (fault : DdlFault) → FailsAt text at fault → at ≤ length text → (n : ℕ) → length text - at < n → statements_within n text at ≡ Err fault
 fails_only text _ _ (no_token at fault first is) le n enough =
     let k = some_fuel n (length text - at) enough in
-    (Lex fault, ap (λ m. statements_within m text at) k.1 ∙ begun k.0 text at None (no_line_left text at first) first ∙ ap no_more is, refl)
+    ap (λ m. statements_within m text at) k.1 ∙ begun k.0 text at None (no_line_left text at first) first ∙ ap no_more is
 fails_only text _ _ (stuck at start fault plain first h) le n enough =
     let k = some_fuel n (length text - at) enough in
-    let f = header_fails text at fault le h in
     let end = (collected text at).end in
-    (f.0, ap (λ m. statements_within m text at) k.1 ∙ begun k.0 text at (Some start) plain first ∙ ap (λ r. with_others k.0 text start (whole_of text end r)) f.1, f.2)
+    ap (λ m. statements_within m text at) k.1 ∙ begun k.0 text at (Some start) plain first ∙ ap (λ r. with_others k.0 text start (whole_of text end r)) (header_fails text at fault le h)
 fails_only text _ _ (no_rows at fault h) le n enough =
     let k = some_fuel n (length text - at) enough in
     let end = (collected text at).end in
     let plain = no_line_of text at h.header h.spells (line_at text at) refl in
     let first = some_first text h.header (collected text at).pieces h.spells in
     let read : parsed text at ≡ Err fault = ap (whole_of text end) (header_is text at h.header h.spells) ∙ h.none in
-    (fault, ap (λ m. statements_within m text at) k.1 ∙ begun k.0 text at (Some first.0) plain first.1 ∙ ap (with_others k.0 text first.0) read, refl)
+    ap (λ m. statements_within m text at) k.1 ∙ begun k.0 text at (Some first.0) plain first.1 ∙ ap (with_others k.0 text first.0) read
 fails_only text _ _ (bad_line at fault h) le n enough =
     let k = some_fuel n (length text - at) enough in
     let t = line_token h.start h.end in
-    let said = ap (λ (r : Result (Option Stmt) Bool). line_said h.start r >>= λ s. statements_within k.0 text h.end >>= λ more. Ok (listed s h.start h.end more)) h.none in
-    (line_fault h.long h.start, ap (λ m. statements_within m text at) k.1 ∙ begun_by k.0 text at (Some t) (line_next text at h.start h.end h.next) ∙ said, sym (ap fault_place h.is))
+    let said = ap (λ (r : Result (Option Stmt) Wrong). line_said h.start r >>= λ s. statements_within k.0 text h.end >>= λ more. Ok (listed s h.start h.end more)) h.none in
+    ap (λ m. statements_within m text at) k.1 ∙ begun_by k.0 text at (Some t) (line_next text at h.start h.end h.next) ∙ said ∙ ap none_read (sym h.is)
 fails_only text _ _ (later at s start end fault is others) le n enough =
     let k = statement_step text at n s start end le enough is in
-    let rest = fails_only text end fault others k.low k.fuel k.enough in
-    (rest.0, k.same ∙ ap (going_on s start end) rest.1, rest.2)
+    k.same ∙ ap (going_on s start end) (fails_only text end fault others k.low k.fuel k.enough)
 fails_only text _ _ (later_line at s start end fault is others) le n enough =
     let k = line_step text at n s start end le enough is in
-    let rest = fails_only text end fault others k.low k.fuel k.enough in
-    (rest.0, k.same ∙ ap (going_on s start end) rest.1, rest.2)
+    k.same ∙ ap (going_on s start end) (fails_only text end fault others k.low k.fuel k.enough)
 
 -- ---- whole texts
 
@@ -472,6 +457,9 @@ pub only : (text : List ℕ) (statements : List Located) → Reads text 0 statem
 unfolding statements_of
 only text statements reads = reads_only text 0 statements reads (omega arith) (length text + 1) (omega arith)
 
-pub one_place : (text : List ℕ) (fault : DdlFault) → FailsAt text 0 fault → (found : DdlFault) × (statements_of text ≡ Err found) × (fault_place found ≡ fault_place fault)
+pub fails_at : (text : List ℕ) (fault : DdlFault) → FailsAt text 0 fault → statements_of text ≡ Err fault
 unfolding statements_of
-one_place text fault f = fails_only text 0 fault f (omega arith) (length text + 1) (omega arith)
+fails_at text fault f = fails_only text 0 fault f (omega arith) (length text + 1) (omega arith)
+
+pub one_fault : (text : List ℕ) (f g : DdlFault) → FailsAt text 0 f → FailsAt text 0 g → f ≡ g
+one_fault text f g h k = let same = sym (fails_at text f h) ∙ fails_at text g k in cc

@@ -1,55 +1,9 @@
 -- Owners, checks and changes of domains and sequences, settings and calls, views, indexes, COPY and ALTER TABLE: each part
 -- of their grammar with the text that it is written in.
-use Rattle.std.proofs.Common.{◌≡◌, ℕ, Bool, false, List, [], ◌∷◌, ◌++◌, append_assoc, append-nil, refl, ap, ◌∙◌, ◌⊎◌, inl, inr, codes, true, cond, sym, subst, Result, Ok, Err}
-use Rattle.std.specs.List.{flat_map, AllByRecursion}
-use Rattle.std.specs.Str.{is_utf8, chars}
-use Rattle.std.proofs.Math.Utf8.{encode}
-use Rattle.sql_lex.specs.declared.token.TokenKind.TheVariants.{Word}
-use Rattle.sql_lex.specs.Meaning.{is_keyword_of, name_of}
-use Rattle.sql_lex.specs.Written.{written_name}
-use Rattle.copy_text.specs.Texts.{IsName}
-use Rattle.ddl_parts.specs.Lexemes.{Lexeme, source, never, is_sign, is_word, spelled, starts, is_sign_kind}
-use Rattle.ddl_parts.specs.Leaves.{name, name_value, name_in}
-use Rattle.ddl_parts.specs.Parts.{nothing, seen, choose, runs_of, ◌then◌, ◌▸◌, ◌◂◌}
-use Rattle.ddl_write.specs.Keys.{rest_text}
-use Rattle.ddl_write.specs.Paths.{listed, joined, path}
-use Rattle.ddl_read.specs.Columns.{further, names_of, columns}
-use Rattle.ddl_read.specs.declared.rests.RestSpot.{RestSpot}
-use Rattle.ddl_read.specs.declared.rests.RestSpot.TheVariants.{Begin, Foreign}
-use Rattle.ddl_read.specs.Rests.{rest_step, rest_done, resting, key_rest, foreign_rest}
-use Rattle.ddl_forms.proofs.Behind.{Words, Safe, admits}
-use Rattle.ddl_forms.proofs.Putting.{joined-append, Follows, IsPut, Yields}
-use Rattle.ddl_forms.proofs.RunTexts.{GoesByWords, plain_by, kinds, run_read}
-use Rattle.ddl_forms.proofs.Tokens.{Gap, none, space, newline, spaced, indented, no_key, value_name}
-use Rattle.ddl_forms.proofs.Written.{Written, Says, opening_as, closing_as, comma_as, name_as, then_as, lead_as, close_as, like_as, shown_as, pieces_as, choose_as, nothing_as, alike_as, either_pieces, run_as, Kinds, leaf_as, is_key, dot_as, equals_as, word_as, mark_as, literal_as, path_as, word_then, end_as, seen_as, heard_as, run_put, kind_as, is_bare_word, word_said, name_said, is_as, path_same, led_as, or_as}
-use Rattle.ddl_laws.specs.Respelling.{IsRunText, IsRest, AreColumns, IsCheck, IsWritable}
-use Rattle.copy_text.specs.Lines.{before_end_mark}
-use Rattle.copy_text.proofs.LineLemmas.{lines_nil}
-use Rattle.ddl_parts.specs.Expressions.{expression, nested}
-use Rattle.ddl_parts.specs.Pieces.{lexemes}
-use Rattle.ddl_parts.specs.Collecting.{collected}
-use Rattle.ddl_lines.specs.CopyRows.{AreRows, with_feeds, rows_in}
-use Rattle.ddl_write.specs.Tables.{check_text}
-use Rattle.ddl_write.specs.Views.{stands_alone, space_before}
-use Rattle.ddl_read.specs.Clauses.{named_check, check_of, new_owner}
-use Rattle.ddl_read.specs.CopyGrammar.{some_columns, copy_from}
-use Rattle.ddl_read.specs.Grammar.{new_check, its_owner, one_more_check, domain_changed, domain_change, altered_domain, set_config, equals_or_to, setting}
-use Rattle.ddl_read.specs.RelationGrammar.{owned_by, its_role, its_column, sequence_changed, sequence_change, altered_sequence, view_and_body, bracketed, index_parts}
-use Rattle.ddl_read.specs.ValueGrammar.{truth, value_of_sequence, set_value}
-use Rattle.ddl_forms.specs.Texts.{IsExpressionText, IsBracketText, IsPath, IsDefaultText}
-use Rattle.ddl_forms.proofs.Expressions.{nested_plain, expression_as, default_as}
-use Rattle.ddl_forms.proofs.Numbers.{number_as}
-use Rattle.ddl_laws.proofs.Paths.{literal_path_as}
-use Rattle.sql_lex.specs.declared.token.TokenKind.{TokenKind}
-use Rattle.sql_lex.specs.Reserved.{is_reserved}
-use Rattle.sql_lex.specs.ReadBack.{written_kind}
-use Rattle.cat_model.specs.declared.object.QName.{QName}
-use Rattle.ddl_read.specs.declared.alters.Constraint.{Constraint}
-use Rattle.ddl_read.specs.declared.alters.Constraint.TheVariants.{Check, Primary, Unique, Foreign as ForeignKey}
-use Rattle.ddl_read.specs.declared.alters.TableChange.{TableChange}
-use Rattle.ddl_read.specs.declared.alters.TableChange.TheVariants.{Owner, Default, Added}
-use Rattle.ddl_read.specs.AlterGrammar.{check_body, primary_of, primary_body, unique_of, unique_body, foreign_of, foreign_body, constraint_body, added_of, added, default_of, new_default, own_change, table_change, table_changed, only_value, only_name, other_value, path_of, other_path, BehindOnly, in_schema, key_word, behind_only, only_changed, altered_table}
-use Rattle.ddl_laws.proofs.GrammarLaws.{only_is, other_is}
+use Rattle.ddl_laws.proofs.Common.{◌≡◌, ℕ, Bool, false, List, [], ◌∷◌, ◌++◌, append_assoc, append-nil, refl, ap, ◌∙◌, ◌⊎◌, inl, inr, codes, true, cond, sym, subst, Result, Ok, Err, flat_map, AllByRecursion, is_utf8, chars, encode, Word, is_keyword_of, name_of, written_name, IsName, Lexeme, source, never, is_sign, is_word, spelled, starts, is_sign_kind, name, name_value, name_in, nothing, seen, choose, runs_of, ◌then◌, ◌▸◌, ◌◂◌, rest_text, joined, path, further, names_of, columns, RestSpot, Begin, rest_step, rest_done, resting, key_rest, foreign_rest, Words, Safe, admits, joined-append, Follows, IsPut, Yields, GoesByWords, plain_by, kinds, run_read, Gap, none, space, newline, spaced, indented, no_key, value_name, Written, Says, opening_as, closing_as, comma_as, name_as, then_as, lead_as, close_as, like_as, shown_as, pieces_as, choose_as, nothing_as, alike_as, either_pieces, run_as, Kinds, leaf_as, is_key, dot_as, equals_as, word_as, mark_as, literal_as, path_as, word_then, end_as, seen_as, heard_as, run_put, kind_as, is_bare_word, word_said, name_said, is_as, path_same, led_as, or_as, IsRunText, IsRest, AreColumns, IsCheck, IsWritable, before_end_mark, lines_nil, expression, nested, lexemes, collected, AreRows, with_feeds, rows_in, check_text, space_before, named_check, check_of, new_owner, some_columns, copy_from, new_check, its_owner, one_more_check, domain_changed, domain_change, altered_domain, set_config, equals_or_to, setting, owned_by, its_role, its_column, sequence_changed, sequence_change, altered_sequence, view_and_body, bracketed, index_made, index_body, index_parts, truth, value_of_sequence, set_value, IsExpressionText, IsBracketText, IsPath, IsDefaultText, nested_plain, expression_as, default_as, number_as, TokenKind, is_reserved, written_kind, QName, Constraint, Check, Primary, Unique, Foreign as ForeignKey, TableChange, Owner, Default, Added, check_body, primary_of, primary_body, unique_of, unique_body, foreign_of, foreign_body, constraint_body, added_of, added, default_of, new_default, own_change, table_change, table_changed, only_value, only_name, other_value, other_path, BehindOnly, in_schema, key_word, behind_only, only_changed, altered_table}
+use Rattle.ddl_write.specs.{Paths.listed, Views.stands_alone}
+use Rattle.ddl_laws.proofs.{Paths.literal_path_as, GrammarLaws.only_is, GrammarLaws.other_is}
+use Rattle.ddl_read.specs.{declared.rests.RestSpot.TheVariants.Foreign, declared.relations.Index.Index, AlterGrammar.path_of}
 use Rattle.cat_model.specs.declared.stmt.Stmt.TheVariants as stmt
 
 -- ---- columns
@@ -220,11 +174,15 @@ bracket_made v ts r came spells =
 unfoldable pub bracketed_as : Written bracketed
 bracketed_as = leaf_as IsBracketText IsBracketText (32 ∷ []) (λ v is. v) Safe (λ v is others. bracket_put v others is) bracket_made
 
+abbrev pub IsIndex : Index → Type 0
+IsIndex i = IsName i.name × (IsPath i.table × (IsName i.method × IsBracketText i.rest))
+
 unfoldable pub index_parts_as : Written index_parts
-unfolding index_parts is_key bracketed_as
+unfolding index_body is_key bracketed_as
 index_parts_as =
-    let method = then_as (name_as space) (end_as bracketed_as refl) refl in
-    then_as (name_as space) (word_then (codes "ON") refl (then_as (path_as space) (word_then (codes "USING") refl method refl) refl) refl) refl
+    let method = then_as (name_as space) bracketed_as refl in
+    let parts = then_as (name_as space) (word_then (codes "ON") refl (then_as (path_as space) (word_then (codes "USING") refl method refl) refl) refl) refl in
+    end_as (shown_as index_made parts IsIndex (λ i is. ((i.name, (i.table, (i.method, i.rest))), is, refl)) (λ x is. is)) refl
 
 -- ---- COPY
 

@@ -1,58 +1,11 @@
 -- Written statements, joined, read as the same statements; and what is read of a text can be written.
-use Rattle.std.proofs.lemmas.Bool.{cases_Bool, and_parts, and_from, or_right}
-use Rattle.std.proofs.lemmas.List.{drop_all}
-use Rattle.std.proofs.lemmas.List.Folds.{list_all-append}
-use Rattle.std.proofs.lemmas.Str.{IsUtf8-append, IsUtf8-from_is_utf8, is_utf8-from_IsUtf8}
-use Rattle.std.proofs.Common.{◌≡◌, ℕ, suc, ◌+◌, Bool, true, false, cond, not, ◌&&◌, ◌-◌, List, [], ◌∷◌, ◌++◌, length, length-append, append_assoc, append-nil, Option, Some, None, Result, Ok, Err, refl, sym, ap, subst, ◌∙◌, arith, ◌⊎◌, inl, inr, codes, ◌≤◌}
-use Rattle.std.specs.Prelude.{◌==◌, slice_index}
-use Rattle.std.specs.List.{list_all, AllByRecursion}
-use Rattle.std.specs.Str.{is_utf8, IsUtf8, chars}
-use Rattle.std.proofs.Math.Utf8.{encode}
-use Rattle.sql_lex.specs.declared.token.Token.{Token}
-use Rattle.sql_lex.specs.declared.fault.LexFault.{LexFault}
-use Rattle.sql_lex.specs.Next.{next_token_of}
-use Rattle.sql_lex.specs.Meaning.{spelling as token_text}
-use Rattle.sql_lex.specs.Spelling.{IsMetaLine, goes_on}
-use Rattle.sql_lex.specs.Reserved.{is_reserved}
-use Rattle.sql_lex.specs.ReadBack.{token_at, written_kind}
-use Rattle.sql_lex.proofs.Passing.{next_at_end}
-use Rattle.sql_lex.proofs.WriteLaws.{spelling_is_read}
-use Rattle.ddl_parts.specs.declared.pieces.Piece.{Piece}
-use Rattle.ddl_parts.specs.Lexemes.{is_sign_kind, Lexeme, spelled, is_sign, start_of}
-use Rattle.ddl_parts.specs.Leaves.{name_value}
-use Rattle.ddl_parts.specs.Pieces.{lexeme_of, lexemes}
-use Rattle.ddl_parts.specs.Collecting.{Collected, collected, collected_within, collected_by, nothing_more, preceded}
-use Rattle.ddl_laws.specs.Readings.{IsLine, IsStatement, Reads, all_read, one_read, line_read, line_token}
-use Rattle.ddl_laws.proofs.ReadingLaws.{collected_first, statement_closes, only, found, ends_past, line_past}
-use Rattle.ddl_laws.proofs.Paths.{name_utf8}
-use Rattle.ddl_forms.proofs.Passed.{both_passed, feed_passed, comment_passed}
-use Rattle.ddl_forms.proofs.Tokens.{a_name, Gap, passed, passes, space, gap_stands, name_no_sign, name_means, none, newline}
-use Rattle.copy_text.specs.Texts.{IsName}
-use Rattle.sql_lex.specs.Bytes.{is_blank, in_line, next_is}
-use Rattle.sql_lex.specs.Pieces.{begins_line}
-use Rattle.sql_lex.specs.Written.{is_bare, doubled, quoted, written_name}
-use Rattle.sql_lex.specs.declared.token.TokenKind.TheVariants.{MetaLine}
-use Rattle.ddl_write.specs.Roles.{connect_text}
-use Rattle.ddl_lines.specs.MetaLines.{stands_alone, one_name, name_alone, connected, command_len, said_by, meta_line, IsSaid}
-use Rattle.cat_model.specs.declared.stmt.Stmt.{Stmt}
+use Rattle.ddl_laws.proofs.Common.{cases_Bool, and_parts, and_from, or_right, drop_all, list_all-append, IsUtf8-append, IsUtf8-from_is_utf8, is_utf8-from_IsUtf8, ◌≡◌, ℕ, suc, ◌+◌, Bool, true, cond, not, ◌&&◌, ◌-◌, List, [], ◌∷◌, ◌++◌, length, length-append, append_assoc, append-nil, Option, Some, None, Result, Ok, Err, refl, sym, ap, subst, ◌∙◌, arith, ◌⊎◌, inl, inr, codes, ◌≤◌, ◌==◌, slice_index, list_all, AllByRecursion, is_utf8, IsUtf8, chars, encode, Token, LexFault, next_token_of, spelling as token_text, IsMetaLine, goes_on, is_reserved, token_at, written_kind, next_at_end, spelling_is_read, Piece, is_sign_kind, Lexeme, spelled, is_sign, start_of, name_value, is_name, is_name_kind, lexeme_of, lexemes, Collected, collected, collected_within, collected_by, nothing_more, preceded, name_begins, IsLine, IsStatement, Reads, all_read, one_read, line_read, line_token, a_name, Gap, passed, space, gap_stands, name_no_sign, name_means, none, newline, IsName, is_blank, in_line, next_is, begins_line, is_bare, doubled, quoted, written_name, MetaLine, connect_text, unknown, named, stands_alone, one_name, name_alone, connected, command_len, said_by, meta_line, IsSaid, Stmt, Located, semicolon, statement, Whole, whole, with_rows, completed, first_start, listed, statements_of, listed as listed_before, DdlFault, AreRows, Copied, rows_behind, rows_read_back, read_are_rows, end_mark, QName, nothing_follows, joined-append, IsWritable, AllWritable, spellings, said, ends_with, only_last, Stood, placed, collects, columns, AllCame, have_come, came_token}
+use Rattle.ddl_parts.proofs.Lemmas.{newline as line_feed}
 use Rattle.ddl_write.specs.Spelling.{spelling}
-use Rattle.ddl_read.specs.declared.located.Located.{Located}
-use Rattle.ddl_read.specs.Grammar.{semicolon, statement}
-use Rattle.ddl_read.specs.Reading.{Whole, whole, with_rows, completed, first_start, listed, statements_of, listed as listed_before}
-use Rattle.ddl_read.specs.declared.fault.DdlFault.{DdlFault}
-use Rattle.ddl_lines.specs.CopyRows.{AreRows, Copied, rows_behind}
-use Rattle.ddl_lines.proofs.RowTexts.{rows_read_back, read_are_rows}
-use Rattle.copy_text.specs.Marks.{newline as line_feed, end_mark}
-use Rattle.cat_model.specs.declared.object.QName.{QName}
-use Rattle.ddl_forms.proofs.Putting.{nothing_follows, joined-append}
-use Rattle.ddl_laws.proofs.Whole.{command_as, statement_as, IsSpelled, given, spelled_so, copy_head, copy_is, copy_spelled, both_behind}
-use Rattle.ddl_laws.specs.Respelling.{IsWritable, AllWritable, joined, spellings, said, IsPath}
-use Rattle.ddl_laws.specs.Laying.{Lays, no_more, empty_line, comment_line, statement_text, comment}
-use Rattle.ddl_forms.proofs.Closing.{ends_with, only_last}
-use Rattle.ddl_forms.proofs.Standing.{Stood, placed, collects}
-use Rattle.ddl_read.specs.Columns.{columns}
+use Rattle.ddl_forms.proofs.{Passed.both_passed, Passed.feed_passed, Passed.comment_passed, Tokens.passes}
+use Rattle.ddl_laws.proofs.{ReadingLaws.collected_first, ReadingLaws.statement_closes, ReadingLaws.only, ReadingLaws.found, ReadingLaws.ends_past, ReadingLaws.line_past, Paths.name_utf8, Whole.command_as, Whole.statement_as, Whole.IsSpelled, Whole.spelled_so, Whole.copy_head, Whole.copy_is, Whole.copy_spelled, Whole.both_behind}
+use Rattle.ddl_laws.specs.{Respelling.IsPath, Laying.Lays, Laying.no_more, Laying.empty_line, Laying.comment_line, Laying.statement_text, Laying.comment}
 use Rattle.ddl_lines.proofs.LineNames.{said_is_a_name}
-use Rattle.ddl_forms.proofs.Kept.{AllCame, have_come, came_token}
 use Rattle.cat_model.specs.declared.stmt.Stmt.TheVariants as stmt
 
 -- the line without its line feed
@@ -102,16 +55,18 @@ alone : (n : List ℕ) → stands_alone (behind_space n) (piece n) ≡ true
 unfolding stands_alone is_blank
 alone n = ap (λ (x : List ℕ). list_all is_blank x) (drop_all (1 + length (written_name n)) (behind_space n) (omega arith))
 
-name_found : (n : List ℕ) → IsName n → name_alone (behind_space n) ≡ Ok n
-unfolding name_alone
-name_found n is =
-    ap (one_name (behind_space n)) (one_piece n is.utf8)
-    ∙ ap (λ (b : Bool). cond b (name_value (lexeme_of (behind_space n) (piece n))) (Err false)) (alone n)
-    ∙ name_means n is (lexeme_of (behind_space n) (piece n)) refl (name_next n is.utf8).1
+name_found : (len : ℕ) (n : List ℕ) → IsName n → name_alone len (behind_space n) ≡ Ok n
+unfolding name_alone is_name
+name_found len n is =
+    let t = lexeme_of (behind_space n) (piece n) in
+    let means = name_means n is t refl (name_next n is.utf8).1 in
+    ap (one_name len (behind_space n)) (one_piece n is.utf8)
+    ∙ ap (λ (b : Bool). cond b (named (len + 1) (name_value t)) unknown) (and_from (stands_alone (behind_space n) (piece n)) (is_name_kind t.kind) (alone n) (name_begins n (t ∷ []) (t, refl, means)))
+    ∙ ap (named (len + 1)) means
 
 pub line_says : (n : List ℕ) → IsName n → meta_line (connect_line n) ≡ Ok (Some (stmt.Connect n))
 unfolding meta_line command_len said_by is_blank
-line_says n is = ap connected (name_found n is)
+line_says n is = ap connected (name_found 8 n is)
 
 -- ---- the line as a token
 
@@ -207,24 +162,12 @@ pub data Lies (g : List ℕ) : Stmt → List ℕ → Type 0 where
   by_rows : (q : QName) (columns : List (List ℕ)) (rows : List ℕ) → IsLaidOut g (stmt.CopyRows q columns []) (copy_head q columns) → AreRows rows → Lies g (stmt.CopyRows q columns rows) (copy_head q columns ++ (rows ++ (end_mark ++ line_feed ∷ [])))
   by_line : (n : List ℕ) → IsName n → list_all in_line n ≡ true → Lies g (stmt.Connect n) (connect_line n ++ 10 ∷ [])
 
-pub record CanBeWritten (g : List ℕ) (s : Stmt) : Type 0 where
-  pub text : List ℕ
-  pub spells : spelling s ≡ Some text
-  pub lies : Lies g s text
-
-pub can_be_written : {g : List ℕ} (gap : Gap g) (s : Stmt) → IsWritable s → CanBeWritten g s
+pub can_be_written : {g : List ℕ} (gap : Gap g) (s : Stmt) → IsWritable s → Lies g s (spelling s)
 unfolding spelling
-can_be_written {g} gap (stmt.CopyRows q columns rows) is = record {
-  text = copy_head q columns ++ (rows ++ (end_mark ++ line_feed ∷ []));
-  spells = ap (λ (x : List ℕ). Some x) (copy_is q columns rows);
-  lies = by_rows q columns rows (laid_out gap (stmt.CopyRows q columns []) (copy_head q columns) (copy_spelled gap q columns rows is)) is.2;
-}
-can_be_written {g} gap (stmt.Connect n) is = record { text = connect_line n ++ 10 ∷ []; spells = ap (λ (x : List ℕ). Some x) (connect_is n); lies = by_line n is.0 is.1 }
-can_be_written {g} gap s is = record {
-  text = given (spelling s);
-  spells = refl;
-  lies = by_tokens s (given (spelling s)) (laid_out gap s (given (spelling s)) (spelled_so gap s tt is)) (λ t end. refl);
-}
+can_be_written {g} gap (stmt.CopyRows q columns rows) is =
+    subst (Lies g (stmt.CopyRows q columns rows)) (sym (copy_is q columns rows)) (by_rows q columns rows (laid_out gap (stmt.CopyRows q columns []) (copy_head q columns) (copy_spelled gap q columns rows is)) is.2)
+can_be_written {g} gap (stmt.Connect n) is = subst (Lies g (stmt.Connect n)) (sym (connect_is n)) (by_line n is.0 is.1)
+can_be_written gap s is = by_tokens s (spelling s) (laid_out gap s (spelling s) (spelled_so gap s tt is)) (λ t end. refl)
 
 -- ---- where nothing is left
 
@@ -353,28 +296,8 @@ one_statement text front g _ _ more rest gap fresh (by_tokens s words l complete
 one_statement text front g _ _ more rest gap fresh (by_rows q columns rows l are) e later = rows_read text front g q columns rows more rest l are e later
 one_statement text front g _ _ more rest gap fresh (by_line n is plain) e later = line_behind text front g n more rest gap fresh is plain e later
 
--- what joined spellings begin with
-begins_with : (s : Stmt) (more : List Stmt) (text whole : List ℕ) → spelling s ≡ Some text → spellings (s ∷ more) ≡ Some whole → (rest : List ℕ) × (spellings more ≡ Some rest) × (whole ≡ text ++ rest)
-begins_with s more text whole e f = by (spellings more) refl (sym (ap (λ (o : Option (List ℕ)). joined o (spellings more)) e) ∙ f)
-  where
-    by : (o : Option (List ℕ)) → spellings more ≡ o → joined (Some text) o ≡ Some whole → (rest : List ℕ) × (spellings more ≡ Some rest) × (whole ≡ text ++ rest)
-    by (Some rest) is f = (rest, is, cc)
-    by None is f = absurd cc
-
 none_left : (text : List ℕ) (at : ℕ) → next_token_of text at ≡ Ok None → ReadsAs text at []
 none_left text at e = let h = none_collected text at e in record { found = []; reads = all_read at h.0 h.1; same = refl }
-
-pub reads_as : (text front g : List ℕ) (statements : List Stmt) (whole : List ℕ) → Gap g → IsFresh (front ++ g) → AllWritable statements → spellings statements ≡ Some whole → text ≡ front ++ (g ++ whole) → ReadsAs text (length front) statements
-reads_as text front g [] whole gap fresh all e is =
-    let nothing : [] ≡ whole = cc in
-    let text_is : text ≡ front ++ g = is ∙ ap (λ (x : List ℕ). front ++ (g ++ x)) (sym nothing) ∙ ap (λ (x : List ℕ). front ++ x) (append-nil g) in
-    none_left text (length front) (ap (λ (x : List ℕ). next_token_of x (length front)) text_is ∙ no_token front g gap)
-reads_as text front g (s ∷ more) whole gap fresh all e is =
-    let c = can_be_written gap s all.0 in
-    let h = begins_with s more c.text whole c.spells e in
-    let text_is : text ≡ front ++ (g ++ (c.text ++ h.0)) = is ∙ ap (λ (x : List ℕ). front ++ (g ++ x)) h.2 in
-    one_statement text front g s c.text more h.0 gap fresh c.lies text_is
-    (λ front' g' gap' fresh' there. reads_as text front' g' more h.0 gap' fresh' all.1 h.1 there)
 
 -- statements with empty lines and comments between them
 pub laid_read : (text front g rest : List ℕ) (statements : List Stmt) → Gap g → IsFresh (front ++ g) → Lays rest statements → text ≡ front ++ (g ++ rest) → ReadsAs text (length front) statements
@@ -389,23 +312,28 @@ laid_read text front g _ _ gap fresh (comment_line line rest statements shown la
     laid_read text front (g ++ comment line) rest statements (passed (g ++ comment line) (both_passed g (comment line) (passes g gap) over))
     (inr (front ++ (g ++ (45 ∷ 45 ∷ line)), ap (λ (x : List ℕ). front ++ x) (sym (append_assoc g (45 ∷ 45 ∷ line) (10 ∷ []))) ∙ sym (append_assoc front (g ++ (45 ∷ 45 ∷ line)) (10 ∷ [])))) lays
     (is ∙ ap (λ (x : List ℕ). front ++ x) (sym (append_assoc g (comment line) rest)))
-laid_read text front g _ _ gap fresh (statement_text s words rest statements can spells lays) is =
-    let c = can_be_written gap s can in
-    let same : words ≡ c.text = cc (spells, c.spells) in
-    one_statement text front g s c.text statements rest gap fresh c.lies (is ∙ ap (λ (x : List ℕ). front ++ (g ++ (x ++ rest))) same)
+laid_read text front g _ _ gap fresh (statement_text s rest statements can lays) is =
+    one_statement text front g s (spelling s) statements rest gap fresh (can_be_written gap s can) is
     (λ front' g' gap' fresh' there. laid_read text front' g' rest statements gap' fresh' lays there)
 
 -- ---- whole texts
-
-pub joined_read : (statements : List Stmt) (text : List ℕ) → AllWritable statements → spellings statements ≡ Some text → (found : List Located) × (statements_of text ≡ Ok found) × (said found ≡ statements)
-joined_read statements text all e =
-    let r = reads_as text [] [] statements text none (inl refl) all e refl in
-    (r.found, only text r.found r.reads, r.same)
 
 pub laid_out_read : (text : List ℕ) (statements : List Stmt) → Lays text statements → (found : List Located) × (statements_of text ≡ Ok found) × (said found ≡ statements)
 laid_out_read text statements lays =
     let r = laid_read text [] [] text statements none (inl refl) lays refl in
     (r.found, only text r.found r.reads, r.same)
+
+-- spellings that are joined lie one behind another
+all_lay : (statements : List Stmt) → AllWritable statements → Lays (spellings statements) statements
+all_lay [] all = no_more
+all_lay (s ∷ more) all = statement_text s (spellings more) more all.0 (all_lay more all.1)
+
+-- one statement lies in its spelling
+pub writable_is_spelled : (s : Stmt) → IsWritable s → Lays (spelling s) (s ∷ [])
+writable_is_spelled s is = subst (λ (x : List ℕ). Lays x (s ∷ [])) (append-nil (spelling s)) (statement_text s [] [] is no_more)
+
+pub joined_read : (statements : List Stmt) → AllWritable statements → (found : List Located) × (statements_of (spellings statements) ≡ Ok found) × (said found ≡ statements)
+joined_read statements all = laid_out_read (spellings statements) statements (all_lay statements all)
 
 -- ---- statements
 
@@ -472,19 +400,5 @@ all_writable text _ _ le (line_read at s start end more is others) =
 pub read_is_writable : (text : List ℕ) (statements : List Located) → statements_of text ≡ Ok statements → AllWritable (said statements)
 read_is_writable text statements e = all_writable text 0 statements (omega arith) (found text statements e)
 
-pub writable_is_spelled : (s : Stmt) → IsWritable s → (text : List ℕ) × (spelling s ≡ Some text)
-writable_is_spelled s is = let c = can_be_written none s is in (c.text, c.spells)
-
-all_spelled : (statements : List Stmt) → AllWritable statements → (text : List ℕ) × (spellings statements ≡ Some text)
-all_spelled [] all = ([], refl)
-all_spelled (s ∷ more) all =
-    let c = writable_is_spelled s all.0 in
-    let h = all_spelled more all.1 in
-    (c.0 ++ h.0, ap (λ (o : Option (List ℕ)). joined o (spellings more)) c.1 ∙ ap (joined (Some c.0)) h.1)
-
-pub read_again : (text : List ℕ) (statements : List Located) → statements_of text ≡ Ok statements
-    → (again : List ℕ) × (spellings (said statements) ≡ Some again) × ((same : List Located) × (statements_of again ≡ Ok same) × (said same ≡ said statements))
-read_again text statements e =
-    let all = read_is_writable text statements e in
-    let s = all_spelled (said statements) all in
-    (s.0, s.1, joined_read (said statements) s.0 all s.1)
+pub read_again : (text : List ℕ) (statements : List Located) → statements_of text ≡ Ok statements → (same : List Located) × (statements_of (spellings (said statements)) ≡ Ok same) × (said same ≡ said statements)
+read_again text statements e = joined_read (said statements) (read_is_writable text statements e)

@@ -1,52 +1,12 @@
 -- GRANT and REVOKE: each part of their grammar with the text that it is written in.
-use Rattle.std.proofs.Common.{◌≡◌, ℕ, Bool, true, false, not, cond, ◌&&◌, List, [], ◌∷◌, ◌++◌, map, append_assoc, append-nil, Option, Some, None, Result, Ok, Err, refl, sym, ap, subst, ◌∙◌, ◌⊎◌, inl, inr, codes}
-use Rattle.std.specs.List.{flat_map}
-use Rattle.std.specs.Str.{is_utf8, chars}
-use Rattle.std.proofs.Math.Utf8.{encode}
-use Rattle.std.proofs.lemmas.Bool.{and_parts, not-true}
-use Rattle.sql_lex.specs.declared.token.TokenKind.{TokenKind}
-use Rattle.sql_lex.specs.declared.token.TokenKind.TheVariants.{Word}
-use Rattle.sql_lex.specs.Meaning.{is_keyword_of, name_of}
-use Rattle.sql_lex.specs.ReadBack.{written_kind}
-use Rattle.sql_lex.specs.Written.{written_name}
-use Rattle.copy_text.specs.Texts.{IsName}
-use Rattle.cat_model.specs.declared.grant.Rights.{Rights}
-use Rattle.cat_model.specs.declared.grant.Granted.{Granted}
-use Rattle.cat_model.specs.declared.grant.Granted.TheVariants as on
-use Rattle.cat_model.specs.declared.grant.Grantee.{Grantee}
-use Rattle.cat_model.specs.declared.grant.Grantee.TheVariants as grantees
-use Rattle.cat_model.specs.declared.stmt.Stmt.{Stmt}
-use Rattle.cat_model.specs.declared.stmt.Stmt.TheVariants as stmt
-use Rattle.cat_model.specs.Grants.{no_rights, has_rights}
-use Rattle.cat_model.specs.Lexemes.{same_text}
-use Rattle.ddl_parts.specs.Lexemes.{Lexeme, is_word, is_sign, spelled}
-use Rattle.ddl_parts.specs.Lists.{comma}
-use Rattle.ddl_parts.specs.Parts.{Part, ◌then◌, ◌▸◌}
-use Rattle.ddl_parts.specs.Leaves.{name, name_value, name_in}
-use Rattle.ddl_write.specs.Paths.{joined, only_if}
-use Rattle.ddl_write.specs.RightsText.{is_all, with_commas, right_list, rights_text, granted_words, granted_name, grantee_text}
+use Rattle.ddl_laws.proofs.Common.{◌≡◌, ℕ, Bool, true, false, not, cond, ◌&&◌, List, [], ◌∷◌, ◌++◌, map, append_assoc, append-nil, Option, Some, None, Result, Ok, Err, refl, sym, ap, subst, ◌∙◌, ◌⊎◌, inl, inr, codes, flat_map, is_utf8, chars, encode, and_parts, not-true, TokenKind, Word, is_keyword_of, name_of, written_kind, written_name, IsName, Rights, Granted, Stmt, no_rights, has_rights, Lexeme, is_word, is_sign, spelled, comma, Part, ◌then◌, ◌▸◌, name, name_value, name_in, joined, only_if, is_all, with_commas, right_list, rights_text, granted_words, granted_name, grantee_text, with_right, only, within, kind_rights, goes_with, right_first, wanted_first, wanted, joining, right_behind, more_rights, all_of, rights_from, kind_has, having, kind_with, rights_on, object, on_object, rights_and_object, grantee_of, grantee, truth_first, set_behind, inherit_and_set, others_behind, options, with_options, granted_by, member, member_of, membership, grant_option, to_grantee, from_grantee, grant_rights, revoke_rights, first, behind_first, granted, revoked, Behind, Anything, Words, Safe, End, admits, covers, through, admitted, looser, Opens, then_opens, Closes, ends_with, ends_append, AllCame, came_front, came_behind, Follows, IsPut, put_as, joined-append, none, space, name_token, value_name, Written, Kinds, given_or, or_given, meets, is_bare_word, Says, word_said, name_said, is_key, comma_as, ending, mark_as, name_as, path_as, then_as, then_puts, lead_as, word_then, end_as, seen_as, is_as, like_as, pieces_as, choose_as, heard_as, also_as, AllFit, items_pieces, many_as, lone_as, IsWritable}
+use Rattle.cat_model.specs.{declared.grant.Grantee.Grantee, Lexemes.same_text}
 use Rattle.ddl_write.specs.Roles.{truth as truth_word}
-use Rattle.ddl_rights.specs.declared.rights.Right.{Right}
-use Rattle.ddl_rights.specs.declared.rights.Right.TheVariants.{Select}
-use Rattle.ddl_rights.specs.declared.rights.Kind.{Kind}
-use Rattle.ddl_rights.specs.declared.rights.Kind.TheVariants.{Tables, Sequences, Schemas, Types}
-use Rattle.ddl_rights.specs.declared.rights.Wanted.{Wanted}
-use Rattle.ddl_rights.specs.declared.rights.Wanted.TheVariants.{All, These}
-use Rattle.ddl_rights.specs.Depending.{◌thenby◌}
-use Rattle.ddl_rights.specs.Values.{told}
-use Rattle.ddl_rights.specs.RightsGrammar.{with_right, only, within, kind_rights, goes_with, right_first, wanted_first, wanted, joining, right_behind, more_rights, all_of, rights_from, kind_first, kind_has, having, kind_with, rights_on, object, on_object, rights_and_object, grantee_of, grantee}
-use Rattle.ddl_rights.specs.Memberships.{truth_first, truth, set_behind, inherit_and_set, others_behind, options, with_options, granted_by, member, member_of, membership}
-use Rattle.ddl_rights.specs.Grants.{grant_option, to_grantee, from_grantee, grant_rights, revoke_rights, First, named_by, first, behind_first, granted, revoked}
-use Rattle.ddl_rights.specs.Writable.{kind_of, IsObject, AreRights, IsGrantee, IsGrantor}
-use Rattle.ddl_rights.proofs.RightsLaws.{object_on, right_word, wanted_is}
-use Rattle.ddl_rights.proofs.RightSets.{has_some, has_it, kind_some, kind_whole, all_is, listed_is, some_listed, written_word, words_are, AllGo, all_go}
-use Rattle.ddl_forms.proofs.Behind.{Behind, Anything, Words, Safe, End, admits, covers, through, admitted, looser, Opens, then_opens}
-use Rattle.ddl_forms.proofs.Closing.{Closes, ends_with, ends_append}
-use Rattle.ddl_forms.proofs.Kept.{AllCame, came_front, came_behind}
-use Rattle.ddl_forms.proofs.Putting.{Follows, IsPut, put_as, joined-append}
-use Rattle.ddl_forms.proofs.Tokens.{none, space, name_token, value_name}
-use Rattle.ddl_forms.proofs.Written.{Written, Kinds, given_or, or_given, meets, is_bare_word, Says, word_said, name_said, is_key, comma_as, ending, mark_as, name_as, path_as, then_as, then_puts, lead_as, word_then, end_as, seen_as, is_as, like_as, pieces_as, choose_as, heard_as, also_as, AllFit, items_pieces, many_as, lone_as}
-use Rattle.ddl_laws.specs.Respelling.{IsWritable}
+use Rattle.ddl_rights.proofs.{RightsLaws.object_on, RightsLaws.right_word, RightsLaws.wanted_is, RightSets.has_some, RightSets.has_it, RightSets.kind_some, RightSets.kind_whole, RightSets.all_is, RightSets.listed_is, RightSets.some_listed, RightSets.written_word, RightSets.words_are, RightSets.AllGo, RightSets.all_go}
+use Rattle.ddl_rights.specs.{declared.rights.Right.Right, declared.rights.Right.TheVariants.Select, declared.rights.Kind.Kind, declared.rights.Kind.TheVariants.Tables, declared.rights.Kind.TheVariants.Sequences, declared.rights.Kind.TheVariants.Schemas, declared.rights.Kind.TheVariants.Types, declared.rights.Wanted.Wanted, declared.rights.Wanted.TheVariants.All, declared.rights.Wanted.TheVariants.These, Depending.◌thenby◌, Values.told, RightsGrammar.kind_first, Memberships.truth, Grants.First, Grants.named_by, Writable.kind_of, Writable.IsObject, Writable.AreRights, Writable.IsGrantee, Writable.IsGrantor}
+use Rattle.cat_model.specs.declared.grant.Granted.TheVariants as on
+use Rattle.cat_model.specs.declared.grant.Grantee.TheVariants as grantees
+use Rattle.cat_model.specs.declared.stmt.Stmt.TheVariants as stmt
 
 -- ---- a part whose value decides what stands behind it
 

@@ -1,39 +1,11 @@
 -- CREATE SEQUENCE with the text that it is written in: its clauses bring those so far on from one state to another.
-use Rattle.std.proofs.Common.{◌≡◌, ℕ, ◌+◌, ◌<◌, ◌^◌, ℤ, pos, negsuc, Bool, true, false, cond, List, [], ◌∷◌, ◌++◌, append-nil, Option, Some, None, Result, Ok, refl, sym, ap, subst, ◌∙◌, ◌⊎◌, inl, inr, codes, option_and_then, arith}
-use Rattle.std.specs.Prelude.{◌&&◌, not, is_some}
+use Rattle.ddl_laws.proofs.Common.{◌≡◌, ℕ, ◌+◌, ◌<◌, ◌^◌, ℤ, pos, negsuc, Bool, true, false, cond, List, [], ◌∷◌, ◌++◌, append-nil, Option, Some, None, Result, Ok, refl, sym, ap, subst, ◌∙◌, ◌⊎◌, inl, inr, codes, option_and_then, arith, ◌&&◌, not, is_some, signed_decimal, Decides-int_eq, Word, is_keyword_of, QName, Lexeme, is_word, is_sign, never, spelled, starts, Part, stop, passes, run, seen, ◌then◌, ◌▸◌, path, joined, only_if as words_if, usual_min, usual_max, type_words, bound, min_text, max_text, count, count_first, count_value, counted, opposite, whole_number, count_begins, number_no_sign, First, Step, Least, Greatest, Cache, Both, Lower, Upper, ClauseSpot, Between, BehindAs, BehindStart, BehindIncrement, BehindNo, Due, BehindMinus, Clauses, no_clauses, is_unsaid, with_number, reached, behind_no, clause_first, kind_first, lower, upper, usual_first, numbered, step_first, clausing, first_reached, clauses_of, sequence_clauses, bound_or, usual_start, sequence_of, create_sequence, Anything, Words, Safe, End, admits, admitted, Opens, then_opens, passes_true as passed, number_as, positive_is, opposite_is, IsBelow, count_below, Follows, IsPut, Yields, followed, same_text, put_as, none_put, one_put, then_put, joined-append, is_safe_byte, Gap, space, indented, indent, Written, Kinds, not_closed, is_bare_word, bare_word, path_as, then_as, end_as, kind_as, IsInt, IsWritable}
 use Rattle.std.specs.Ordering.{int_eq}
-use Rattle.std.specs.Fmt.{signed_decimal}
-use Rattle.std.proofs.lemmas.Bool.Decides.{Decides-int_eq}
-use Rattle.sql_lex.specs.declared.token.TokenKind.TheVariants.{Word}
-use Rattle.sql_lex.specs.Meaning.{is_keyword_of}
-use Rattle.cat_model.specs.declared.object.QName.{QName}
-use Rattle.cat_model.specs.declared.constraint.SequenceKind.{SequenceKind}
-use Rattle.cat_model.specs.declared.constraint.SequenceKind.TheVariants.{SmallInt, Integer, BigInt}
+use Rattle.cat_model.specs.{declared.constraint.SequenceKind.SequenceKind, declared.constraint.SequenceKind.TheVariants.SmallInt, declared.constraint.SequenceKind.TheVariants.Integer, declared.constraint.SequenceKind.TheVariants.BigInt}
+use Rattle.ddl_forms.proofs.{Putting.begun, Tokens.a_word}
+use Rattle.ddl_laws.specs.Respelling.{IsPath}
+use Rattle.ddl_read.specs.{declared.sequences.Bound.Bound, declared.sequences.Bound.TheVariants.Unsaid, declared.sequences.Bound.TheVariants.Usual, declared.sequences.Bound.TheVariants.Given, declared.sequences.Field.Field, declared.sequences.Reached.Reached, SequenceGrammar.only_if, SequenceGrammar.given_or}
 use Rattle.cat_model.specs.declared.stmt.Stmt.TheVariants as stmt
-use Rattle.ddl_parts.specs.Lexemes.{Lexeme, is_word, is_sign, never, spelled, starts}
-use Rattle.ddl_parts.specs.Parts.{Part, stop, passes, run, seen, ◌then◌, ◌▸◌}
-use Rattle.ddl_write.specs.Paths.{path, joined, only_if as words_if}
-use Rattle.ddl_write.specs.Sequences.{usual_min, usual_max, type_words, bound, min_text, max_text}
-use Rattle.ddl_numbers.specs.Numbers.{count, count_first, count_value, counted, opposite, whole_number}
-use Rattle.ddl_numbers.proofs.NumberLaws.{count_begins, number_no_sign}
-use Rattle.ddl_read.specs.declared.sequences.Bound.{Bound}
-use Rattle.ddl_read.specs.declared.sequences.Bound.TheVariants.{Unsaid, Usual, Given}
-use Rattle.ddl_read.specs.declared.sequences.Field.{Field}
-use Rattle.ddl_read.specs.declared.sequences.Field.TheVariants.{First, Step, Least, Greatest, Cache}
-use Rattle.ddl_read.specs.declared.sequences.Open.TheVariants.{Both, Lower, Upper}
-use Rattle.ddl_read.specs.declared.sequences.ClauseSpot.{ClauseSpot}
-use Rattle.ddl_read.specs.declared.sequences.ClauseSpot.TheVariants.{Between, BehindAs, BehindStart, BehindIncrement, BehindNo, Due, BehindMinus}
-use Rattle.ddl_read.specs.declared.sequences.Clauses.{Clauses}
-use Rattle.ddl_read.specs.declared.sequences.Reached.{Reached}
-use Rattle.ddl_read.specs.SequenceGrammar.{no_clauses, is_unsaid, with_number, reached, only_if, behind_no, clause_first, kind_first, lower, upper, usual_first, numbered, step_first, clausing, first_reached, clauses_of, sequence_clauses, given_or, bound_or, usual_start, sequence_of, create_sequence}
-use Rattle.ddl_forms.proofs.Behind.{Anything, Words, Safe, End, admits, admitted, Opens, then_opens}
-use Rattle.ddl_parts.proofs.Simple.{passes_true as passed}
-use Rattle.ddl_forms.proofs.Numbers.{number_as, positive_is, opposite_is, IsBelow, count_below}
-use Rattle.ddl_forms.proofs.Putting.{Follows, IsPut, Yields, followed, begun, same_text, put_as, none_put, one_put, then_put, joined-append}
-use Rattle.ddl_forms.proofs.Standing.{is_safe_byte}
-use Rattle.ddl_forms.proofs.Tokens.{Gap, space, indented, indent, a_word}
-use Rattle.ddl_forms.proofs.Written.{Written, Kinds, not_closed, is_bare_word, bare_word, path_as, then_as, end_as, kind_as}
-use Rattle.ddl_laws.specs.Respelling.{IsInt, IsPath, IsWritable}
 
 -- ---- what a number brings on
 

@@ -1,38 +1,9 @@
 -- A statement as one composition of its kinds: which statements can be written, and that its text is its spelling behind
 -- a gap.
-use Rattle.std.proofs.Common.{ℕ, List, Some, None, refl, codes, ◌≡◌, suc, Bool, true, false, [], ◌∷◌, ◌++◌, map, append_assoc, Option, sym, ap, ◌∙◌, inl, inr}
-use Rattle.ddl_admin.specs.Roles.{create_role}
-use Rattle.ddl_read.specs.RelationGrammar.{create_view, replace_view, index_of, create_index, unique_index_of, create_unique_index, its_role, its_column}
-use Rattle.ddl_read.specs.Grammar.{create_schema, created, name_and_owner, path_and_owner, altered, selected, command, statement, its_owner, one_more_check}
-use Rattle.ddl_forms.proofs.Tokens.{Gap, none, space}
-use Rattle.ddl_forms.proofs.Written.{Written, Kinds, is_key, dot_as, word_as, ending as end_mark_as, mark_as, name_as, path_as, then_as, end_as, seen_as, choose_as, kind_as, led_as, or_as}
-use Rattle.ddl_laws.specs.Respelling.{IsWritable}
-use Rattle.ddl_laws.proofs.Relations.{new_owner_as, altered_domain_as, altered_sequence_as, setting_as, set_config_as, set_value_as, view_and_body_as, index_parts_as, copy_from_as, altered_table_as, constraint_body_as, own_change_as}
-use Rattle.ddl_laws.proofs.Tables.{create_enum_as, create_domain_as, create_table_as, lines_end}
-use Rattle.ddl_laws.proofs.Admin.{comment_on_as, alter_role_as, create_database_as, commented_object_as}
-use Rattle.ddl_laws.proofs.Rights.{granted_as, revoked_as, membership_as, to_as, from_as, opening_name, wanting, role_wanted, role_fit, role_spelled, rights_opened, rights_spelled}
-use Rattle.ddl_laws.proofs.Sequences.{create_sequence_as, Values, written, sequence_is}
-use Rattle.sql_lex.specs.Written.{quoted, doubled, written_name, written_literal}
-use Rattle.copy_text.specs.Texts.{IsName}
-use Rattle.copy_text.specs.Marks.{newline, end_mark}
-use Rattle.cat_model.specs.declared.object.QName.{QName}
-use Rattle.cat_model.specs.declared.constraint.Encoding.TheVariants.{Utf8}
-use Rattle.cat_model.specs.declared.stmt.Stmt.{Stmt}
-use Rattle.ddl_read.specs.declared.alters.Constraint.{Constraint}
-use Rattle.ddl_read.specs.declared.alters.Constraint.TheVariants.{Check, Primary, Unique, Foreign}
-use Rattle.ddl_read.specs.declared.alters.TableChange.{TableChange}
-use Rattle.ddl_read.specs.declared.alters.TableChange.TheVariants.{Owner, Default, Added}
-use Rattle.ddl_read.specs.AlterGrammar.{table_changed, key_word}
-use Rattle.ddl_write.specs.Paths.{path, listed, ending, joined}
-use Rattle.ddl_write.specs.Spelling.{spelling, owned_object, schema_text, set_text, setting_text, owner_text, domain_check_text}
-use Rattle.ddl_write.specs.Tables.{enum_text, domain_text, table_text, check_text, table_lines}
-use Rattle.ddl_write.specs.Sequences.{sequence_text, owned_by_text, value_text}
-use Rattle.ddl_write.specs.Views.{view_text, default_text}
-use Rattle.ddl_write.specs.Keys.{key_text, foreign_text, added_check_text, index_text}
-use Rattle.ddl_write.specs.RowsText.{copy_text}
-use Rattle.ddl_write.specs.RightsText.{grant_text, revoke_text, comment_text}
-use Rattle.ddl_write.specs.Roles.{role_text, changes_text, member_text, database_text}
-use Rattle.ddl_forms.specs.Texts.{IsPath}
+use Rattle.ddl_laws.proofs.Common.{ℕ, List, Some, None, refl, codes, ◌≡◌, suc, Bool, true, false, [], ◌∷◌, ◌++◌, map, append_assoc, Option, sym, ap, ◌∙◌, inl, inr, create_role, create_view, replace_view, index_of, create_index, unique_index_of, create_unique_index, its_role, its_column, create_schema, created, name_and_owner, path_and_owner, altered, selected, command, statement, its_owner, one_more_check, Gap, none, space, Written, Kinds, is_key, dot_as, word_as, ending as end_mark_as, mark_as, name_as, path_as, then_as, end_as, seen_as, choose_as, kind_as, led_as, or_as, IsWritable, quoted, doubled, written_name, written_literal, IsName, end_mark, QName, Utf8, Stmt, Constraint, Check, Primary, Unique, Foreign, TableChange, Owner, Default, Added, table_changed, key_word, path, joined, owned_object, schema_text, set_text, setting_text, owner_text, domain_check_text, enum_text, domain_text, table_text, check_text, table_lines, sequence_text, owned_by_text, value_text, view_text, key_text, foreign_text, added_check_text, index_text, grant_text, revoke_text, comment_text, role_text, changes_text, member_text, database_text, IsPath}
+use Rattle.ddl_parts.proofs.Lemmas.{newline}
+use Rattle.ddl_write.specs.{Paths.listed, Paths.ending, Spelling.spelling, Views.default_text, RowsText.copy_text}
+use Rattle.ddl_laws.proofs.{Relations.new_owner_as, Relations.altered_domain_as, Relations.altered_sequence_as, Relations.setting_as, Relations.set_config_as, Relations.set_value_as, Relations.view_and_body_as, Relations.index_parts_as, Relations.copy_from_as, Relations.altered_table_as, Relations.constraint_body_as, Relations.own_change_as, Tables.create_enum_as, Tables.create_domain_as, Tables.create_table_as, Tables.lines_end, Admin.comment_on_as, Admin.alter_role_as, Admin.create_database_as, Admin.commented_object_as, Rights.granted_as, Rights.revoked_as, Rights.membership_as, Rights.to_as, Rights.from_as, Rights.opening_name, Rights.wanting, Rights.role_wanted, Rights.role_fit, Rights.role_spelled, Rights.rights_opened, Rights.rights_spelled, Sequences.create_sequence_as, Sequences.Values, Sequences.written, Sequences.sequence_is}
 use Rattle.cat_model.specs.declared.grant.Owned.TheVariants as owned
 use Rattle.cat_model.specs.declared.stmt.Stmt.TheVariants as stmt
 use Rattle.cat_model.specs.declared.grant.Commented.TheVariants as commented
@@ -119,11 +90,6 @@ added_fit gap q n c named is fit = table_fit gap q (Added n c) named (own_change
 
 -- ---- the spelling
 
--- the spelling of a statement, or nothing
-abbrev pub given : Option (List ℕ) → List ℕ
-given None = []
-given (Some text) = text
-
 -- a statement can be written so, behind a gap and before a line feed
 abbrev pub IsSpelled : {g : List ℕ} → Gap g → Stmt → List ℕ → Type 0
 IsSpelled {g} gap s text = (fit : (command_as gap).written.Fit s) × (joined ((command_as gap).written.pieces s fit ++ (10 ∷ []) ∷ []) ≡ g ++ text)
@@ -158,7 +124,7 @@ role_spelled_so {g} gap role m c admin inherit z is text e =
       ap (λ (x : List ℕ). g ++ (codes "GRANT " ++ (written_name role ++ x))) (role_spelled role (role_wanted role) s fit ((10 ∷ []) ∷ []) ∙ e),
     )
 
-pub spelled_so : {g : List ℕ} (gap : Gap g) (s : Stmt) → IsWords s → IsWritable s → IsSpelled gap s (given (spelling s))
+pub spelled_so : {g : List ℕ} (gap : Gap g) (s : Stmt) → IsWords s → IsWritable s → IsSpelled gap s (spelling s)
 unfolding in_create in_alter in_comment added_fit member_fit spelling schema_text enum_text domain_text table_text sequence_text role_text database_text view_text index_text owner_text owned_object domain_check_text owned_by_text changes_text key_text foreign_text added_check_text default_text set_text setting_text value_text grant_text revoke_text member_text comment_text written_literal quoted doubled
 spelled_so gap (stmt.CreateSchema n) words is = (in_create gap _ 0 (n, is, refl), refl)
 spelled_so {g} gap (stmt.CreateEnum q labels) words is = (
@@ -175,8 +141,8 @@ spelled_so gap (stmt.CreateDatabase n None) words is = (in_create gap _ 5 ((n, N
 spelled_so gap (stmt.CreateDatabase n (Some Utf8)) words is = (in_create gap _ 5 ((n, Some Utf8), (is, tt), refl), refl)
 spelled_so gap (stmt.CreateView q body) words is = (in_create gap _ 6 ((q, body), (is.0, is.1), refl), refl)
 spelled_so gap (stmt.ReplaceView q body) words is = (in_create gap _ 7 ((q, body), (is.0, is.1), refl), refl)
-spelled_so gap (stmt.CreateIndex q n m rest) words is = (in_create gap _ 8 ((n, (q, (m, rest))), (is.1, (is.0, (is.2, is.3))), refl), refl)
-spelled_so gap (stmt.CreateUniqueIndex q n m rest) words is = (in_create gap _ 9 ((n, (q, (m, rest))), (is.1, (is.0, (is.2, is.3))), refl), refl)
+spelled_so gap (stmt.CreateIndex q n m rest) words is = (in_create gap _ 8 (record { name = n; table = q; method = m; rest = rest }, (is.1, (is.0, (is.2, is.3))), refl), refl)
+spelled_so gap (stmt.CreateUniqueIndex q n m rest) words is = (in_create gap _ 9 (record { name = n; table = q; method = m; rest = rest }, (is.1, (is.0, (is.2, is.3))), refl), refl)
 spelled_so gap (stmt.CreateSequence q kind start step min max cache cycle) words is =
     let v : Values = record { kind = kind; start = start; step = step; min = min; max = max; cache = cache; cycle = cycle } in
     (in_create gap _ 10 ((q, written v), (is.0, (v, (is.1, is.2, is.3, is.4, is.5), refl)), sequence_is q v), refl)

@@ -1,7 +1,7 @@
 -- What is known of some texts with COPY, and with lines that begin with a backslash.
 use Rattle.std.specs.Prelude.{◌≡◌, [], ◌∷◌, Ok, Err, codes}
 use Rattle.cat_model.specs.declared.stmt.Stmt.TheVariants as stmt
-use Rattle.ddl_read.specs.declared.fault.DdlFault.TheVariants.{Unknown, Incomplete}
+use Rattle.ddl_read.specs.declared.fault.DdlFault.TheVariants.{Unknown, LongName, Incomplete}
 use Rattle.ddl_read.specs.Reading.{statements_of}
 
 pub record CopyExamples : Type 0 where
@@ -16,4 +16,7 @@ pub record CopyExamples : Type 0 where
   pub connect : statements_of (codes "\\connect Shop\nCREATE SCHEMA c;") ≡ Ok (record { stmt = stmt.Connect (codes "shop"); start = 0; end = 13 } ∷ record { stmt = stmt.CreateSchema (codes "c"); start = 14; end = 30 } ∷ [])
   pub passed : statements_of (codes "\\restrict k1\n;\n\\unrestrict k1") ≡ Ok []
   pub unknown : statements_of (codes "\n\\encoding utf8\n") ≡ Err (Unknown 1)
+  -- a name that is none, at its first byte
+  pub empty_name : statements_of (codes "SET a = 1;\n\\connect \"\"") ≡ Err (Unknown 20)
+  pub long_name : statements_of (codes "\\connect xxxxxxxxxxxxxxxxxxxxxxxxxxxxxxxxxxxxxxxxxxxxxxxxxxxxxxxxxxxxxxxx") ≡ Err (LongName 9)
   pub within : statements_of (codes "CREATE SCHEMA\n\\connect d\n") ≡ Err (Unknown 14)

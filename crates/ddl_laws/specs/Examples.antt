@@ -65,3 +65,5 @@ pub record WorkedExamples : Type 0 where
   pub value : statements_of (codes "SELECT pg_catalog.setval(" ++ (39 ∷ codes "a.s") ++ (39 ∷ codes ", -5, FALSE);")) ≡ Ok (located (stmt.SetVal (in_a (codes "s")) (negsuc 4) false) 0 43 ∷ [])
   -- SELECT pg_catalog.setval('a.s t', 1, true);
   pub no_path : statements_of (codes "SELECT pg_catalog.setval(" ++ (39 ∷ codes "a.s t") ++ (39 ∷ codes ", 1, true);")) ≡ Err (Unknown 25)
+  -- the same of a path with a name that is too long
+  pub long_path : statements_of (codes "SELECT pg_catalog.setval(" ++ (39 ∷ codes "a.xxxxxxxxxxxxxxxxxxxxxxxxxxxxxxxxxxxxxxxxxxxxxxxxxxxxxxxxxxxxxxxx") ++ (39 ∷ codes ", 1, true);")) ≡ Err (LongName 25)

@@ -1,6 +1,6 @@
 -- Statements that lie in a text, each as it is written, with empty lines and lines of comments before them, between them and
 -- behind them.
-use Rattle.std.specs.Prelude.{◌≡◌, ℕ, true, List, [], ◌∷◌, ◌++◌, Some}
+use Rattle.std.specs.Prelude.{◌≡◌, ℕ, true, List, [], ◌∷◌, ◌++◌}
 use Rattle.std.specs.List.{list_all}
 use Rattle.std.specs.Str.{IsUtf8}
 use Rattle.sql_lex.specs.Bytes.{in_line}
@@ -20,4 +20,4 @@ pub data Lays : List ℕ → List Stmt → Type 0 where
   no_more : Lays [] []
   empty_line : (text : List ℕ) (statements : List Stmt) → Lays text statements → Lays (10 ∷ text) statements
   comment_line : (line text : List ℕ) (statements : List Stmt) → IsShown line → Lays text statements → Lays (comment line ++ text) statements
-  statement_text : (s : Stmt) (words text : List ℕ) (statements : List Stmt) → IsWritable s → spelling s ≡ Some words → Lays text statements → Lays (words ++ text) (s ∷ statements)
+  statement_text : (s : Stmt) (text : List ℕ) (statements : List Stmt) → IsWritable s → Lays text statements → Lays (spelling s ++ text) (s ∷ statements)

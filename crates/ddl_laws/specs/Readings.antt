@@ -1,6 +1,6 @@
 -- Which texts read as which statements, and which place of a text is the first from which on none reads.
 -- Said by relations, apart from how a text is read.
-use Rattle.std.specs.Prelude.{◌≡◌, ℕ, Bool, List, [], ◌∷◌, ◌++◌, length, Option, Some, None, Ok, Err}
+use Rattle.std.specs.Prelude.{◌≡◌, ◌↔◌, ℕ, Bool, true, List, [], ◌∷◌, ◌++◌, length, Option, Some, None, Ok, Err}
 use Rattle.sql_lex.specs.declared.fault.LexFault.{LexFault}
 use Rattle.sql_lex.specs.declared.token.Token.{Token}
 use Rattle.sql_lex.specs.declared.token.TokenKind.TheVariants.{MetaLine}
@@ -10,11 +10,12 @@ use Rattle.cat_model.specs.declared.stmt.Stmt.{Stmt}
 use Rattle.ddl_parts.specs.Lexemes.{Lexeme, start_of}
 use Rattle.ddl_parts.specs.Pieces.{lexemes}
 use Rattle.ddl_parts.specs.Collecting.{collected}
+use Rattle.ddl_parts.specs.Shortened.{IsTooLong, shortened}
 use Rattle.ddl_read.specs.declared.located.Located.{Located}
 use Rattle.ddl_read.specs.declared.fault.DdlFault.{DdlFault}
 use Rattle.ddl_read.specs.declared.fault.DdlFault.TheVariants.{Lex}
 use Rattle.ddl_read.specs.Grammar.{statement}
-use Rattle.ddl_lines.specs.MetaLines.{meta_line}
+use Rattle.ddl_lines.specs.MetaLines.{Wrong, meta_line}
 use Rattle.ddl_read.specs.Reading.{whole, completed, line_at, line_fault, listed, first_start, fault_by}
 
 -- all tokens from a place up to a semicolon spell a statement, or an empty one, and the rows of a COPY stand behind them;
@@ -39,8 +40,17 @@ pub data Reads (text : List ℕ) : ℕ → List Located → Type 0 where
   one_read : (at : ℕ) (s : Option Stmt) (start end : ℕ) (more : List Located) → IsStatement text at s start end → Reads text end more → Reads text at (listed s start end more)
   line_read : (at : ℕ) (s : Option Stmt) (start end : ℕ) (more : List Located) → IsLine text at s start end → Reads text end more → Reads text at (listed s start end more)
 
+-- The first of these tokens is too long, and with a shorter one in its place those before can be finished to a statement.
+pub record IsLongThere (front rest : List Lexeme) : Type 0 where
+  pub token : Lexeme
+  pub behind : List Lexeme
+  pub is : rest ≡ token ∷ behind
+  pub long : IsTooLong token
+  pub finished : (s : Option Stmt) × (more : List Lexeme) × statement.Spells s (front ++ shortened token ∷ more)
+
 -- A statement's tokens go on up to a place: those before can be finished to a statement, and with the next token they
--- can't, whatever comes behind it; or they end there, and are none.
+-- can't, whatever comes behind it; or they end there, and are none. The next token is too long where a shorter one in its
+-- place could go on.
 pub record IsStuck (text : List ℕ) (at : ℕ) (fault : DdlFault) : Type 0 where
   pub front : List Lexeme
   pub rest : List Lexeme
@@ -49,6 +59,7 @@ pub record IsStuck (text : List ℕ) (at : ℕ) (fault : DdlFault) : Type 0 wher
   pub none : (t : Lexeme) (behind : List Lexeme) → rest ≡ t ∷ behind → (s : Option Stmt) (more : List Lexeme) → ¬ statement.Spells s (front ++ t ∷ more)
   pub short : rest ≡ [] → (s : Option Stmt) → ¬ statement.Spells s front
   pub long : Bool
+  pub too_long : (long ≡ true) ↔ IsLongThere front rest
   pub place : fault ≡ fault_by (length text) (collected text at).fault long (start_of rest)
 
 -- the tokens are a COPY, and behind them stands a byte with which no rows begin
@@ -62,9 +73,9 @@ pub record IsBadLine (text : List ℕ) (at : ℕ) (fault : DdlFault) : Type 0 wh
   pub start : ℕ
   pub end : ℕ
   pub next : next_token_of text at ≡ Ok (Some (line_token start end))
-  pub long : Bool
-  pub none : meta_line (spelling text (line_token start end)) ≡ Err long
-  pub is : fault ≡ line_fault long start
+  pub wrong : Wrong
+  pub none : meta_line (spelling text (line_token start end)) ≡ Err wrong
+  pub is : fault ≡ line_fault start wrong
 
 -- from a place on a text reads as statements up to this fault
 pub data FailsAt (text : List ℕ) : ℕ → DdlFault → Type 0 where

@@ -114,14 +114,10 @@ abbrev pub AllWritable : List Stmt → Type 0
 AllWritable [] = Unit {0}
 AllWritable (s ∷ more) = IsWritable s × AllWritable more
 
-abbrev pub joined : Option (List ℕ) → Option (List ℕ) → Option (List ℕ)
-joined (Some a) (Some b) = Some (a ++ b)
-joined _ _ = None
-
--- the spellings of statements, one after another; None where one has none
-abbrev pub spellings : List Stmt → Option (List ℕ)
-spellings [] = Some []
-spellings (s ∷ more) = joined (spelling s) (spellings more)
+-- the spellings of statements, one after another
+abbrev pub spellings : List Stmt → List ℕ
+spellings [] = []
+spellings (s ∷ more) = spelling s ++ spellings more
 
 -- what located statements say
 abbrev pub said : List Located → List Stmt

@@ -1,15 +1,15 @@
 //! Laws of the definitions, each the contract of a function that does nothing.
-ghost use Rattle.std.specs.Prelude.{◌≡◌, ◌↔◌, ℕ, List, None, Some, Ok, Err};
+ghost use Rattle.std.specs.Prelude.{◌≡◌, ◌↔◌, ℕ, List, [], ◌∷◌, None, Ok, Err};
 ghost use Rattle.cat_model.specs.declared.object.QName.{QName};
 ghost use Rattle.ddl_parts.specs.Collecting.{collected};
 ghost use Rattle.ddl_parts.specs.Leaves.{qualified};
 ghost use Rattle.ddl_parts.specs.Pieces.{lexemes};
 ghost use Rattle.ddl_parts.specs.Laws.{Lawful};
 ghost use Rattle.ddl_read.specs.AlterGrammar.{constraint_body};
-ghost use Rattle.ddl_read.specs.ValueGrammar.{path_in};
+ghost use Rattle.ddl_read.specs.RelationGrammar.{index_body};
+ghost use Rattle.ddl_parts.specs.Shortened.{path_in};
 ghost use Rattle.ddl_read.specs.declared.located.Located.{Located};
 ghost use Rattle.ddl_read.specs.declared.fault.DdlFault.{DdlFault};
-ghost use Rattle.ddl_read.specs.Faults.{fault_place};
 ghost use Rattle.ddl_read.specs.Reading.{statements_of};
 ghost use Rattle.ddl_laws.specs.Readings.{Reads, FailsAt};
 ghost use Rattle.cat_model.specs.declared.stmt.Stmt.{Stmt};
@@ -28,20 +28,17 @@ pub fn reading_is_exact()
         ↔ Reads text 0 statements }
 {}
 
-/// A fault is at the first place from which on no statement goes on: what stands before it can be finished.
+/// A fault is told exactly where a text reads up to it: at the first place from which on no statement goes on, where what
+/// stands before can be finished. There is one at most.
 pub fn the_first_fault_is_told()
-    ensures { (text : List ℕ) (fault : DdlFault) → statements_of text ≡ Err fault → FailsAt text 0 fault }
+    ensures exact { (text : List ℕ) (fault : DdlFault) → (statements_of text ≡ Err fault) ↔ FailsAt text 0 fault }
+    ensures one { (text : List ℕ) (fault other : DdlFault) → FailsAt text 0 fault → FailsAt text 0 other → fault ≡ other }
 {}
 
-/// And where a text reads up to a fault, it is read up to one, at the same place.
-pub fn a_fault_has_one_place()
-    ensures { (text : List ℕ) (fault : DdlFault) → FailsAt text 0 fault
-        → (found : DdlFault) × (statements_of text ≡ Err found) × (fault_place found ≡ fault_place fault) }
-{}
-
-/// A constraint's definition has the laws of a part.
-pub fn constraints_have_their_laws()
-    ensures { Lawful constraint_body }
+/// A constraint's definition, and that of an index, has the laws of a part.
+pub fn definitions_have_their_laws()
+    ensures constraints { Lawful constraint_body }
+    ensures indexes { Lawful index_body }
 {}
 
 /// A literal's text is a path exactly where all of its tokens together spell it, and no fault stands behind them.
@@ -77,8 +74,8 @@ pub fn grants_meet_the_examples()
 
 /// Statements that are written one after another read as these statements: so the spelling of a statement reads as it.
 pub fn written_statements_are_read_back()
-    ensures { (statements : List Stmt) (text : List ℕ) → AllWritable statements → spellings statements ≡ Some text
-        → (found : List Located) × (statements_of text ≡ Ok found) × (said found ≡ statements) }
+    ensures { (statements : List Stmt) → AllWritable statements
+        → (found : List Located) × (statements_of (spellings statements) ≡ Ok found) × (said found ≡ statements) }
 {}
 
 /// Statements that lie in a text as they are written, with empty lines and lines of comments between them, are what the text
@@ -93,14 +90,13 @@ pub fn what_was_read_can_be_written()
     ensures { (text : List ℕ) (statements : List Located) → statements_of text ≡ Ok statements → AllWritable (said statements) }
 {}
 
-/// A statement that can be written has a spelling.
+/// The spelling of a statement that can be written is a text in which it lies.
 pub fn what_can_be_written_is_spelled()
-    ensures { (statement : Stmt) → IsWritable statement → (text : List ℕ) × (spelling statement ≡ Some text) }
+    ensures { (statement : Stmt) → IsWritable statement → Lays (spelling statement) (statement ∷ []) }
 {}
 
 /// Where a text reads as statements, their spellings, joined, are a text that reads as the same statements.
 pub fn statements_that_were_read_are_read_again()
     ensures { (text : List ℕ) (statements : List Located) → statements_of text ≡ Ok statements
-        → (again : List ℕ) × (spellings (said statements) ≡ Some again)
-        × ((same : List Located) × (statements_of again ≡ Ok same) × (said same ≡ said statements)) }
+        → (same : List Located) × (statements_of (spellings (said statements)) ≡ Ok same) × (said same ≡ said statements) }
 {}

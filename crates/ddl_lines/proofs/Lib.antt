@@ -1,3 +1,4 @@
+pub mod Common
 pub mod RowLaws
 pub mod OneToken
 pub mod RowTexts

@@ -1,25 +1,7 @@
 -- What a line with a backslash says is a name of one line.
-use Rattle.std.proofs.Common.{◌≡◌, ◌≢◌, ℕ, zero, suc, ◌-◌, Bool, true, false, cond, not, ◌&&◌, ◌||◌, List, [], ◌∷◌, length, map, take, drop, Option, Some, None, Result, Ok, Err, refl, ap, subst, ◌⊎◌, arith, inl, inr}
-use Rattle.std.specs.Prelude.{◌==◌, nat_lt, codes}
-use Rattle.std.specs.List.{list_all, list_any, AllByRecursion as ByRecursion}
-use Rattle.std.specs.Char.{to_ascii_lowercase}
-use Rattle.std.specs.Str.{is_utf8, bytes_eq}
-use Rattle.std.proofs.lemmas.Bool.{and_parts, or_parts, cases_Bool, and_from}
-use Rattle.std.proofs.lemmas.Bool.Decides.{nat_tests}
-use Rattle.std.proofs.lemmas.List.Elements.{All-from_recursion}
-use Rattle.std.proofs.lemmas.Str.{IsUtf8-from_is_utf8}
-use Rattle.copy_text.specs.Texts.{IsName}
-use Rattle.sql_lex.specs.declared.token.TokenKind.{TokenKind}
-use Rattle.sql_lex.specs.declared.token.TokenKind.TheVariants.{Word, QuotedName, Literal, Number, Sign, MetaLine}
-use Rattle.sql_lex.specs.Bytes.{in_line}
-use Rattle.sql_lex.specs.Meaning.{unless, inside, undoubled, name_of, spelling}
-use Rattle.cat_model.specs.declared.stmt.Stmt.{Stmt}
+use Rattle.ddl_lines.proofs.Common.{◌≡◌, ◌≢◌, ℕ, zero, suc, ◌+◌, ◌-◌, Bool, true, false, cond, not, ◌&&◌, ◌||◌, List, [], ◌∷◌, length, map, take, drop, Option, Some, None, Result, Ok, Err, refl, ap, subst, ◌⊎◌, arith, inl, inr, ◌==◌, nat_lt, codes, list_all, list_any, AllByRecursion as ByRecursion, to_ascii_lowercase, is_utf8, and_parts, or_parts, cases_Bool, and_from, nat_tests, All-from_recursion, IsUtf8-from_is_utf8, IsName, TokenKind, Word, QuotedName, Literal, Number, Sign, MetaLine, in_line, unless, inside, undoubled, name_of, spelling, Stmt, Piece, name_in, name_value, is_name_kind, lexeme_of, collected, IsSaid, Wrong, unknown, named, command_len, stands_alone, one_name, name_alone, connected, said_by, meta_line}
+use Rattle.std.specs.Str.{bytes_eq}
 use Rattle.cat_model.specs.declared.stmt.Stmt.TheVariants.{Connect}
-use Rattle.ddl_parts.specs.declared.pieces.Piece.{Piece}
-use Rattle.ddl_parts.specs.Leaves.{name_in, name_value}
-use Rattle.ddl_parts.specs.Pieces.{lexeme_of}
-use Rattle.ddl_parts.specs.Collecting.{collected}
-use Rattle.ddl_lines.specs.MetaLines.{IsSaid, command_len, stands_alone, one_name, name_alone, connected, said_by, meta_line}
 
 -- ---- a name is a name
 
@@ -109,21 +91,25 @@ piece_name text p n all e =
     let h = name_in_is (name_of p.token.kind (spelling text p.token)) n e in
     (h.1, named_line p.token.kind (spelling text p.token) n (take_line (p.token.end - p.token.start) (drop p.token.start text) (drop_line p.token.start text all)) h.0)
 
-one_name_is : (text : List ℕ) (ps : List Piece) (n : List ℕ) → OneLine text → one_name text ps ≡ Ok n → IsName n × OneLine n
-one_name_is text [] n all e = absurd cc
-one_name_is text (p ∷ q ∷ ps) n all e = absurd cc
-one_name_is text (p ∷ []) n all e = elim (cases_Bool (stands_alone text p)) [
-  | inl is ↦ piece_name text p n all (rw is at e)
+named_is : (at : ℕ) (r : Result (List ℕ) Bool) (n : List ℕ) → named at r ≡ Ok n → r ≡ Ok n
+named_is at (Ok m) n e = cc
+named_is at (Err long) n e = absurd cc
+
+one_name_is : (len : ℕ) (text : List ℕ) (ps : List Piece) (n : List ℕ) → OneLine text → one_name len text ps ≡ Ok n → IsName n × OneLine n
+one_name_is len text [] n all e = absurd cc
+one_name_is len text (p ∷ q ∷ ps) n all e = absurd cc
+one_name_is len text (p ∷ []) n all e = elim (cases_Bool (stands_alone text p && is_name_kind p.token.kind)) [
+  | inl is ↦ piece_name text p n all (named_is (len + p.token.start) (name_value (lexeme_of text p)) n (rw is at e))
   | inr isnt ↦ absurd (let f = rw isnt at e in cc)
 ]
 
-alone_is : (text n : List ℕ) → OneLine text → name_alone text ≡ Ok n → IsName n × OneLine n
+alone_is : (len : ℕ) (text n : List ℕ) → OneLine text → name_alone len text ≡ Ok n → IsName n × OneLine n
 unfolding name_alone
-alone_is text n all e = one_name_is text (collected text 0).pieces n all e
+alone_is len text n all e = one_name_is len text (collected text 0).pieces n all e
 
-connected_is : (text : List ℕ) (r : Result (List ℕ) Bool) (s : Option Stmt) → OneLine text → name_alone text ≡ r → connected r ≡ Ok s → IsSaid s
-connected_is text (Ok n) s all is e = let same : Some (Connect n) ≡ s = cc in let h = alone_is text n all is in subst IsSaid same (inr (n, refl, h.0, h.1))
-connected_is text (Err long) s all is e = absurd cc
+connected_is : (len : ℕ) (text : List ℕ) (r : Result (List ℕ) Wrong) (s : Option Stmt) → OneLine text → name_alone len text ≡ r → connected r ≡ Ok s → IsSaid s
+connected_is len text (Ok n) s all is e = let same : Some (Connect n) ≡ s = cc in let h = alone_is len text n all is in subst IsSaid same (inr (n, refl, h.0, h.1))
+connected_is len text (Err wrong) s all is e = absurd cc
 
 said_is : (command behind : List ℕ) (s : Option Stmt) → OneLine behind → said_by command behind ≡ Ok s → IsSaid s
 unfolding said_by
@@ -132,8 +118,8 @@ said_is command behind s all e = elim (cases_Bool (bytes_eq command (codes "\\re
   | inr isnt ↦ let f = rw isnt at e in by_connect (cases_Bool (bytes_eq command (codes "\\connect"))) f
 ]
   where
-    by_connect : (bytes_eq command (codes "\\connect") ≡ true) ⊎ (bytes_eq command (codes "\\connect") ≡ false) → cond (bytes_eq command (codes "\\connect")) (connected (name_alone behind)) (Err false) ≡ Ok s → IsSaid s
-    by_connect (inl is) f = connected_is behind (name_alone behind) s all refl (rw is at f)
+    by_connect : (bytes_eq command (codes "\\connect") ≡ true) ⊎ (bytes_eq command (codes "\\connect") ≡ false) → cond (bytes_eq command (codes "\\connect")) (connected (name_alone (length command) behind)) unknown ≡ Ok s → IsSaid s
+    by_connect (inl is) f = connected_is (length command) behind (name_alone (length command) behind) s all refl (rw is at f)
     by_connect (inr isnt) f = absurd (let g = rw isnt at f in cc)
 
 pub said_is_a_name : (line : List ℕ) (s : Option Stmt) → list_all in_line line ≡ true → meta_line line ≡ Ok s → IsSaid s

@@ -1,8 +1,5 @@
 -- One token of a text lies in it.
-use Rattle.std.proofs.Common.{◌≡◌, ℕ, ◌<◌, ◌≤◌, true, List, [], ◌∷◌, length, arith, leb-true, ltb-true, slice_index_or}
-use Rattle.std.proofs.lemmas.Bool.{and_parts}
-use Rattle.ddl_parts.specs.declared.pieces.Piece.{Piece}
-use Rattle.ddl_parts.specs.Pieces.{are_joined, are_joined_from}
+use Rattle.ddl_lines.proofs.Common.{◌≡◌, ℕ, ◌<◌, ◌≤◌, true, List, [], ◌∷◌, length, arith, leb-true, ltb-true, slice_index_or, and_parts, Piece, are_joined, are_joined_from}
 
 pub first_within : (limit : ℕ) (ps : List Piece) (d : Piece) → are_joined limit ps ≡ true → 0 < length ps → ((slice_index_or ps 0 d).token.start ≤ limit) × ((slice_index_or ps 0 d).token.end ≤ limit)
 unfolding are_joined are_joined_from

@@ -1,20 +1,9 @@
 -- The rows of a text, line by line.
-use Rattle.std.proofs.Common.{◌≡◌, ◌≢◌, ℕ, suc, ◌+◌, ◌-◌, ◌<◌, ◌≤◌, min, Bool, true, false, cond, eqb, List, [], ◌∷◌, ◌++◌, length, take, drop, Result, Ok, Err, refl, sym, ap, ◌∙◌, arith, inl, inr, append_assoc, append-nil, length-append}
-use Rattle.std.specs.Prelude.{slice_range, IfOk}
-use Rattle.std.proofs.Math.Nat.{min-eq_right}
+use Rattle.ddl_lines.proofs.Common.{◌≡◌, ◌≢◌, ℕ, suc, ◌+◌, ◌-◌, ◌<◌, ◌≤◌, min, Bool, true, false, cond, eqb, List, [], ◌∷◌, ◌++◌, length, take, drop, Result, Ok, Err, refl, sym, ap, ◌∙◌, arith, inl, inr, append_assoc, append-nil, length-append, slice_range, IfOk, cases_Bool, cond-false, take_rest, length-drop, length-take, drop_all, flat_map-cons, bytes_eq-Decides, newline, end_mark, lines, before_end_mark, line_at, IsNextLine, len_of, lines_nil, seam, seen, with_feeds, rows_in, Copied, copied, rows_from}
+use Rattle.std.proofs.{Math.Nat.min-eq_right, lemmas.Bool.eqb-true}
 use Rattle.std.specs.Str.{bytes_eq}
-use Rattle.std.proofs.lemmas.Bool.{cases_Bool, cond-false, eqb-true}
-use Rattle.std.proofs.lemmas.List.{take_rest, length-drop, length-take, drop_all}
-use Rattle.std.proofs.lemmas.List.Concat.{flat_map-cons}
-use Rattle.std.proofs.lemmas.Slice.Eq.{bytes_eq-Decides}
-use Rattle.copy_text.specs.declared.line.Line.TheVariants.{Row, Stop, End}
-use Rattle.copy_text.specs.declared.line.Line.{Line}
-use Rattle.copy_text.specs.Marks.{newline, end_mark}
-use Rattle.copy_text.specs.Lines.{lines, before_end_mark, line_at, IsNextLine}
-use Rattle.copy_text.proofs.LineLemmas.{len_of, lines_nil}
-use Rattle.ddl_parts.proofs.Slices.{seam}
+use Rattle.copy_text.specs.{declared.line.Line.TheVariants.Row, declared.line.Line.TheVariants.Stop, declared.line.Line.TheVariants.End, declared.line.Line.Line}
 use Rattle.ddl_lines.specs.declared.copy_rows.Rows.{Rows}
-use Rattle.ddl_lines.specs.CopyRows.{seen, with_feeds, rows_in, Copied, copied, rows_from}
 
 -- ---- the line at a place
 

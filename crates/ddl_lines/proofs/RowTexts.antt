@@ -1,17 +1,7 @@
 -- Rows as a text: what is read are rows, and rows that are written are read back.
-use Rattle.std.proofs.Common.{◌≡◌, ℕ, suc, ◌+◌, ◌≤◌, min, false, eqb, List, [], ◌∷◌, ◌++◌, length, drop, Ok, refl, sym, ap, subst, ◌∙◌, arith, inl, inr, append_assoc, append-nil, length-append}
-use Rattle.std.specs.List.{onto_first, prefix_len, AllByRecursion as ByRecursion}
+use Rattle.ddl_lines.proofs.Common.{◌≡◌, ℕ, suc, ◌+◌, ◌≤◌, min, false, eqb, List, [], ◌∷◌, ◌++◌, length, drop, Ok, refl, sym, ap, subst, ◌∙◌, arith, inl, inr, append_assoc, append-nil, length-append, onto_first, prefix_len, AllByRecursion as ByRecursion, drop-append_seam, drop-append-add, cases_Bool, cond-false, length-drop, flat_map-cons, newline, end_mark, lines, before_end_mark, data_lines, lines_nil, is_between, with_feeds, rows_in, AreRows, Copied, copied, rows_from, rows_by, rows_at, rows_behind}
+use Rattle.std.proofs.{lemmas.Grind.flat_map-append, lemmas.List.Sums.prefix_len-le-length}
 use Rattle.std.specs.Str.{bytes_eq}
-use Rattle.std.proofs.Math.Seq.{drop-append_seam, drop-append-add}
-use Rattle.std.proofs.lemmas.Bool.{cases_Bool, cond-false}
-use Rattle.std.proofs.lemmas.Grind.{flat_map-append}
-use Rattle.std.proofs.lemmas.List.{length-drop}
-use Rattle.std.proofs.lemmas.List.Concat.{flat_map-cons}
-use Rattle.std.proofs.lemmas.List.Sums.{prefix_len-le-length}
-use Rattle.copy_text.specs.Marks.{newline, end_mark}
-use Rattle.copy_text.specs.Lines.{lines, before_end_mark, data_lines}
-use Rattle.copy_text.proofs.LineLemmas.{lines_nil}
-use Rattle.ddl_lines.specs.CopyRows.{is_between, with_feeds, rows_in, AreRows, Copied, copied, rows_from, rows_by, rows_at, rows_behind}
 
 -- ---- lines
 

@@ -1,8 +1,8 @@
 -- What is known of some texts.
-use Rattle.std.specs.Prelude.{◌≡◌, false, [], Some, None, Ok, Err, codes}
+use Rattle.std.specs.Prelude.{◌≡◌, true, false, [], Some, None, Ok, Err, codes}
 use Rattle.cat_model.specs.declared.stmt.Stmt.TheVariants.{Connect}
 use Rattle.ddl_lines.specs.CopyRows.{rows_behind}
-use Rattle.ddl_lines.specs.MetaLines.{meta_line}
+use Rattle.ddl_lines.specs.MetaLines.{meta_line, unknown}
 
 pub record WorkedExamples : Type 0 where
   pub rows : rows_behind (codes ";\n1\t2\n\\.\nSET") 1 ≡ Ok (record { rows = codes "1\t2\n"; end = 9 })
@@ -15,7 +15,10 @@ pub record WorkedExamples : Type 0 where
   pub folded : meta_line (codes "\\connect Shop ") ≡ Ok (Some (Connect (codes "shop")))
   pub passed : meta_line (codes "\\restrict 4f2 x") ≡ Ok None
   pub passed_too : meta_line (codes "\\unrestrict") ≡ Ok None
-  pub two_names : meta_line (codes "\\connect a b") ≡ Err false
-  pub remark : meta_line (codes "\\connect a -- b") ≡ Err false
-  pub no_name : meta_line (codes "\\connect") ≡ Err false
-  pub other : meta_line (codes "\\restricted") ≡ Err false
+  pub two_names : meta_line (codes "\\connect a b") ≡ unknown
+  pub remark : meta_line (codes "\\connect a -- b") ≡ unknown
+  pub no_name : meta_line (codes "\\connect") ≡ unknown
+  pub other : meta_line (codes "\\restricted") ≡ unknown
+  -- what stands for the name is none
+  pub empty_name : meta_line (codes "\\connect  \"\"") ≡ Err (record { long = false; at = 10 })
+  pub long_name : meta_line (codes "\\connect xxxxxxxxxxxxxxxxxxxxxxxxxxxxxxxxxxxxxxxxxxxxxxxxxxxxxxxxxxxxxxxx") ≡ Err (record { long = true; at = 9 })

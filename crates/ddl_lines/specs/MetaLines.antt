@@ -1,5 +1,5 @@
 -- What a line says that begins with a backslash, as psql has them: the line is one token.
-use Rattle.std.specs.Prelude.{◌≡◌, ◌⊎◌, ℕ, Bool, true, false, not, ◌&&◌, ◌||◌, List, [], ◌∷◌, take, drop, Option, Some, None, Result, Ok, Err, ⊤, if◌then◌else◌, codes}
+use Rattle.std.specs.Prelude.{◌≡◌, ◌⊎◌, ℕ, ◌+◌, ◌≤◌, Bool, true, false, not, ◌&&◌, ◌||◌, List, [], ◌∷◌, length, take, drop, Option, Some, None, Result, Ok, Err, ⊤, if◌then◌else◌, codes}
 use Rattle.std.specs.List.{list_all, prefix_len}
 use Rattle.std.specs.Str.{bytes_eq}
 use Rattle.copy_text.specs.Texts.{IsName}
@@ -7,7 +7,7 @@ use Rattle.sql_lex.specs.Bytes.{is_blank, in_line}
 use Rattle.cat_model.specs.declared.stmt.Stmt.{Stmt}
 use Rattle.cat_model.specs.declared.stmt.Stmt.TheVariants.{Connect}
 use Rattle.ddl_parts.specs.declared.pieces.Piece.{Piece}
-use Rattle.ddl_parts.specs.Leaves.{name_value}
+use Rattle.ddl_parts.specs.Leaves.{name_value, is_name_kind}
 use Rattle.ddl_parts.specs.Pieces.{lexeme_of}
 use Rattle.ddl_parts.specs.Collecting.{collected}
 use Rattle.ddl_lines.specs.declared.meta_lines.MetaError.{MetaError}
@@ -23,28 +23,42 @@ command_len line = prefix_len (λ b. not (is_blank b)) line
 unfoldable pub stands_alone : List ℕ → Piece → Bool
 stands_alone text p = list_all is_blank (take p.token.start text) && list_all is_blank (drop p.token.end text)
 
--- one name, and white space around it; the error says whether it is one but for its length
-abbrev pub one_name : List ℕ → List Piece → Result (List ℕ) Bool
-one_name text (p ∷ []) = if stands_alone text p then name_value (lexeme_of text p) else Err false
-one_name text _ = Err false
+-- why a line says nothing: the place in it from which on it doesn't, and whether a name there is one but for its length
+pub record Wrong : Type 0 where
+  pub long : Bool
+  pub at : ℕ
 
-unfoldable pub name_alone : List ℕ → Result (List ℕ) Bool
-name_alone text = one_name text (collected text 0).pieces
+-- the line is none that is known
+abbrev pub unknown : {A : Type 0} → Result A Wrong
+unknown = Err (record { long = false; at = 0 })
+
+-- what a name or a quoted text at a place stands for
+abbrev pub named : ℕ → Result (List ℕ) Bool → Result (List ℕ) Wrong
+named at (Ok n) = Ok n
+named at (Err long) = Err (record { long = long; at = at })
+
+-- one name, and white space around it, behind a command of this length
+abbrev pub one_name : ℕ → List ℕ → List Piece → Result (List ℕ) Wrong
+one_name len text (p ∷ []) = if stands_alone text p && is_name_kind p.token.kind then named (len + p.token.start) (name_value (lexeme_of text p)) else unknown
+one_name len text _ = unknown
+
+unfoldable pub name_alone : ℕ → List ℕ → Result (List ℕ) Wrong
+name_alone len text = one_name len text (collected text 0).pieces
 
 -- ---- what it says
 
-abbrev pub connected : Result (List ℕ) Bool → Result (Option Stmt) Bool
+abbrev pub connected : Result (List ℕ) Wrong → Result (Option Stmt) Wrong
 connected (Ok n) = Ok (Some (Connect n))
-connected (Err long) = Err long
+connected (Err wrong) = Err wrong
 
 -- \restrict and \unrestrict are passed over, whatever stands behind them; \connect has a name
-unfoldable pub said_by : List ℕ → List ℕ → Result (Option Stmt) Bool
+unfoldable pub said_by : List ℕ → List ℕ → Result (Option Stmt) Wrong
 said_by command behind =
     if bytes_eq command (codes "\\restrict") || bytes_eq command (codes "\\unrestrict") then Ok None
-    else (if bytes_eq command (codes "\\connect") then connected (name_alone behind) else Err false)
+    else (if bytes_eq command (codes "\\connect") then connected (name_alone (length command) behind) else unknown)
 
--- The statement of a line, or None where it is passed over. The error says whether it is one but for a name's length.
-unfoldable pub meta_line : List ℕ → Result (Option Stmt) Bool
+-- the statement of a line, or None where it is passed over
+unfoldable pub meta_line : List ℕ → Result (Option Stmt) Wrong
 meta_line line = said_by (take (command_len line) line) (drop (command_len line) line)
 
 -- what a line of a script says: nothing, or a name, which lies in one line too
@@ -53,14 +67,17 @@ IsSaid s = (s ≡ None) ⊎ ((n : List ℕ) × (s ≡ Some (Connect n)) × IsNam
 
 -- ---- what the code answers
 
-abbrev pub long_error : Bool → MetaError
-long_error b = if b then errors.LongName else errors.Unknown
-
-abbrev pub Fails : {A : Type 0} → MetaError → Result A Bool → Type 0
+abbrev pub Fails : {A : Type 0} → MetaError → Result A Wrong → Type 0
 Fails errors.Memory given = ⊤
-Fails errors.LongName given = given ≡ Err true
-Fails errors.Unknown given = given ≡ Err false
+Fails (errors.LongName at) given = given ≡ Err (record { long = true; at = at })
+Fails (errors.Unknown at) given = given ≡ Err (record { long = false; at = at })
 
-abbrev pub Gives : {A B : Type 0} → (A → B) → Result A MetaError → Result B Bool → Type 0
+abbrev pub Gives : {A B : Type 0} → (A → B) → Result A MetaError → Result B Wrong → Type 0
 Gives view (Ok x) given = given ≡ Ok (view x)
 Gives view (Err error) given = Fails error given
+
+-- the place of an error lies in a line of this length, or right behind it
+abbrev pub IsWithin : ℕ → MetaError → Type 0
+IsWithin len errors.Memory = ⊤
+IsWithin len (errors.LongName at) = at ≤ len
+IsWithin len (errors.Unknown at) = at ≤ len

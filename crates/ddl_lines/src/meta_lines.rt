@@ -1,25 +1,27 @@
 //! Lines that begin with a backslash.
-ghost use Rattle.std.specs.Prelude.{◌≡◌, ◌≤◌, length, not};
+ghost use Rattle.std.specs.Prelude.{◌≡◌, ◌<◌, ◌≤◌, ◌+◌, ◌^◌, length, not, IfErr};
 ghost use Rattle.std.specs.List.{list_all};
 ghost use Rattle.sql_lex.specs.Bytes.{is_blank};
-ghost use Rattle.ddl_lines.specs.MetaLines.{Gives, command_len, meta_line, name_alone, said_by, stands_alone};
+ghost use Rattle.ddl_parts.specs.Leaves.{is_name_kind};
+ghost use Rattle.ddl_lines.specs.MetaLines.{Gives, IsWithin, command_len, meta_line, name_alone, said_by, stands_alone};
 ghost use Rattle.ddl_lines.specs.declared.meta_lines.MetaError.TheVariants as errors;
 
 use cat_model::Stmt;
 use copy_text::Name;
 use ddl_parts::{Halt, Piece, Pieces, ReadError, collect};
+use sql_lex::TokenKind;
 use std::alloc::{AllocError, AllocFailed, Global};
 use thiserror::Error;
 
 /// Why a line says nothing.
 #[derive(Debug, Drop, Error)]
 pub enum MetaError {
-    /// No such line is known.
-    #[error("the line is unknown")]
-    Unknown,
-    /// Its name has more than 63 bytes.
-    #[error("the line's name is too long")]
-    LongName,
+    /// No such line is known, and the place is 0; or what stands for its name, at this place in the line, is no name.
+    #[error("the line is unknown at byte {0}")]
+    Unknown(usize),
+    /// Its name, at this place in the line, has more than 63 bytes.
+    #[error("the name at byte {0} of the line is too long")]
+    LongName(usize),
     /// Memory ran out.
     #[error("out of memory")]
     Memory,
@@ -75,23 +77,43 @@ fn stands_alone(text: &[u8], piece: Piece) -> bool
     are_blank(&text[..piece.token.start]) && are_blank(&text[piece.token.end..])
 }
 
-/// The one name of a text that has nothing else.
+/// Whether tokens of the kind are names.
+fn is_name_kind(kind: TokenKind) -> bool
+    ensures { result ≡ is_name_kind kind }
+{
+    matches!(kind, TokenKind::Word | TokenKind::QuotedName)
+}
+
+/// The place in a line of a token in the text behind a command of this length.
+fn place(len: usize, text: &[u8], piece: Piece) -> usize
+    requires room { len + length text.now < 2 ^ 64 }
+    requires high { piece.token.start ≤ length text.now }
+    ensures exact { result ≡ len + piece.token.start }
+    ensures within { result ≤ len + length text.now }
+{
+    len + piece.token.start
+}
+
+/// The one name of a text that has nothing else, behind a command of this length.
 #[tactic(auto, unfolding(crate::specs::MetaLines::name_alone))]
-fn name_alone(alloc: Global, text: &[u8]) -> Result<Name, MetaError>
-    ensures { Gives (λ n. n) result (name_alone text.now) }
+fn name_alone(alloc: Global, len: usize, text: &[u8]) -> Result<Name, MetaError>
+    requires { len + length text.now < 2 ^ 64 }
+    ensures exact { Gives (λ n. n) result (name_alone len text.now) }
+    ensures within { IfErr result (IsWithin (len + length text.now)) }
 {
     let found = collect(alloc, text, 0)?;
     let piece = match found.pieces.as_slice() {
         [piece] => *piece,
-        _ => return Err(MetaError::Unknown),
+        _ => return Err(MetaError::Unknown(0)),
     };
-    if !stands_alone(text, piece) {
-        return Err(MetaError::Unknown);
+    if !stands_alone(text, piece) || !is_name_kind(piece.token.kind) {
+        return Err(MetaError::Unknown(0));
     }
+    let at = place(len, text, piece);
     match Pieces::new(text, found.pieces).name(alloc, 0) {
         Ok((name, _)) => Ok(name),
-        Err(ReadError::Halted(Halt { long: true, .. })) => Err(MetaError::LongName),
-        Err(ReadError::Halted(_)) => Err(MetaError::Unknown),
+        Err(ReadError::Halted(Halt { long: true, .. })) => Err(MetaError::LongName(at)),
+        Err(ReadError::Halted(_)) => Err(MetaError::Unknown(at)),
         Err(ReadError::Memory) => Err(MetaError::Memory),
     }
 }
@@ -99,26 +121,30 @@ fn name_alone(alloc: Global, text: &[u8]) -> Result<Name, MetaError>
 /// What a command says with what stands behind it.
 #[tactic(auto, unfolding(crate::specs::MetaLines::said_by))]
 fn said_by(alloc: Global, command: &[u8], behind: &[u8]) -> Result<Option<Stmt>, MetaError>
-    ensures { Gives (λ s. s) result (said_by command.now behind.now) }
+    requires { length command.now + length behind.now < 2 ^ 64 }
+    ensures exact { Gives (λ s. s) result (said_by command.now behind.now) }
+    ensures within { IfErr result (IsWithin (length command.now + length behind.now)) }
 {
     if command == b"\\restrict".as_slice() || command == b"\\unrestrict".as_slice() {
         return Ok(None);
     }
     if command != b"\\connect".as_slice() {
-        return Err(MetaError::Unknown);
+        return Err(MetaError::Unknown(0));
     }
-    let name = name_alone(alloc, behind)?;
+    let name = name_alone(alloc, command.len(), behind)?;
     Ok(Some(Stmt::Connect { name }))
 }
 
 /// The statement of a line that begins with a backslash, or `None` where the line is passed over.
 ///
 /// `\connect` has a name behind white space; `\restrict` and `\unrestrict` are passed over with all that stands behind
-/// them. Another line is `Unknown`, and `LongName` where only its name's length is wrong.
+/// them. Where one word or quoted text stands for the name and is none, the error is at it: `LongName` where its length
+/// alone is wrong, else `Unknown`. Another line is `Unknown` at its first byte.
 /// <https://www.postgresql.org/docs/16/app-psql.html>
 #[tactic(auto, unfolding(crate::specs::MetaLines::meta_line))]
 pub fn meta_line(alloc: Global, line: &[u8]) -> Result<Option<Stmt>, MetaError>
-    ensures { Gives (λ s. s) result (meta_line line.now) }
+    ensures exact { Gives (λ s. s) result (meta_line line.now) }
+    ensures within { IfErr result (IsWithin (length line.now)) }
 {
     let (command, behind) = line.split_at(command_len(line));
     said_by(alloc, command, behind)

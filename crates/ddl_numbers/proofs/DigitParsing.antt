@@ -1,17 +1,6 @@
 -- What parsing digits gives is the number that they write.
-use Rattle.std.proofs.Common.{◌≡◌, ℕ, ◌<◌, ◌≤◌, ◌^◌, Bool, true, false, List, [], ◌∷◌, length, Some, None, Result, Ok, Err, refl, sym, ap, subst, ◌∙◌, arith}
-use Rattle.std.specs.Prelude.{nat_lt}
-use Rattle.std.specs.List.{list_all}
-use Rattle.std.specs.Char.{digit_value}
-use Rattle.std.specs.Str.{IsUtf8}
-use Rattle.std.specs.Str.Parse.{digits_value, AllDigits, IsNumeral, ParsesUnsigned, without_leading_plus}
-use Rattle.std.proofs.lemmas.Bool.{and_parts, lt-ltb, ltb-true}
-use Rattle.std.proofs.lemmas.Bool.Decides.{nat_tests}
-use Rattle.std.proofs.lemmas.Fmt.{IsAscii-from_digits}
-use Rattle.std.proofs.lemmas.Result.{OkIff-at_ok}
-use Rattle.std.proofs.lemmas.Str.{IsUtf8-from_ascii, digit_value_digit}
-use Rattle.std.proofs.lemmas.Str.Parse.{without_leading_plus_none, digit_from_value}
-use Rattle.sql_lex.specs.Bytes.{is_digit}
+use Rattle.ddl_parts.proofs.Lemmas.{◌≡◌, ℕ, ◌<◌, ◌≤◌, ◌^◌, Bool, true, false, List, [], ◌∷◌, length, Some, None, Result, Ok, Err, refl, sym, ap, subst, ◌∙◌, arith, nat_lt, list_all, digit_value, IsUtf8, digits_value, AllDigits, IsNumeral, ParsesUnsigned, without_leading_plus, and_parts, lt-ltb, nat_tests, IsAscii-from_digits, OkIff-at_ok, IsUtf8-from_ascii, digit_value_digit, without_leading_plus_none, digit_from_value, is_digit}
+use Rattle.std.proofs.lemmas.Bool.{ltb-true}
 use Rattle.ddl_numbers.specs.Numbers.{digits_below}
 
 digit_of : (c : ℕ) → is_digit c ≡ true → digit_value c < 10

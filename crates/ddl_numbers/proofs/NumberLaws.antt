@@ -1,19 +1,6 @@
 -- Whole numbers have the laws of a part.
-use Rattle.std.proofs.Common.{◌≡◌, ℕ, ◌+◌, ◌<◌, ◌^◌, pos, true, false, List, [], ◌∷◌, Some, Ok, option_and_then, refl, ap, arith}
-use Rattle.std.proofs.lemmas.Bool.{lt-ltb}
-use Rattle.sql_lex.specs.Bytes.{is_digit}
-use Rattle.sql_lex.specs.declared.token.TokenKind.{TokenKind}
-use Rattle.sql_lex.specs.declared.token.TokenKind.TheVariants.{Word, QuotedName, Literal, Number, Sign, MetaLine}
-use Rattle.ddl_parts.specs.Lexemes.{Lexeme, is_sign, is_sign_kind}
-use Rattle.ddl_parts.specs.Leaves.{digits_of}
-use Rattle.ddl_parts.specs.Parts.{seen, ◌▸◌}
-use Rattle.ddl_parts.specs.Types.{is_number, is_number_kind}
-use Rattle.ddl_parts.specs.Laws.{Lawful, Begins, Apart}
-use Rattle.ddl_parts.proofs.Simple.{one_laws, one_begins, seen_laws, seen_begins}
-use Rattle.ddl_parts.proofs.Sequence.{lead_begins}
-use Rattle.ddl_parts.proofs.Choice.{choose_apart}
-use Rattle.ddl_parts.proofs.Leads.{sign_laws}
-use Rattle.ddl_numbers.specs.Numbers.{digits_below, counted, count_value, count, opposite, whole_number}
+use Rattle.ddl_parts.proofs.Lemmas.{◌≡◌, ℕ, ◌+◌, ◌<◌, ◌^◌, pos, true, false, List, [], ◌∷◌, Option, Some, None, Ok, Err, option_and_then, refl, sym, ap, ◌∙◌, arith, lt-ltb, is_digit, TokenKind, Word, QuotedName, Literal, Number, Sign, MetaLine, Lexeme, is_sign, is_sign_kind, digits_of, seen, ◌▸◌, is_number, is_number_kind, Lawful, Begins, Apart, IsTooLong, shortened, short_word, sign_agrees, long_no_number, Shortens, one_laws, one_begins, seen_laws, seen_begins, lead_begins, choose_apart, sign_laws}
+use Rattle.ddl_numbers.specs.Numbers.{digits_below, count_first, counted, count_value, count, opposite, whole_number}
 
 -- a number is no sign
 pub number_no_sign : (b : ℕ) → Apart is_number (is_sign b)
@@ -35,9 +22,29 @@ pub zero_below : (limit : ℕ) → 0 < limit → digits_below limit (48 ∷ []) 
 unfolding digits_below is_digit
 zero_below limit some = rw (lt-ltb 0 limit some) refl
 
+no_digits : (limit : ℕ) (k : TokenKind) (w : List ℕ) → is_number_kind k ≡ false → option_and_then (digits_below limit) (digits_of k w) ≡ None
+no_digits limit Number w e = absurd cc
+no_digits limit x w e = refl
+
+-- so a short one in its place is none either
+pub no_count_first : (limit : ℕ) (t : Lexeme) → IsTooLong t → count_first limit (shortened t ∷ []) ≡ count_first limit (t ∷ [])
+no_count_first limit t long = no_digits limit t.kind (short_word t.kind) (long_no_number t long) ∙ sym (no_digits limit t.kind t.word (long_no_number t long))
+
+-- no number is too long for a name
+no_count : (limit : ℕ) (k : TokenKind) (w : List ℕ) → is_number_kind k ≡ false → counted (option_and_then (digits_below limit) (digits_of k w)) ≡ Err false
+no_count limit k w e = ap counted (no_digits limit k w e)
+
+never_long : (o : Option ℕ) → counted o ≡ Err true → ⊥
+never_long (Some n) e = absurd cc
+never_long None e = absurd cc
+
+pub count_shortens : (limit : ℕ) → Shortens (count_value limit)
+unfolding count_value
+count_shortens limit = record { long = λ t e. absurd (never_long (option_and_then (digits_below limit) (digits_of t.kind t.word)) e); none = λ t long e. no_count limit t.kind (short_word t.kind) (long_no_number t long) }
+
 count_laws : (limit : ℕ) → 0 < limit → Lawful (count limit)
 unfolding count_value
-count_laws limit some = one_laws (count_value limit) a_zero 0 (ap counted (zero_below limit some))
+count_laws limit some = one_laws (count_value limit) (count_shortens limit) a_zero 0 (ap counted (zero_below limit some))
 
 pub count_begins : (limit : ℕ) → Begins is_number (count limit)
 unfolding count_value is_number
@@ -54,7 +61,7 @@ count_begins limit = one_begins (count_value limit) is_number (λ t v e. by t.ki
 pub whole_number_laws : Lawful whole_number
 unfolding whole_number
 whole_number_laws =
-    choose_apart (is_sign 45) is_number (seen opposite (is_sign 45 ▸ count (2 ^ 63 + 1))) (seen pos (count (2 ^ 63)))
+    choose_apart (is_sign 45) is_number (sign_agrees 45) (seen opposite (is_sign 45 ▸ count (2 ^ 63 + 1))) (seen pos (count (2 ^ 63)))
     (seen_laws opposite (is_sign 45 ▸ count (2 ^ 63 + 1)) (sign_laws 45 (count (2 ^ 63 + 1)) (count_laws (2 ^ 63 + 1) (omega arith))))
     (seen_laws pos (count (2 ^ 63)) (count_laws (2 ^ 63) (omega arith)))
     (seen_begins (is_sign 45) opposite (is_sign 45 ▸ count (2 ^ 63 + 1)) (lead_begins (is_sign 45) (count (2 ^ 63 + 1))))

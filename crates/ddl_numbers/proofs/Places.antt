@@ -1,8 +1,5 @@
 -- The token at a place, and a number that is read there.
-use Rattle.std.proofs.Common.{◌≡◌, ℕ, zero, suc, ◌+◌, ◌<◌, ◌≤◌, List, [], ◌∷◌, length, drop, Option, Some, None, Ok, refl, sym, ap, ◌∙◌, option_and_then, arith}
-use Rattle.ddl_parts.specs.Lexemes.{Lexeme}
-use Rattle.ddl_parts.specs.Leaves.{digits_of}
-use Rattle.ddl_parts.specs.Parts.{Reading, stop, first_by}
+use Rattle.ddl_parts.proofs.Lemmas.{◌≡◌, ℕ, zero, suc, ◌+◌, ◌<◌, ◌≤◌, List, [], ◌∷◌, length, drop, Option, Some, None, Ok, refl, sym, ap, ◌∙◌, option_and_then, arith, Lexeme, digits_of, Reading, stop, first_by}
 use Rattle.ddl_numbers.specs.Numbers.{digits_below, count_first, counted, count_value, count}
 
 -- the token at a place before the end

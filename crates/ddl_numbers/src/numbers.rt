@@ -5,7 +5,7 @@ ghost use Rattle.sql_lex.specs.Bytes.{is_digit};
 ghost use Rattle.ddl_parts.specs.Pieces.{GivesPart};
 ghost use Rattle.ddl_numbers.specs.Numbers.{digits_below, count_first, count, opposite, whole_number};
 
-use ddl_parts::{Halt, Pieces, ReadError};
+use ddl_parts::{Halt, Parsed, Pieces, ReadError};
 
 /// One more than the greatest number of 64 bits.
 pub const LIMIT: u64 = 1 << 63;
@@ -66,7 +66,7 @@ pub fn opposite(number: u64) -> i64
 }
 
 /// The number at a place, where it is below a limit, and the place behind it.
-fn count(pieces: &Pieces<'_>, at: usize, limit: u64) -> Result<(u64, usize), ReadError>
+fn count(pieces: &Pieces<'_>, at: usize, limit: u64) -> Parsed<u64>
     ensures exact { GivesPart pieces.now (λ n. n) result ((count limit).read (drop at pieces.now)) }
     ensures low { IfOk result (λ x. x.0 < limit) }
 {
@@ -83,7 +83,7 @@ fn count(pieces: &Pieces<'_>, at: usize, limit: u64) -> Result<(u64, usize), Rea
 ///
 /// `Halted` tells the first token with which no such number goes on.
 #[tactic(auto, unfolding(crate::specs::Numbers::whole_number))]
-pub fn whole_number(pieces: &Pieces<'_>, at: usize) -> Result<(i64, usize), ReadError>
+pub fn whole_number(pieces: &Pieces<'_>, at: usize) -> Parsed<i64>
     ensures { GivesPart pieces.now (λ n. n) result (whole_number.read (drop at pieces.now)) }
 {
     if pieces.is_sign(at, b'-') {

@@ -1,28 +1,23 @@
 -- The laws of one of two parts, and of a part that may be left out.
-use Rattle.std.proofs.Common.{◌≡◌, Bool, true, false, List, ◌++◌, Ok, refl, ap, ◌∙◌, ◌⊎◌, inl, inr, Some, None, ◌∷◌}
-use Rattle.ddl_parts.specs.Lexemes.{Lexeme, starts}
-use Rattle.ddl_parts.specs.Parts.{Part, choose, choose_at, optional, nothing, seen}
-use Rattle.ddl_parts.specs.Laws.{Lawful, Begins, Avoids, Apart}
-use Rattle.ddl_parts.proofs.Steps.{starts_again, starts_neither, starts-append, avoids_begun}
-use Rattle.ddl_parts.proofs.Told.{Tells, left_of, told, lawful, told_as}
-use Rattle.ddl_parts.proofs.Simple.{seen_laws, seen_begins, nothing_laws, nothing_avoids}
+use Rattle.ddl_parts.proofs.Common.{◌≡◌, Bool, true, false, List, ◌++◌, Ok, refl, ap, ◌∙◌, ◌⊎◌, inl, inr, Some, None, ◌∷◌, Lexeme, starts, Part, choose, choose_at, optional, nothing, seen, Lawful, Begins, Avoids, Apart}
+use Rattle.ddl_parts.proofs.{Steps.Agrees, Steps.starts_again, Steps.starts_neither, Steps.starts-append, Steps.avoids_begun, Told.Tells, Told.left_of, Told.long_of, Told.told, Told.lawful, Told.told_as, Simple.seen_laws, Simple.seen_begins, Simple.nothing_laws, Simple.nothing_avoids}
 
 -- the reading by whether the first is taken
 chosen : {A : Type 0} (test : Lexeme → Bool) (p q : Part A) (ts : List Lexeme) (b : Bool) → starts test ts ≡ b → (choose test p q).read ts ≡ choose_at b (p.read ts) (q.read ts)
 chosen test p q ts b e = ap (λ b. choose_at b (p.read ts) (q.read ts)) e
 
-choose_tells : {A : Type 0} (test : Lexeme → Bool) (p q : Part A) → Lawful p → Lawful q → (ts : List Lexeme) (b : Bool) → starts test ts ≡ b → Tells (choose test p q) ts (choose_at b (p.read ts) (q.read ts))
-choose_tells test p q lp lq ts true e =
+choose_tells : {A : Type 0} (test : Lexeme → Bool) → Agrees test → (p q : Part A) → Lawful p → Lawful q → (ts : List Lexeme) (b : Bool) → starts test ts ≡ b → Tells (choose test p q) ts (choose_at b (p.read ts) (q.read ts))
+choose_tells test agrees p q lp lq ts true e =
     let f = told lp ts (p.read ts) refl in
-    told_as ts (p.read ts) f (λ v us s. inl s) (λ t behind is other. chosen test p q (f.front ++ t ∷ other) true (starts_again test true ts f.front (left_of (p.read ts)) t behind other e f.parts is))
-choose_tells test p q lp lq ts false e =
+    told_as ts (p.read ts) f (λ v us s. inl s) (λ t behind is u like other. chosen test p q (f.front ++ u ∷ other) true (starts_again test agrees true ts f.front (left_of (p.read ts)) t behind e f.parts is (long_of (p.read ts)) u like other))
+choose_tells test agrees p q lp lq ts false e =
     let f = told lq ts (q.read ts) refl in
-    told_as ts (q.read ts) f (λ v us s. inr s) (λ t behind is other. chosen test p q (f.front ++ t ∷ other) false (starts_again test false ts f.front (left_of (q.read ts)) t behind other e f.parts is))
+    told_as ts (q.read ts) f (λ v us s. inr s) (λ t behind is u like other. chosen test p q (f.front ++ u ∷ other) false (starts_again test agrees false ts f.front (left_of (q.read ts)) t behind e f.parts is (long_of (q.read ts)) u like other))
 
 -- one of two parts has the laws where the next token tells them apart
-pub choose_laws : {A : Type 0} (test : Lexeme → Bool) (p q : Part A) → Lawful p → Lawful q → Begins test p → Avoids test q → Lawful (choose test p q)
-choose_laws {A} test p q lp lq begins avoids =
-    lawful (λ ts. choose_tells test p q lp lq ts (starts test ts) refl) (λ v front rest spells free. by v front rest spells (starts_neither p.goes_on q.goes_on rest free))
+pub choose_laws : {A : Type 0} (test : Lexeme → Bool) → Agrees test → (p q : Part A) → Lawful p → Lawful q → Begins test p → Avoids test q → Lawful (choose test p q)
+choose_laws {A} test agrees p q lp lq begins avoids =
+    lawful (λ ts. choose_tells test agrees p q lp lq ts (starts test ts) refl) (λ v front rest spells free. by v front rest spells (starts_neither p.goes_on q.goes_on rest free))
     (record { value = lp.example.value; tokens = lp.example.tokens; spells = inl lp.example.spells })
   where
     by : (v : A) (front rest : List Lexeme) → p.Spells v front ⊎ q.Spells v front → (starts p.goes_on rest ≡ false) × (starts q.goes_on rest ≡ false) → (choose test p q).read (front ++ rest) ≡ Ok (v, rest)
@@ -30,8 +25,8 @@ choose_laws {A} test p q lp lq begins avoids =
     by v front rest (inr spells) free = chosen test p q (front ++ rest) false (avoids v front rest spells free.1) ∙ lq.only v front rest spells free.1
 
 -- where the second begins with other tokens
-pub choose_apart : {A : Type 0} (test other : Lexeme → Bool) (p q : Part A) → Lawful p → Lawful q → Begins test p → Begins other q → Apart other test → Lawful (choose test p q)
-choose_apart test other p q lp lq begins begins' apart = choose_laws test p q lp lq begins (avoids_begun other test q begins' apart)
+pub choose_apart : {A : Type 0} (test other : Lexeme → Bool) → Agrees test → (p q : Part A) → Lawful p → Lawful q → Begins test p → Begins other q → Apart other test → Lawful (choose test p q)
+choose_apart test other agrees p q lp lq begins begins' apart = choose_laws test agrees p q lp lq begins (avoids_begun other test q begins' apart)
 
 -- what spells one of two parts begins as one of them does
 pub choose_begins : {A : Type 0} (test begun : Lexeme → Bool) (p q : Part A) → Begins begun p → Begins begun q → Begins begun (choose test p q)
@@ -41,5 +36,5 @@ choose_begins {A} test begun p q b c v ts spells = by_part spells
     by_part (inl h) = b v ts h
     by_part (inr h) = c v ts h
 
-pub optional_laws : {A : Type 0} (test : Lexeme → Bool) (p : Part A) → Lawful p → Begins test p → Lawful (optional test p)
-optional_laws test p lp begins = choose_laws test (seen Some p) (nothing test None) (seen_laws Some p lp) (nothing_laws test None) (seen_begins test Some p begins) (nothing_avoids test None)
+pub optional_laws : {A : Type 0} (test : Lexeme → Bool) → Agrees test → (p : Part A) → Lawful p → Begins test p → Lawful (optional test p)
+optional_laws test agrees p lp begins = choose_laws test agrees (seen Some p) (nothing test None) (seen_laws Some p lp) (nothing_laws test None) (seen_begins test Some p begins) (nothing_avoids test None)

@@ -1,8 +1,5 @@
 -- The last two tokens of a run.
-use Rattle.std.proofs.Common.{◌≡◌, ◌+◌, ◌-◌, ◌≤◌, ℕ, List, [], ◌∷◌, ◌&&◌, length, take, drop, codes, refl, ap, ◌∙◌, arith}
-use Rattle.std.proofs.lemmas.List.{drop-take, length-drop}
-use Rattle.ddl_parts.specs.Lexemes.{Lexeme, is_word, starts}
-use Rattle.ddl_parts.specs.Expressions.{are_not_null}
+use Rattle.ddl_parts.proofs.Common.{◌≡◌, ◌+◌, ◌-◌, ◌≤◌, ℕ, List, [], ◌∷◌, ◌&&◌, length, take, drop, codes, refl, ap, ◌∙◌, arith, drop-take, length-drop, Lexeme, is_word, starts, are_not_null}
 use Rattle.ddl_parts.proofs.Slices.{drop_twice}
 
 last_two : (ts : List Lexeme) (from end : ℕ) → from + 2 ≤ end → drop (end - from - 2) (take (end - from) (drop from ts)) ≡ take 2 (drop (end - 2) ts)

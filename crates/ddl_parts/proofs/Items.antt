@@ -1,12 +1,6 @@
 -- Items that a loop reads, one after another: those so far and those behind the place are the whole.
-use Rattle.std.proofs.Common.{◌≡◌, ℕ, zero, suc, ◌-◌, ◌<◌, Bool, true, false, List, [], ◌∷◌, ◌++◌, length, drop, Ok, Err, refl, sym, ap, ◌∙◌, append_assoc, append-nil, length-append, arith}
-use Rattle.ddl_parts.specs.declared.fault.ReadError.{ReadError}
-use Rattle.ddl_parts.specs.declared.fault.ReadError.TheVariants.{Halted, Memory}
-use Rattle.ddl_parts.specs.Lexemes.{Lexeme, starts}
-use Rattle.ddl_parts.specs.Parts.{Reading, ◌>>=◌, Items}
-use Rattle.ddl_parts.specs.Pieces.{GivesPart, Fails, halted}
-use Rattle.ddl_parts.proofs.Steps.{gives}
-use Rattle.ddl_parts.proofs.Repeated.{AreApart, begun_long, from_none, from_stop, from_read}
+use Rattle.ddl_parts.proofs.Common.{◌≡◌, ℕ, zero, suc, ◌-◌, ◌<◌, Bool, true, false, List, [], ◌∷◌, ◌++◌, length, drop, Ok, Err, refl, sym, ap, ◌∙◌, append_assoc, append-nil, length-append, arith, ReadError, Halted, Memory, Lexeme, starts, Reading, ◌>>=◌, Items, GivesPart, Fails, halted}
+use Rattle.ddl_parts.proofs.{Steps.gives, Repeated.AreApart, Repeated.begun_long, Repeated.from_none, Repeated.from_stop, Repeated.from_read}
 pub use Rattle.ddl_parts.proofs.Repeated.{items_from}
 
 -- items that were read, before those that are read behind them

@@ -1,8 +1,5 @@
 -- Tokens of a text by their places.
-use Rattle.std.proofs.Common.{◌≡◌, ℕ, zero, suc, ◌+◌, ◌<◌, ◌≤◌, true, List, [], ◌∷◌, length, drop, get_or, refl, arith, add-one, leb-true, ltb-true, eqb-true}
-use Rattle.std.proofs.lemmas.Bool.{and_parts}
-use Rattle.ddl_parts.specs.declared.pieces.Piece.{Piece}
-use Rattle.ddl_parts.specs.Pieces.{lexeme_of, lexemes, are_joined, are_joined_from}
+use Rattle.ddl_parts.proofs.Common.{◌≡◌, ℕ, zero, suc, ◌+◌, ◌<◌, ◌≤◌, true, List, [], ◌∷◌, length, drop, get_or, refl, arith, add-one, leb-true, ltb-true, eqb-true, and_parts, Piece, lexeme_of, lexemes, are_joined, are_joined_from}
 
 read_within : (text : List ℕ) (ps : List Piece) (i : ℕ) (d : Piece) → i < length ps → drop i (lexemes text ps) ≡ lexeme_of text (get_or ps i d) ∷ drop (suc i) (lexemes text ps)
 read_within text [] i d lt = absurd (omega arith)

@@ -1,20 +1,6 @@
 -- The laws of words, signs, names and literals; key words that differ are told apart.
-use Rattle.std.proofs.Common.{◌≡◌, ℕ, Bool, true, false, List, [], ◌∷◌, ◌++◌, Ok, refl, ap, ◌∙◌, ◌⊎◌, inl, inr, bytes_eq, codes, eq-eqb, arith}
-use Rattle.std.specs.Str.{str_eq_ignore_ascii_case, str_to_ascii_lowercase, is_utf8, chars}
-use Rattle.std.proofs.Math.Utf8.{encode}
-use Rattle.std.proofs.lemmas.Slice.Eq.{bytes_eq-Decides}
-use Rattle.sql_lex.specs.Bytes.{next_is}
-use Rattle.sql_lex.specs.declared.token.TokenKind.{TokenKind}
-use Rattle.sql_lex.specs.declared.token.TokenKind.TheVariants.{Word, QuotedName, Literal, Sign}
-use Rattle.sql_lex.specs.Meaning.{name_of, literal_of, is_keyword_of, undoubled, inside}
-use Rattle.cat_model.specs.declared.object.QName.{QName}
-use Rattle.ddl_parts.specs.Lexemes.{Lexeme, is_word, is_sign, is_sign_kind, starts}
-use Rattle.ddl_parts.specs.Parts.{Part, choose, ◌then◌, ◌▸◌, ◌◂◌}
-use Rattle.ddl_parts.specs.Laws.{Lawful, Begins, Avoids, Apart}
-use Rattle.ddl_parts.specs.Leaves.{name, name_value, name_in, is_name, is_name_kind, literal, literal_value, text_in, is_literal, is_literal_kind, qualified}
-use Rattle.ddl_parts.proofs.Steps.{starts_neither, avoids_never, avoids_begun}
-use Rattle.ddl_parts.proofs.Simple.{one_laws, one_begins, seen_laws, seen_begins}
-use Rattle.ddl_parts.proofs.Sequence.{then_laws, then_begins, lead_laws, close_laws}
+use Rattle.ddl_parts.proofs.Common.{◌≡◌, ℕ, Bool, true, false, List, [], ◌∷◌, ◌++◌, Ok, refl, ap, ◌∙◌, ◌⊎◌, inl, inr, bytes_eq, codes, eq-eqb, arith, str_eq_ignore_ascii_case, str_to_ascii_lowercase, is_utf8, chars, encode, bytes_eq-Decides, next_is, TokenKind, Word, QuotedName, Literal, Sign, name_of, literal_of, is_keyword_of, undoubled, inside, QName, Lexeme, is_word, is_sign, is_sign_kind, starts, Part, choose, ◌then◌, ◌▸◌, ◌◂◌, Lawful, Begins, Avoids, Apart, name, name_value, name_in, is_name, is_name_kind, literal, literal_value, text_in, is_literal, is_literal_kind, qualified}
+use Rattle.ddl_parts.proofs.{Steps.starts_neither, Steps.avoids_never, Steps.avoids_begun, Shorter.is_far, Shorter.word_agrees, Shorter.sign_agrees, Shorter.name_shortens, Shorter.literal_shortens, Simple.one_laws, Simple.one_begins, Simple.seen_laws, Simple.seen_begins, Sequence.then_laws, Sequence.then_begins, Sequence.lead_laws, Sequence.close_laws}
 
 -- ---- tokens that stand for something
 
@@ -37,11 +23,11 @@ sign_is b = eq-eqb b b refl
 
 pub name_laws : Lawful name
 unfolding name_value name_in name_of is_utf8 chars encode
-name_laws = one_laws name_value (a_word (codes "a")) (codes "a") refl
+name_laws = one_laws name_value name_shortens (a_word (codes "a")) (codes "a") refl
 
 pub literal_laws : Lawful literal
 unfolding literal_value text_in literal_of undoubled inside next_is is_utf8 chars encode
-literal_laws = one_laws literal_value a_literal [] refl
+literal_laws = one_laws literal_value literal_shortens a_literal [] refl
 
 pub name_begins : Begins is_name name
 unfolding is_name name_value name_in name_of
@@ -65,18 +51,18 @@ literal_begins = one_begins literal_value is_literal by_kind
 
 -- ---- a word or a sign before a part, or behind it
 
-pub word_laws : {A : Type 0} (key : List ℕ) (p : Part A) → Lawful p → Lawful (is_word key ▸ p)
-word_laws key p lp = lead_laws (is_word key) (a_word key) p (word_is key) lp
+pub word_laws : {A : Type 0} (key : List ℕ) → is_far key ≡ true → (p : Part A) → Lawful p → Lawful (is_word key ▸ p)
+word_laws key far p lp = lead_laws (is_word key) (word_agrees key far) (a_word key) p (word_is key) lp
 
 pub sign_laws : {A : Type 0} (b : ℕ) (p : Part A) → Lawful p → Lawful (is_sign b ▸ p)
-sign_laws b p lp = lead_laws (is_sign b) (a_sign b) p (sign_is b) lp
+sign_laws b p lp = lead_laws (is_sign b) (sign_agrees b) (a_sign b) p (sign_is b) lp
 
 -- behind a part that never goes on
 pub ended_laws : {A : Type 0} (b : ℕ) (p : Part A) → Lawful p → Apart (is_sign b) p.goes_on → Lawful (p ◂ is_sign b)
-ended_laws b p lp apart = close_laws p (is_sign b) (a_sign b) (sign_is b) lp apart
+ended_laws b p lp apart = close_laws p (is_sign b) (sign_agrees b) (a_sign b) (sign_is b) lp apart
 
-pub worded_laws : {A : Type 0} (key : List ℕ) (p : Part A) → Lawful p → Apart (is_word key) p.goes_on → Lawful (p ◂ is_word key)
-worded_laws key p lp apart = close_laws p (is_word key) (a_word key) (word_is key) lp apart
+pub worded_laws : {A : Type 0} (key : List ℕ) → is_far key ≡ true → (p : Part A) → Lawful p → Apart (is_word key) p.goes_on → Lawful (p ◂ is_word key)
+worded_laws key far p lp apart = close_laws p (is_word key) (word_agrees key far) (a_word key) (word_is key) lp apart
 
 pub qualified_laws : Lawful qualified
 qualified_laws =

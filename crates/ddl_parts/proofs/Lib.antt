@@ -1,6 +1,9 @@
+pub mod Common
+pub mod Lemmas
 pub mod Steps
 pub mod Told
 pub mod Simple
+pub mod Shorter
 pub mod Sequence
 pub mod Choice
 pub mod Repeated

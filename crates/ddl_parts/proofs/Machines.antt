@@ -1,11 +1,13 @@
 -- The laws of a run of tokens that a machine takes.
-use Rattle.std.proofs.Common.{◌≡◌, Bool, true, false, cond, List, [], ◌∷◌, ◌++◌, Option, Some, None, Ok, Err, refl, sym, ap, subst, ◌∙◌}
-use Rattle.ddl_parts.specs.Lexemes.{Lexeme, starts}
-use Rattle.ddl_parts.specs.Parts.{Reading, ◌>>=◌, Machine, run, ends, scan, scan_step, runs_of}
-use Rattle.ddl_parts.specs.Laws.{Lawful}
-use Rattle.ddl_parts.proofs.Steps.{gives}
-use Rattle.ddl_parts.proofs.Told.{Told, lawful, told_as}
-use Rattle.ddl_parts.proofs.Simple.{head_is}
+use Rattle.ddl_parts.proofs.Common.{◌≡◌, Bool, true, false, cond, List, [], ◌∷◌, ◌++◌, Option, Some, None, Ok, Err, refl, sym, ap, subst, ◌∙◌, ◌⊎◌, inl, inr, Lexeme, starts, Reading, ◌>>=◌, Machine, run, ends, scan, scan_step, runs_of, IsTooLong, shortened, Like, Lawful}
+use Rattle.ddl_parts.proofs.{Steps.gives, Told.Told, Told.long_of, Told.lawful, Told.told_as, Told.named_by, Simple.head_is}
+
+-- A token that a state doesn't take: where it says that it is too long, it takes a shorter one, and else it doesn't take
+-- such a one either. It says so only where it isn't done.
+pub record Shorter (m : Machine) (s : m.State) (t : Lexeme) : Type 0 where
+  pub undone : m.long s t ≡ true → m.done s ≡ false
+  pub takes : m.long s t ≡ true → IsTooLong t × ((x : m.State) × (m.step s (shortened t) ≡ Some x))
+  pub stays : m.long s t ≡ false → IsTooLong t → (m.step s (shortened t) ≡ None) × (m.long s (shortened t) ≡ false)
 
 -- What a machine needs: each state can be brought to an end, and where it is done it takes no token but those that it says.
 pub record CanEnd (m : Machine) : Type 0 where
@@ -14,6 +16,7 @@ pub record CanEnd (m : Machine) : Type 0 where
   pub finished : (s : m.State) → run m (Some s) (finish s) ≡ Some (last s)
   pub done : (s : m.State) → m.done (last s) ≡ true
   pub covers : (s : m.State) (t : Lexeme) → m.done s ≡ true → m.goes_on t ≡ false → m.step s t ≡ None
+  pub shorter : (s : m.State) (t : Lexeme) → m.step s t ≡ None → Shorter m s t
 
 -- ---- runs
 
@@ -40,13 +43,25 @@ abbrev Scans : (m : Machine) → m.State → List Lexeme → Reading (List Lexem
 Scans m s ts r = Told (RunsFrom m s) (scan m s) ts r
 
 -- no token is taken
-stays : (m : Machine) → CanEnd m → (s : m.State) (long : Bool) (ts : List Lexeme) → ((t : Lexeme) (behind : List Lexeme) → ts ≡ t ∷ behind → (other : List Lexeme) → scan m s (t ∷ other) ≡ by_done m long (t ∷ other) (m.done s)) → (d : Bool) → m.done s ≡ d → Scans m s ts (by_done m long ts d)
-stays m h s long ts same true e = record { front = []; parts = refl; fits = (refl, s, refl, e); local = λ t behind is other. same t behind is other ∙ ap (by_done m long (t ∷ other)) e }
-stays m h s long ts same false e = record {
+stays : (m : Machine) → CanEnd m → (s : m.State) (long : Bool) (ts : List Lexeme)
+    → ((t : Lexeme) (behind : List Lexeme) → ts ≡ t ∷ behind → (u : Lexeme) → Like (long_of (by_done m long ts (m.done s))) t u → (other : List Lexeme) → scan m s (u ∷ other) ≡ by_done m long (u ∷ other) (m.done s))
+    → (long ≡ true → m.done s ≡ false → (t : Lexeme) × (behind : List Lexeme) × (ts ≡ t ∷ behind) × IsTooLong t × ((x : m.State) × (m.step s (shortened t) ≡ Some x))) → (d : Bool) → m.done s ≡ d → Scans m s ts (by_done m long ts d)
+stays m h s long ts same goes true e = record {
+  front = [];
+  parts = refl;
+  fits = (refl, s, refl, e);
+  local = λ t behind is u like other. same t behind is u (subst (λ (d : Bool). Like (long_of (by_done m long ts d)) t u) (sym e) like) other ∙ ap (by_done m long (u ∷ other)) e;
+  named = λ l. absurd cc;
+}
+stays m h s long ts same goes false e = record {
   front = [];
   parts = refl;
   fits = (h.finish s, h.finish s, (refl, h.last s, h.finished s, h.done s));
-  local = λ t behind is other. same t behind is other ∙ ap (by_done m long (t ∷ other)) e;
+  local = λ t behind is u like other. same t behind is u (subst (λ (d : Bool). Like (long_of (by_done m long ts d)) t u) (sym e) like) other ∙ ap (by_done m long (u ∷ other)) e;
+  named = λ l.
+      let g = goes l e in
+      let x = g.4.0 in
+      record { token = g.0; behind = g.1; is = g.2; long = g.3; value = shortened g.0 ∷ h.finish x; more = h.finish x; spells = (refl, h.last x, ap (λ o. run m o (h.finish x)) g.4.1 ∙ h.finished x, h.done x) };
 }
 
 -- one is, and what is scanned behind it
@@ -55,25 +70,44 @@ goes m s t x is ts (Ok r) f = record {
   front = t ∷ f.front;
   parts = ap (λ (us : List Lexeme). t ∷ us) f.parts;
   fits = (ap (λ (us : List Lexeme). t ∷ us) f.fits.0, f.fits.1, ap (λ o. run m o f.front) is ∙ f.fits.2, f.fits.3);
-  local = λ y behind i other. stepped m s t (f.front ++ y ∷ other) (Some x) is ∙ ap (λ r. r >>= λ r. gives (t ∷ r.0) r.1) (f.local y behind i other);
+  local = λ y behind i z like other. stepped m s t (f.front ++ z ∷ other) (Some x) is ∙ ap (λ r. r >>= λ r. gives (t ∷ r.0) r.1) (f.local y behind i z like other);
+  named = λ e. absurd cc;
 }
 goes m s t x is ts (Err u) f = record {
   front = t ∷ f.front;
   parts = ap (λ (us : List Lexeme). t ∷ us) f.parts;
   fits = (t ∷ f.fits.0, f.fits.1, (ap (λ (us : List Lexeme). t ∷ us) f.fits.2.0, f.fits.2.1, ap (λ o. run m o (f.front ++ f.fits.1)) is ∙ f.fits.2.2, f.fits.2.3));
-  local = λ y behind i other. stepped m s t (f.front ++ y ∷ other) (Some x) is ∙ ap (λ r. r >>= λ r. gives (t ∷ r.0) r.1) (f.local y behind i other);
+  local = λ y behind i z like other. stepped m s t (f.front ++ z ∷ other) (Some x) is ∙ ap (λ r. r >>= λ r. gives (t ∷ r.0) r.1) (f.local y behind i z like other);
+  named = λ e.
+      let n = f.named e in
+      named_by n (t ∷ n.value) n.more (ap (λ (us : List Lexeme). t ∷ us) n.spells.0, n.spells.1, ap (λ o. run m o (f.front ++ shortened n.token ∷ n.more)) is ∙ n.spells.2, n.spells.3);
 }
 
 scans : (m : Machine) → CanEnd m → (s : m.State) (ts : List Lexeme) → Scans m s ts (scan m s ts)
 unfolding scan
-scans m h s [] = stays m h s false [] (λ t behind is other. absurd cc) (m.done s) refl
+scans m h s [] = stays m h s false [] (λ t behind is u like other. absurd cc) (λ l d. absurd cc) (m.done s) refl
 scans m h s (t ∷ ts) = by (λ x. scans m h x ts) (m.step s t) refl
   where
-    none : m.step s t ≡ None → (y : Lexeme) (behind : List Lexeme) → t ∷ ts ≡ y ∷ behind → (other : List Lexeme) → scan m s (y ∷ other) ≡ by_done m (m.long s t) (y ∷ other) (m.done s)
-    none is y behind i other = subst (λ (z : Lexeme). scan m s (z ∷ other) ≡ by_done m (m.long s t) (z ∷ other) (m.done s)) (head_is t y ts behind i) (stepped m s t other None is)
+    -- a token that isn't taken, or a shorter one where nothing hangs on that
+    again : m.step s t ≡ None → (d : Bool) → m.done s ≡ d → (u : Lexeme) → Like (long_of (by_done m (m.long s t) (t ∷ ts) d)) t u → (other : List Lexeme) → scan m s (u ∷ other) ≡ by_done m (m.long s t) (u ∷ other) (m.done s)
+    again is d e u (inl same) other = subst (λ (z : Lexeme). scan m s (z ∷ other) ≡ by_done m (m.long s t) (z ∷ other) (m.done s)) same (stepped m s t other None is)
+    again is d e u (inr l) other = subst (λ (z : Lexeme). scan m s (z ∷ other) ≡ by_done m (m.long s t) (z ∷ other) (m.done s)) l.2 (short (m.long s t) refl d e l.0)
+      where
+        short : (long : Bool) → m.long s t ≡ long → (d : Bool) → m.done s ≡ d → long_of (by_done m long (t ∷ ts) d) ≡ false → scan m s (shortened t ∷ other) ≡ by_done m long (shortened t ∷ other) (m.done s)
+        short false f d e g =
+            let h' = (h.shorter s t is).stays f l.1 in
+            stepped m s (shortened t) other None h'.0 ∙ ap (λ (b : Bool). by_done m b (shortened t ∷ other) (m.done s)) h'.1
+        short true f true e g = absurd (cc ((h.shorter s t is).undone f, e))
+        short true f false e g = absurd cc
+
+    none : m.step s t ≡ None → (y : Lexeme) (behind : List Lexeme) → t ∷ ts ≡ y ∷ behind → (u : Lexeme) → Like (long_of (by_done m (m.long s t) (t ∷ ts) (m.done s))) y u → (other : List Lexeme) → scan m s (u ∷ other) ≡ by_done m (m.long s t) (u ∷ other) (m.done s)
+    none is y behind i u like other = again is (m.done s) refl u (subst (λ (z : Lexeme). Like (long_of (by_done m (m.long s t) (t ∷ ts) (m.done s))) z u) (sym (head_is t y ts behind i)) like) other
+
+    taken : m.step s t ≡ None → m.long s t ≡ true → m.done s ≡ false → (y : Lexeme) × (behind : List Lexeme) × (t ∷ ts ≡ y ∷ behind) × IsTooLong y × ((x : m.State) × (m.step s (shortened y) ≡ Some x))
+    taken is l d = let g = (h.shorter s t is).takes l in (t, ts, refl, g.0, g.1)
 
     by : ((x : m.State) → Scans m x ts (scan m x ts)) → (next : Option m.State) → m.step s t ≡ next → Scans m s (t ∷ ts) (by_step m s t ts next)
-    by later None is = stays m h s (m.long s t) (t ∷ ts) (none is) (m.done s) refl
+    by later None is = stays m h s (m.long s t) (t ∷ ts) (none is) (taken is) (m.done s) refl
     by later (Some x) is = goes m s t x is ts (scan m x ts) (later x)
 
 -- ---- what runs
@@ -95,6 +129,6 @@ scan_only m h s last (t ∷ taken) rest e d free = by_next (λ x e. scan_only m 
 pub machine_laws : (m : Machine) → CanEnd m → Lawful (runs_of m)
 machine_laws m h =
     let runs : (v us : List Lexeme) → RunsFrom m m.start v us → (runs_of m).Spells v us = λ v us s. (s.0, record { last = s.1; runs = s.2; done = s.3 }) in
-    lawful (λ ts. told_as ts (scan m m.start ts) (scans m h m.start ts) runs (λ t behind is other. refl))
+    lawful (λ ts. told_as ts (scan m m.start ts) (scans m h m.start ts) runs (λ t behind is u like other. refl))
     (λ v front rest spells free. scan_only m h m.start spells.1.last front rest spells.1.runs spells.1.done free ∙ ap (λ (x : List Lexeme). gives x rest) (sym spells.0))
     (record { value = h.finish m.start; tokens = h.finish m.start; spells = (refl, record { last = h.last m.start; runs = h.finished m.start; done = h.done m.start }) })

@@ -1,15 +1,12 @@
 -- The laws of any number of parts, one after another.
-use Rattle.std.proofs.Common.{◌≡◌, ℕ, zero, suc, ◌<◌, ◌≤◌, Bool, true, false, cond, List, [], ◌∷◌, ◌++◌, length, Ok, Err, refl, sym, ap, subst, ◌∙◌, append_assoc, append-nil, length-append, arith}
-use Rattle.ddl_parts.specs.Lexemes.{Lexeme, starts}
-use Rattle.ddl_parts.specs.Parts.{Stop, Reading, ◌>>=◌, Items, Many, no_more, one_more, many, many_at}
-use Rattle.ddl_parts.specs.Laws.{Lawful, Begins, Apart}
-use Rattle.ddl_parts.proofs.Steps.{starts-append, starts_again, starts_apart, starts_covered}
-use Rattle.ddl_parts.proofs.Told.{Told, Tells, told, lawful, told_on}
+use Rattle.ddl_parts.proofs.Common.{◌≡◌, ℕ, zero, suc, ◌<◌, ◌≤◌, Bool, true, false, cond, List, [], ◌∷◌, ◌++◌, length, Ok, Err, refl, sym, ap, subst, ◌∙◌, append_assoc, append-nil, length-append, arith, Lexeme, starts, Stop, Reading, ◌>>=◌, Items, Many, no_more, one_more, many, many_at, shortened, Lawful, Begins, Apart}
+use Rattle.ddl_parts.proofs.{Steps.Agrees, Steps.starts-append, Steps.starts_again, Steps.starts_apart, Steps.starts_covered, Told.Told, Told.Tells, Told.told, Told.lawful, Told.told_on, Told.named_by}
 
 -- What items need so that they can be told apart: each has the laws and begins with its own tokens, an item can't go on
 -- with the beginning of the next, and what `goes_on` leaves out begins no item and goes on with none.
 pub record AreApart {A : Type 0} (goes_on : Lexeme → Bool) (items : Items A) : Type 0 where
   pub laws : (s : items.State) → Lawful (items.item s)
+  pub agrees : (s : items.State) → Agrees (items.more s)
   pub begins : (s : items.State) → Begins (items.more s) (items.item s)
   pub apart : (s : items.State) (v : A) → Apart (items.more (items.next s v)) (items.item s).goes_on
   pub covers : (s : items.State) (t : Lexeme) → goes_on t ≡ false → (items.more s t ≡ false) × ((items.item s).goes_on t ≡ false)
@@ -96,13 +93,14 @@ from_stop items s ts u begins e = let k = some_left (length ts) (begun_long (ite
 abbrev TellsFrom : {A : Type 0} → (items : Items A) → items.State → List Lexeme → Reading (List A) → Type 0
 TellsFrom items s ts r = Told (Many items s) (items_from items s) ts r
 
-none_tell : {A : Type 0} (items : Items A) (s : items.State) (ts : List Lexeme) → starts (items.more s) ts ≡ false → TellsFrom items s ts (items_from items s ts)
-none_tell items s ts none =
+none_tell : {A : Type 0} (items : Items A) (s : items.State) → Agrees (items.more s) → (ts : List Lexeme) → starts (items.more s) ts ≡ false → TellsFrom items s ts (items_from items s ts)
+none_tell items s agrees ts none =
     subst (TellsFrom items s ts) (sym (from_none items s ts none)) (record {
       front = [];
       parts = refl;
       fits = no_more s;
-      local = λ t behind is other. from_none items s (t ∷ other) (starts_again (items.more s) false ts [] ts t behind other none refl is);
+      local = λ t behind is u like other. from_none items s (u ∷ other) (starts_again (items.more s) agrees false ts [] ts t behind none refl is false u like other);
+      named = λ e. absurd cc;
     })
 
 item_tells : {A : Type 0} {goes_on : Lexeme → Bool} {items : Items A} (h : AreApart goes_on items) (n : ℕ) → ((s : items.State) (ts : List Lexeme) → length ts ≤ n → TellsFrom items s ts (items_from items s ts)) → (s : items.State) (ts : List Lexeme) → length ts ≤ suc n → starts (items.more s) ts ≡ true
@@ -117,16 +115,20 @@ item_tells {items = items} h n later s ts le begins (Err u) f =
       front = f.front;
       parts = f.parts;
       fits = (f.fits.0 ∷ [], f.fits.1, subst (Many items s (f.fits.0 ∷ [])) (append-nil (f.front ++ f.fits.1)) one);
-      local = λ t behind is other. from_read h s (f.front ++ t ∷ other) (Err (record { long = u.long; rest = t ∷ other })) (starts_again (items.more s) true ts f.front u.rest t behind other begins f.parts is) (f.local t behind is other);
+      local = λ t behind is x like other. from_read h s (f.front ++ x ∷ other) (Err (record { long = u.long; rest = x ∷ other })) (starts_again (items.more s) (h.agrees s) true ts f.front u.rest t behind begins f.parts is u.long x like other) (f.local t behind is x like other);
+      named = λ e.
+          let n = f.named e in
+          let all = f.front ++ shortened n.token ∷ n.more in
+          named_by n (n.value ∷ []) n.more (subst (Many items s (n.value ∷ [])) (append-nil all) (one_more s n.value [] all [] n.spells (no_more (items.next s n.value))));
     }
 
 many_tell : {A : Type 0} {goes_on : Lexeme → Bool} {items : Items A} (h : AreApart goes_on items) (n : ℕ) (s : items.State) (ts : List Lexeme) → length ts ≤ n → TellsFrom items s ts (items_from items s ts)
-many_tell {items = items} h zero s [] le = none_tell items s [] refl
+many_tell {items = items} h zero s [] le = none_tell items s (h.agrees s) [] refl
 many_tell h zero s (t ∷ ts) le = absurd (omega arith)
 many_tell {items = items} h (suc n) s ts le = by (λ s' us le'. many_tell h n s' us le') (starts (items.more s) ts) refl
   where
     by : ((s' : items.State) (us : List Lexeme) → length us ≤ n → TellsFrom items s' us (items_from items s' us)) → (b : Bool) → starts (items.more s) ts ≡ b → TellsFrom items s ts (items_from items s ts)
-    by later false none = none_tell items s ts none
+    by later false none = none_tell items s (h.agrees s) ts none
     by later true begins =
         let r = (items.item s).read ts in
         subst (TellsFrom items s ts) (sym (from_read h s ts r begins refl)) (item_tells h n later s ts le begins r (told (h.laws s) ts r refl))

@@ -1,27 +1,7 @@
 -- The laws of expressions and types.
-use Rattle.std.proofs.Common.{◌≡◌, ℕ, Bool, true, false, cond, not, List, [], ◌∷◌, Some, None, refl, ap, subst, ◌∙◌, ◌||◌, codes, eqb-true, arith}
-use Rattle.std.specs.Prelude.{◌==◌}
-use Rattle.std.proofs.lemmas.Bool.{not-false}
-use Rattle.std.specs.Str.{is_utf8, chars}
-use Rattle.std.proofs.Math.Utf8.{encode}
-use Rattle.sql_lex.specs.declared.token.TokenKind.{TokenKind}
-use Rattle.sql_lex.specs.declared.token.TokenKind.TheVariants.{Word, Number, Sign}
-use Rattle.sql_lex.specs.Meaning.{is_keyword_of, name_of}
-use Rattle.ddl_parts.specs.Lexemes.{Lexeme, is_word, is_sign, is_sign_kind, source}
-use Rattle.ddl_parts.specs.Parts.{run, runs_of}
-use Rattle.ddl_parts.specs.Laws.{Lawful, Apart}
-use Rattle.ddl_parts.specs.Leaves.{name_value, name_in}
-use Rattle.ddl_parts.specs.declared.runs.Bracket.{Bracket}
+use Rattle.ddl_parts.proofs.Common.{◌≡◌, ℕ, Bool, true, false, cond, not, List, [], ◌∷◌, Option, Some, None, Result, Ok, Err, is_ok, refl, ap, subst, ◌∙◌, ◌||◌, codes, eqb-true, arith, ◌==◌, not-false, is_utf8, chars, encode, TokenKind, Word, Number, Sign, is_keyword_of, name_of, Lexeme, is_word, is_sign, is_sign_kind, source, run, runs_of, Lawful, Apart, name_value, name_in, Bracket, Spot, First, Inside, Nest, nested, nest_step, nest_done, ends_run, is_end_kind, step_by, behind_bounded, behind_kind, moved, expression, default_text, default_and_null, without_not_null, typing, type_step, type_done, type_long, type_goes_on, if_name, is_long_by, is_type_word, is_number, type_part, type_of, TypeSpot, Begin, FirstWord, Schema, Dotted, Path, Words, Opened, Counted, Further, Behind, Array, Ended, IsTooLong, shortened}
+use Rattle.ddl_parts.proofs.{Simple.seen_laws, Shorter.word_like, Shorter.sign_like, Shorter.name_shortens, Machines.CanEnd, Machines.Shorter, Machines.machine_laws, Leads.a_word, Leads.a_sign}
 use Rattle.ddl_parts.specs.declared.runs.Bracket.TheVariants.{Round, Square}
-use Rattle.ddl_parts.specs.declared.runs.Spot.{Spot}
-use Rattle.ddl_parts.specs.declared.runs.Spot.TheVariants.{First, Inside}
-use Rattle.ddl_parts.specs.Expressions.{Nest, nested, nest_step, nest_done, ends_run, is_end_kind, step_by, behind_bounded, behind_kind, moved, expression, default_text, default_and_null, without_not_null}
-use Rattle.ddl_parts.specs.Types.{typing, type_step, type_done, type_goes_on, is_type_word, is_number, type_part, type_of}
-use Rattle.ddl_parts.specs.declared.types.TypeSpot.{TypeSpot}
-use Rattle.ddl_parts.specs.declared.types.TypeSpot.TheVariants.{Begin, FirstWord, Schema, Dotted, Path, Words, Opened, Counted, Further, Behind, Array, Ended}
-use Rattle.ddl_parts.proofs.Simple.{seen_laws}
-use Rattle.ddl_parts.proofs.Machines.{CanEnd, machine_laws}
-use Rattle.ddl_parts.proofs.Leads.{a_word, a_sign}
 
 abbrev a_number : Lexeme
 a_number = record { gap = 32 ∷ []; kind = Number; word = 48 ∷ []; start = 0 }
@@ -78,6 +58,16 @@ covered bounded takes s t done free =
     ap (step_by bounded takes s.spot t) (inside_flat s.spot s.brackets done)
     ∙ ap (λ (e : Bool). cond e None (cond bounded (behind_bounded takes s.spot t) (moved (behind_kind t.kind [])))) (not-false (ends_run bounded t) free)
 
+-- a run goes by kinds and words, and never says that a token is too long
+nested_same : (bounded takes : Bool) (spot : Spot) (brackets : List Bracket) (t : Lexeme) → IsTooLong t → step_by bounded takes spot (shortened t) brackets ≡ step_by bounded takes spot t brackets
+unfolding ends_run
+nested_same bounded takes spot [] t long = simp (word_like t long, sign_like t)
+nested_same bounded takes spot (b ∷ rest) t long = refl
+
+nested_shorter : (bounded takes : Bool) (s : Nest) (t : Lexeme) → nest_step bounded takes s t ≡ None → Shorter (nested bounded takes) s t
+unfolding nest_step
+nested_shorter bounded takes s t none = record { undone = λ l. absurd cc; takes = λ l. absurd cc; stays = λ l long. (nested_same bounded takes s.spot s.brackets t long ∙ none, refl) }
+
 nested_ends : (bounded takes : Bool) → CanEnd (nested bounded takes)
 nested_ends bounded takes = record {
   finish = λ s. finish_by s.spot s.brackets;
@@ -85,6 +75,7 @@ nested_ends bounded takes = record {
   finished = λ s. finishes bounded takes s.spot s.brackets;
   done = λ s. last_done s.spot s.brackets;
   covers = covered bounded takes;
+  shorter = nested_shorter bounded takes;
 }
 
 pub expression_laws : Lawful expression
@@ -136,8 +127,45 @@ type_covers : (s : TypeSpot) (t : Lexeme) → type_done s ≡ true → type_goes
 unfolding type_step type_done type_goes_on
 type_covers s t d free = grind arith
 
+-- a type goes by kinds and words, but where it takes a name
+word_agrees_types : (t : Lexeme) → IsTooLong t → is_type_word (shortened t) ≡ is_type_word t
+unfolding is_type_word
+word_agrees_types t long = simp (word_like t long)
+
+number_same : (t : Lexeme) → is_number (shortened t) ≡ is_number t
+unfolding is_number
+number_same t = refl
+
+-- where a name is due
+name_due : (s : TypeSpot) (t : Lexeme) (r : Result (List ℕ) Bool) → name_value t ≡ r → if_name r s ≡ None → (is_long_by r ≡ true → IsTooLong t × (if_name (name_value (shortened t)) s ≡ Some s)) × (is_long_by r ≡ false → IsTooLong t → (if_name (name_value (shortened t)) s ≡ None) × (is_long_by (name_value (shortened t)) ≡ false))
+name_due s t (Ok n) is e = absurd cc
+name_due s t (Err true) is e = (λ l. (let h = name_shortens.long t is in (h.0, ap (λ r. if_name r s) h.1.1)), λ l long. absurd cc)
+name_due s t (Err false) is e = (λ l. absurd cc, λ l long. (let h = name_shortens.none t long is in (ap (λ r. if_name r s) h, ap is_long_by h)))
+
+type_same : (s : TypeSpot) (t : Lexeme) → IsTooLong t → type_long s t ≡ false → (s ≡ Begin → ⊥) → (s ≡ Dotted → ⊥) → (type_step s (shortened t) ≡ type_step s t) × (type_long s (shortened t) ≡ false)
+unfolding type_step type_long
+type_same Begin t long l first later = absurd (first refl)
+type_same Dotted t long l first later = absurd (later refl)
+type_same Path t long l first later = (refl, refl)
+type_same Ended t long l first later = (refl, refl)
+type_same s t long l first later = (simp (word_agrees_types t long, number_same t, sign_like t), refl)
+
+type_shorter : (s : TypeSpot) (t : Lexeme) → type_step s t ≡ None → Shorter typing s t
+unfolding type_step type_long type_done
+type_shorter Begin t none = by (is_type_word t) refl none
+  where
+    by : (b : Bool) → is_type_word t ≡ b → cond b (Some (FirstWord (is_ok (name_value t)))) (if_name (name_value t) Schema) ≡ None → Shorter typing Begin t
+    by true w e = absurd cc
+    by false w e = let h = name_due Schema t (name_value t) refl e in record {
+      undone = λ l. refl;
+      takes = λ l. (let g = h.0 l in (g.0, (Schema, ap (λ (b : Bool). cond b (Some (FirstWord (is_ok (name_value (shortened t))))) (if_name (name_value (shortened t)) Schema)) (word_agrees_types t g.0 ∙ w) ∙ g.1)));
+      stays = λ l long. (let g = h.1 l long in (ap (λ (b : Bool). cond b (Some (FirstWord (is_ok (name_value (shortened t))))) (if_name (name_value (shortened t)) Schema)) (word_agrees_types t long ∙ w) ∙ g.0, g.1));
+    }
+type_shorter Dotted t none = let h = name_due Path t (name_value t) refl none in record { undone = λ l. refl; takes = λ l. (let g = h.0 l in (g.0, (Path, g.1))); stays = h.1 }
+type_shorter s t none = record { undone = λ l. absurd cc; takes = λ l. absurd cc; stays = λ l long. (let g = type_same s t long l (λ e. absurd cc) (λ e. absurd cc) in (g.0 ∙ none, g.1)) }
+
 pub typing_ends : CanEnd typing
-typing_ends = record { finish = type_finish; last = type_last; finished = type_finished; done = type_is_done; covers = type_covers }
+typing_ends = record { finish = type_finish; last = type_last; finished = type_finished; done = type_is_done; covers = type_covers; shorter = type_shorter }
 
 pub type_laws : Lawful type_part
 unfolding type_part

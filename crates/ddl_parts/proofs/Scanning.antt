@@ -1,11 +1,6 @@
 -- A machine that goes token by token: the tokens so far and those behind are the machine's run.
-use Rattle.std.proofs.Common.{◌≡◌, ℕ, zero, suc, ◌+◌, ◌-◌, ◌<◌, ◌≤◌, Bool, true, false, cond, List, [], ◌∷◌, ◌++◌, length, take, drop, Some, None, Ok, Err, refl, sym, ap, ◌∙◌, arith, append_assoc, append-nil}
-use Rattle.std.proofs.lemmas.List.{drop_all}
-use Rattle.ddl_parts.specs.Lexemes.{Lexeme}
-use Rattle.ddl_parts.specs.Parts.{Reading, ◌>>=◌, Machine, ends, scan, scan_step}
-use Rattle.ddl_parts.specs.Pieces.{GivesRun, ended}
-use Rattle.ddl_parts.proofs.Steps.{gives}
-use Rattle.ddl_parts.proofs.Slices.{drop_twice, take_one_more}
+use Rattle.ddl_parts.proofs.Common.{◌≡◌, ℕ, zero, suc, ◌+◌, ◌-◌, ◌<◌, ◌≤◌, Bool, true, false, cond, List, [], ◌∷◌, ◌++◌, length, take, drop, Some, None, Ok, Err, refl, sym, ap, ◌∙◌, arith, append_assoc, append-nil, drop_all, Lexeme, Reading, ◌>>=◌, Machine, ends, scan, scan_step, GivesRun, ended}
+use Rattle.ddl_parts.proofs.{Steps.gives, Slices.drop_twice, Slices.take_one_more}
 
 -- tokens that were taken, before those that are taken behind them
 abbrev pub before : List Lexeme → Reading (List Lexeme) → Reading (List Lexeme)

@@ -1,11 +1,6 @@
 -- The laws of one part after another.
-use Rattle.std.proofs.Common.{◌≡◌, Bool, true, false, List, ◌++◌, Ok, Err, refl, sym, ap, ◌∙◌, append_assoc}
-use Rattle.ddl_parts.specs.Lexemes.{Lexeme, starts}
-use Rattle.ddl_parts.specs.Parts.{Part, Reading, ◌>>=◌, ◌then◌, then_at, ◌▸◌, ◌◂◌, mark}
-use Rattle.ddl_parts.specs.Laws.{Lawful, Begins, Avoids, Apart}
-use Rattle.ddl_parts.proofs.Steps.{starts-append, avoids_never, avoids_begun}
-use Rattle.ddl_parts.proofs.Told.{Tells, told, lawful, told_on}
-use Rattle.ddl_parts.proofs.Simple.{seen_laws, seen_begins, mark_laws, mark_begins}
+use Rattle.ddl_parts.proofs.Common.{◌≡◌, Bool, true, false, List, ◌∷◌, ◌++◌, Ok, Err, refl, sym, ap, ◌∙◌, append_assoc, Lexeme, starts, Part, Reading, ◌>>=◌, ◌then◌, then_at, ◌▸◌, ◌◂◌, mark, Lawful, Begins, Avoids, Apart, shortened}
+use Rattle.ddl_parts.proofs.{Steps.Agrees, Steps.starts-append, Steps.avoids_never, Steps.avoids_begun, Told.Tells, Told.told, Told.lawful, Told.told_on, Told.named_by, Simple.seen_laws, Simple.seen_begins, Simple.mark_laws, Simple.mark_begins}
 
 -- read both, from the tokens that the first left
 both : {A B : Type 0} (p : Part A) (q : Part B) (ts : List Lexeme) (v : A) (mid : List Lexeme) → p.read ts ≡ Ok (v, mid) → then_at p.read q.read ts ≡ (q.read mid >>= λ b. Ok ((v, b.0), b.1))
@@ -18,7 +13,11 @@ then_tells p q lq ts (Err s) f = let x = lq.example in record {
   front = f.front;
   parts = f.parts;
   fits = ((f.fits.0, x.value), f.fits.1 ++ x.tokens, (f.front ++ f.fits.1, x.tokens, sym (append_assoc f.front f.fits.1 x.tokens), f.fits.2, x.spells));
-  local = λ t behind is other. ap (λ r. r >>= λ a. q.read a.1 >>= λ b. Ok ((a.0, b.0), b.1)) (f.local t behind is other);
+  local = λ t behind is u like other. ap (λ r. r >>= λ a. q.read a.1 >>= λ b. Ok ((a.0, b.0), b.1)) (f.local t behind is u like other);
+  named = λ e.
+      let n = f.named e in
+      let all = f.front ++ shortened n.token ∷ n.more in
+      named_by n (n.value, x.value) (n.more ++ x.tokens) (all, x.tokens, sym (append_assoc f.front (shortened n.token ∷ n.more) x.tokens), n.spells, x.spells);
 }
 
 then_only : {A B : Type 0} (p : Part A) (q : Part B) → Lawful p → Lawful q → Avoids p.goes_on q → (x : A × B) (front rest : List Lexeme) → (p then q).Spells x front → starts q.goes_on rest ≡ false → then_at p.read q.read (front ++ rest) ≡ Ok (x, rest)
@@ -42,14 +41,14 @@ then_begins test p q begins x ts spells = ap (starts test) spells.2 ∙ starts-a
 
 -- ---- a token that says no more, before a part or behind it
 
-pub lead_laws : {A : Type 0} (test : Lexeme → Bool) (t : Lexeme) (p : Part A) → test t ≡ true → Lawful p → Lawful (test ▸ p)
-lead_laws test t p e lp = seen_laws (λ x. x.1) (mark test then p) (then_laws (mark test) p (mark_laws test t e) lp (avoids_never p))
+pub lead_laws : {A : Type 0} (test : Lexeme → Bool) → Agrees test → (t : Lexeme) (p : Part A) → test t ≡ true → Lawful p → Lawful (test ▸ p)
+lead_laws test agrees t p e lp = seen_laws (λ x. x.1) (mark test then p) (then_laws (mark test) p (mark_laws test agrees t e) lp (avoids_never p))
 
 pub lead_begins : {A : Type 0} (test : Lexeme → Bool) (p : Part A) → Begins test (test ▸ p)
 lead_begins test p = seen_begins test (λ x. x.1) (mark test then p) (then_begins test (mark test) p (mark_begins test))
 
-pub close_laws : {A : Type 0} (p : Part A) (test : Lexeme → Bool) (t : Lexeme) → test t ≡ true → Lawful p → Apart test p.goes_on → Lawful (p ◂ test)
-close_laws p test t e lp apart = seen_laws (λ x. x.0) (p then mark test) (then_laws p (mark test) lp (mark_laws test t e) (avoids_begun test p.goes_on (mark test) (mark_begins test) apart))
+pub close_laws : {A : Type 0} (p : Part A) (test : Lexeme → Bool) → Agrees test → (t : Lexeme) → test t ≡ true → Lawful p → Apart test p.goes_on → Lawful (p ◂ test)
+close_laws p test agrees t e lp apart = seen_laws (λ x. x.0) (p then mark test) (then_laws p (mark test) lp (mark_laws test agrees t e) (avoids_begun test p.goes_on (mark test) (mark_begins test) apart))
 
 pub close_begins : {A : Type 0} (begun : Lexeme → Bool) (p : Part A) (test : Lexeme → Bool) → Begins begun p → Begins begun (p ◂ test)
 close_begins begun p test begins = seen_begins begun (λ x. x.0) (p then mark test) (then_begins begun p (mark test) begins)

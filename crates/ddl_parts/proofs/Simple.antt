@@ -1,35 +1,49 @@
 -- The laws of one token, of no token, and of a value seen through another.
-use Rattle.std.proofs.Common.{◌≡◌, Bool, true, false, List, [], ◌∷◌, ◌++◌, Result, Ok, Err, cond, refl, sym, ap, subst, ◌∙◌, arith}
-use Rattle.ddl_parts.specs.Lexemes.{Lexeme, starts}
-use Rattle.ddl_parts.specs.Parts.{Part, Reading, one, one_at, first_by, seen, seen_at, nothing, wider, passes, mark}
-use Rattle.ddl_parts.specs.Laws.{Lawful, Begins, Avoids}
-use Rattle.ddl_parts.proofs.Steps.{starts_neither, gives}
-use Rattle.ddl_parts.proofs.Told.{Tells, told, lawful, told_as}
+use Rattle.ddl_parts.proofs.Common.{◌≡◌, Bool, true, false, List, [], ◌∷◌, ◌++◌, Result, Ok, Err, cond, refl, sym, ap, subst, ◌∙◌, ◌⊎◌, inl, inr, arith, Lexeme, starts, Part, Reading, one, one_at, first_by, seen, seen_at, nothing, wider, passes, mark, IsTooLong, shortened, Like, Lawful, Begins, Avoids}
+use Rattle.ddl_parts.proofs.{Steps.Agrees, Steps.starts_neither, Steps.gives, Told.Tells, Told.told, Told.lawful, Told.told_as, Told.named_by}
 
 -- ---- one token
 
 pub head_is : (x y : Lexeme) (xs ys : List Lexeme) → x ∷ xs ≡ y ∷ ys → x ≡ y
 head_is x y xs ys e = cc
 
-one_tells : {A : Type 0} (value : Lexeme → Result A Bool) (t : Lexeme) (v : A) → value t ≡ Ok v → (ts : List Lexeme) → Tells (one value) ts (one_at value ts)
-one_tells value t v e [] = record { front = []; parts = refl; fits = (v, t ∷ [], (t, refl, e)); local = λ x behind is other. absurd cc }
-one_tells {A} value t v e (x ∷ ts) = by (value x) refl
+-- What a token's value owes of tokens that are too long: where it is one but for its length, the token is too long, and a
+-- shorter one has a value; and else a shorter one has none either.
+pub record Shortens {A : Type 0} (value : Lexeme → Result A Bool) : Type 0 where
+  pub long : (t : Lexeme) → value t ≡ Err true → IsTooLong t × ((v : A) × (value (shortened t) ≡ Ok v))
+  pub none : (t : Lexeme) → IsTooLong t → value t ≡ Err false → value (shortened t) ≡ Err false
+
+one_tells : {A : Type 0} (value : Lexeme → Result A Bool) → Shortens value → (t : Lexeme) (v : A) → value t ≡ Ok v → (ts : List Lexeme) → Tells (one value) ts (one_at value ts)
+one_tells value h t v e [] = record { front = []; parts = refl; fits = (v, t ∷ [], (t, refl, e)); local = λ x behind is u like other. absurd cc; named = λ e. absurd cc }
+one_tells {A} value h t v e (x ∷ ts) = by (value x) refl
   where
     refused : Bool → Lexeme → List Lexeme → Reading A
     refused long y other = Err (record { long = long; rest = y ∷ other })
 
+    failed : Bool → Result A Bool
+    failed long = Err long
+
+    again : (long : Bool) → value x ≡ Err long → (u : Lexeme) → Like long x u → (other : List Lexeme) → one_at value (u ∷ other) ≡ refused long u other
+    again long is u (inl same) other = subst (λ (z : Lexeme). one_at value (z ∷ other) ≡ refused long z other) same (ap (first_by x other) is)
+    again long is u (inr l) other =
+        subst (λ (z : Lexeme). one_at value (z ∷ other) ≡ refused long z other) l.2
+        (ap (first_by (shortened x) other) (h.none x l.1 (is ∙ ap failed l.0)) ∙ ap (λ (b : Bool). refused b (shortened x) other) (sym l.0))
+
     by : (r : Result A Bool) → value x ≡ r → Tells (one value) (x ∷ ts) (first_by x ts r)
-    by (Ok w) is = record { front = x ∷ []; parts = refl; fits = (x, refl, is); local = λ y behind i other. ap (first_by x (y ∷ other)) is }
+    by (Ok w) is = record { front = x ∷ []; parts = refl; fits = (x, refl, is); local = λ y behind i u like other. ap (first_by x (u ∷ other)) is; named = λ e. absurd cc }
     by (Err long) is = record {
       front = [];
       parts = refl;
       fits = (v, t ∷ [], (t, refl, e));
-      local = λ y behind i other. subst (λ (z : Lexeme). one_at value (z ∷ other) ≡ refused long z other) (head_is x y ts behind i) (ap (first_by x other) is);
+      local = λ y behind i u like other. again long is u (subst (λ (z : Lexeme). Like long z u) (sym (head_is x y ts behind i)) like) other;
+      named = λ l.
+          let s = h.long x (is ∙ ap failed l) in
+          record { token = x; behind = ts; is = refl; long = s.0; value = s.1.0; more = []; spells = (shortened x, refl, s.1.1) };
     }
 
-pub one_laws : {A : Type 0} (value : Lexeme → Result A Bool) (t : Lexeme) (v : A) → value t ≡ Ok v → Lawful (one value)
-one_laws value t v e =
-    lawful (one_tells value t v e) (λ w front rest spells free. ap (λ (f : List Lexeme). one_at value (f ++ rest)) spells.1 ∙ ap (first_by spells.0 rest) spells.2)
+pub one_laws : {A : Type 0} (value : Lexeme → Result A Bool) → Shortens value → (t : Lexeme) (v : A) → value t ≡ Ok v → Lawful (one value)
+one_laws value h t v e =
+    lawful (one_tells value h t v e) (λ w front rest spells free. ap (λ (f : List Lexeme). one_at value (f ++ rest)) spells.1 ∙ ap (first_by spells.0 rest) spells.2)
     (record { value = v; tokens = t ∷ []; spells = (t, refl, e) })
 
 pub one_begins : {A : Type 0} (value : Lexeme → Result A Bool) (test : Lexeme → Bool) → ((t : Lexeme) (v : A) → value t ≡ Ok v → test t ≡ true) → Begins test (one value)
@@ -43,8 +57,18 @@ passes_by b = cond b (Ok tt) (Err false)
 pub passes_true : (v : Unit {0}) (b : Bool) → passes_by b ≡ Ok v → b ≡ true
 passes_true v b e = grind arith
 
-pub mark_laws : (test : Lexeme → Bool) (t : Lexeme) → test t ≡ true → Lawful (mark test)
-mark_laws test t e = one_laws (passes test) t tt (ap passes_by e)
+passes_false : (b : Bool) → passes_by b ≡ Err false → b ≡ false
+passes_false b e = grind arith
+
+never_long : (b : Bool) → passes_by b ≡ Err true → ⊥
+never_long true e = absurd cc
+never_long false e = absurd cc
+
+pub passes_short : (test : Lexeme → Bool) → Agrees test → Shortens (passes test)
+passes_short test agrees = record { long = λ t e. absurd (never_long (test t) e); none = λ t long e. ap passes_by (agrees t long ∙ passes_false (test t) e) }
+
+pub mark_laws : (test : Lexeme → Bool) → Agrees test → (t : Lexeme) → test t ≡ true → Lawful (mark test)
+mark_laws test agrees t e = one_laws (passes test) (passes_short test agrees) t tt (ap passes_by e)
 
 pub mark_begins : (test : Lexeme → Bool) → Begins test (mark test)
 mark_begins test = one_begins (passes test) test (λ t v e. passes_true v (test t) e)
@@ -53,7 +77,7 @@ mark_begins test = one_begins (passes test) test (λ t v e. passes_true v (test 
 
 pub nothing_laws : {A : Type 0} (test : Lexeme → Bool) (v : A) → Lawful (nothing test v)
 nothing_laws {A} test v =
-    lawful (λ ts. record { front = []; parts = refl; fits = (refl, refl); local = λ t behind is other. refl })
+    lawful (λ ts. record { front = []; parts = refl; fits = (refl, refl); local = λ t behind is u like other. refl; named = λ e. absurd cc })
     (λ w front rest spells free. ap (λ (f : List Lexeme). gives v (f ++ rest)) spells.1 ∙ ap (λ (u : A). gives u rest) (sym spells.0)) (record { value = v; tokens = []; spells = (refl, refl) })
 
 pub nothing_avoids : {A : Type 0} (test : Lexeme → Bool) (v : A) → Avoids test (nothing test v)
@@ -62,8 +86,14 @@ nothing_avoids test v w ts rest spells free = ap (λ (f : List Lexeme). starts t
 -- ---- a value seen through another
 
 seen_tells : {A B : Type 0} (f : A → B) (p : Part A) (ts : List Lexeme) (r : Reading A) → Tells p ts r → Tells (seen f p) ts (seen_at f r)
-seen_tells f p ts (Ok x) h = record { front = h.front; parts = h.parts; fits = (x.0, refl, h.fits); local = λ t behind is other. ap (seen_at f) (h.local t behind is other) }
-seen_tells f p ts (Err s) h = record { front = h.front; parts = h.parts; fits = (f h.fits.0, h.fits.1, (h.fits.0, refl, h.fits.2)); local = λ t behind is other. ap (seen_at f) (h.local t behind is other) }
+seen_tells f p ts (Ok x) h = record { front = h.front; parts = h.parts; fits = (x.0, refl, h.fits); local = λ t behind is u like other. ap (seen_at f) (h.local t behind is u like other); named = λ e. absurd cc }
+seen_tells f p ts (Err s) h = record {
+  front = h.front;
+  parts = h.parts;
+  fits = (f h.fits.0, h.fits.1, (h.fits.0, refl, h.fits.2));
+  local = λ t behind is u like other. ap (seen_at f) (h.local t behind is u like other);
+  named = λ e. let n = h.named e in named_by n (f n.value) n.more (n.value, refl, n.spells);
+}
 
 pub seen_laws : {A B : Type 0} (f : A → B) (p : Part A) → Lawful p → Lawful (seen f p)
 seen_laws {B = B} f p lp =
@@ -80,5 +110,5 @@ seen_avoids test f p avoids w ts rest spells free = avoids spells.0 ts rest spel
 
 pub wider_laws : {A : Type 0} (more : Lexeme → Bool) (p : Part A) → Lawful p → Lawful (wider more p)
 wider_laws more p lp =
-    lawful (λ ts. told_as ts (p.read ts) (told lp ts (p.read ts) refl) (λ v us s. s) (λ t behind is other. refl)) (λ v front rest spells free. lp.only v front rest spells (starts_neither p.goes_on more rest free).0)
+    lawful (λ ts. told_as ts (p.read ts) (told lp ts (p.read ts) refl) (λ v us s. s) (λ t behind is u like other. refl)) (λ v front rest spells free. lp.only v front rest spells (starts_neither p.goes_on more rest free).0)
     (record { value = lp.example.value; tokens = lp.example.tokens; spells = lp.example.spells })

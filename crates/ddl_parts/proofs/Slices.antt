@@ -1,18 +1,6 @@
 -- Slices of lists side by side, and the text of a run of tokens as a slice of the whole text.
-use Rattle.std.proofs.Common.{◌≡◌, ℕ, zero, suc, ◌+◌, ◌-◌, ◌<◌, ◌≤◌, true, List, [], ◌∷◌, ◌++◌, length, take, drop, get_or, Some, None, Ok, refl, sym, ap, subst, ◌∙◌, arith, append-nil, leb-true, ltb-true, eqb-true}
-use Rattle.std.specs.Prelude.{slice_range}
-use Rattle.std.specs.List.{list_all}
-use Rattle.std.specs.Str.{IsUtf8, is_utf8}
-use Rattle.std.proofs.lemmas.Str.{IsUtf8-append, IsUtf8-nil, IsUtf8-from_is_utf8, is_utf8-from_IsUtf8}
-use Rattle.std.proofs.lemmas.Bool.{and_parts, and_from}
-use Rattle.sql_lex.specs.declared.token.Token.{Token}
-use Rattle.sql_lex.specs.Next.{next_token_of}
-use Rattle.sql_lex.specs.Meaning.{spelling}
-use Rattle.sql_lex.specs.Answers.{Between, nothing, gap, IsNext}
-use Rattle.sql_lex.proofs.TextLaws.{next_found, piece_word}
-use Rattle.ddl_parts.specs.declared.pieces.Piece.{Piece}
-use Rattle.ddl_parts.specs.Lexemes.{Lexeme, spelled, source}
-use Rattle.ddl_parts.specs.Pieces.{lexeme_of, lexemes, are_joined, are_joined_from, is_sound, are_sound}
+use Rattle.ddl_parts.proofs.Common.{◌≡◌, ℕ, zero, suc, ◌+◌, ◌-◌, ◌<◌, ◌≤◌, true, List, [], ◌∷◌, ◌++◌, length, take, drop, get_or, Some, None, Ok, refl, sym, ap, subst, ◌∙◌, arith, append-nil, leb-true, ltb-true, eqb-true, slice_range, list_all, IsUtf8, is_utf8, IsUtf8-append, IsUtf8-nil, IsUtf8-from_is_utf8, is_utf8-from_IsUtf8, and_parts, and_from, Token, next_token_of, spelling, Between, gap, IsNext, next_found, piece_word, Piece, Lexeme, spelled, source, lexeme_of, lexemes, are_joined, are_joined_from, is_sound, are_sound}
+use Rattle.sql_lex.specs.Answers.{nothing}
 
 -- ---- slices
 

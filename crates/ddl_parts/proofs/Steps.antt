@@ -1,9 +1,5 @@
 -- Steps of a reading, and the first of some tokens.
-use Rattle.std.proofs.Common.{◌≡◌, Bool, true, false, ◌||◌, List, [], ◌∷◌, ◌++◌, Result, Ok, Err, refl, sym, ap, ◌∙◌, arith}
-use Rattle.std.proofs.lemmas.Bool.{or_parts}
-use Rattle.ddl_parts.specs.Lexemes.{Lexeme, starts, never}
-use Rattle.ddl_parts.specs.Parts.{Stop, Part, Reading}
-use Rattle.ddl_parts.specs.Laws.{Apart, Begins, Avoids}
+use Rattle.ddl_parts.proofs.Common.{◌≡◌, Bool, true, false, ◌||◌, List, [], ◌∷◌, ◌++◌, Result, Ok, Err, refl, sym, ap, ◌∙◌, ◌⊎◌, inl, inr, arith, or_parts, Lexeme, starts, never, Stop, Part, Reading, IsTooLong, shortened, Like, Apart, Begins, Avoids}
 
 abbrev pub done : {A : Type 0} → A → Result A Stop
 done x = Ok x
@@ -32,15 +28,23 @@ rest_is {A} v w rest other e = ap (λ (x : A × List Lexeme). x.1) (ok_is (v, re
 pub starts-append : (test : Lexeme → Bool) (a b : List Lexeme) → starts test a ≡ true → starts test (a ++ b) ≡ true
 starts-append test a b e = grind arith
 
+-- a token that is too long passes the test where a shorter one does
+abbrev pub Agrees : (Lexeme → Bool) → Type 0
+Agrees test = (t : Lexeme) → IsTooLong t → test (shortened t) ≡ test t
+
+pub passes_like : (test : Lexeme → Bool) → Agrees test → (long : Bool) (t u : Lexeme) → Like long t u → test u ≡ test t
+passes_like test agrees long t u (inl same) = ap test (sym same)
+passes_like test agrees long t u (inr h) = ap test (sym h.2) ∙ agrees t h.1
+
 -- the first of some tokens and one more, whatever comes behind that one
-pub starts_kept : (test : Lexeme → Bool) (front : List Lexeme) (t : Lexeme) (behind other : List Lexeme) → starts test (front ++ t ∷ other) ≡ starts test (front ++ t ∷ behind)
-starts_kept test [] t behind other = refl
-starts_kept test (f ∷ front) t behind other = refl
+pub starts_kept : (test : Lexeme → Bool) (front : List Lexeme) (t u : Lexeme) (behind other : List Lexeme) → test u ≡ test t → starts test (front ++ u ∷ other) ≡ starts test (front ++ t ∷ behind)
+starts_kept test [] t u behind other e = e
+starts_kept test (f ∷ front) t u behind other e = refl
 
 -- the same, where the tokens are given as a whole
-pub starts_again : (test : Lexeme → Bool) (b : Bool) (ts front rest : List Lexeme) (t : Lexeme) (behind other : List Lexeme) → starts test ts ≡ b → ts ≡ front ++ rest → rest ≡ t ∷ behind → starts test (front ++ t ∷ other) ≡ b
-starts_again test b ts front rest t behind other e parts is =
-    starts_kept test front t behind other ∙ ap (starts test) (sym (parts ∙ ap (λ (r : List Lexeme). front ++ r) is)) ∙ e
+pub starts_again : (test : Lexeme → Bool) → Agrees test → (b : Bool) (ts front rest : List Lexeme) (t : Lexeme) (behind : List Lexeme) → starts test ts ≡ b → ts ≡ front ++ rest → rest ≡ t ∷ behind → (long : Bool) (u : Lexeme) → Like long t u → (other : List Lexeme) → starts test (front ++ u ∷ other) ≡ b
+starts_again test agrees b ts front rest t behind e parts is long u like other =
+    starts_kept test front t u behind other (passes_like test agrees long t u like) ∙ ap (starts test) (sym (parts ∙ ap (λ (r : List Lexeme). front ++ r) is)) ∙ e
 
 pub starts_never : (ts : List Lexeme) → starts never ts ≡ false
 starts_never ts = grind arith

@@ -1,23 +1,15 @@
 -- The laws of one of several parts by their key words.
-use Rattle.std.proofs.Common.{◌≡◌, ℕ, Bool, true, not, ◌&&◌, List, [], ◌∷◌}
-use Rattle.std.proofs.lemmas.Bool.{and_parts, not-true}
-use Rattle.std.specs.Str.{str_eq_ignore_ascii_case}
-use Rattle.ddl_parts.specs.Lexemes.{Lexeme, is_word}
-use Rattle.ddl_parts.specs.Parts.{Branch, branch, one_of}
-use Rattle.ddl_parts.specs.Laws.{Lawful, Begins, Avoids, Apart}
-use Rattle.ddl_parts.proofs.Sequence.{lead_begins}
-use Rattle.ddl_parts.proofs.Choice.{choose_laws}
-use Rattle.ddl_parts.proofs.Leads.{word_laws, word_avoids, choose_avoids}
-use Rattle.ddl_parts.proofs.Steps.{avoids_begun}
+use Rattle.ddl_parts.proofs.Common.{◌≡◌, ℕ, Bool, true, not, ◌&&◌, List, [], ◌∷◌, and_parts, not-true, str_eq_ignore_ascii_case, Lexeme, is_word, Branch, branch, one_of, Lawful, Begins, Avoids, Apart}
+use Rattle.ddl_parts.proofs.{Shorter.is_far, Shorter.word_agrees, Sequence.lead_begins, Choice.choose_laws, Leads.word_laws, Leads.word_avoids, Leads.choose_avoids, Steps.avoids_begun}
 
--- the key words are all different
+-- the key words are all different, and far from short names
 abbrev pub unlike : {A : Type 0} → List ℕ → Branch A → List (Branch A) → Bool
 unlike key b [] = not (str_eq_ignore_ascii_case b.key key)
 unlike key b (c ∷ rest) = not (str_eq_ignore_ascii_case b.key key) && unlike key c rest
 
 abbrev pub distinct : {A : Type 0} → Branch A → List (Branch A) → Bool
-distinct b [] = true
-distinct b (c ∷ rest) = unlike b.key c rest && distinct c rest
+distinct b [] = is_far b.key
+distinct b (c ∷ rest) = is_far b.key && (unlike b.key c rest && distinct c rest)
 
 abbrev pub AllLawful : {A : Type 0} → Branch A → List (Branch A) → Type 0
 AllLawful b [] = Lawful b.part
@@ -39,7 +31,8 @@ one_of_avoids_others test apart b (c ∷ rest) =
     choose_avoids test (is_word b.key) (branch b) (one_of c rest) (avoids_begun (is_word b.key) test (branch b) (branch_begins b) (apart b.key)) (one_of_avoids_others test apart c rest)
 
 pub one_of_laws : {A : Type 0} (b : Branch A) (rest : List (Branch A)) → distinct b rest ≡ true → AllLawful b rest → Lawful (one_of b rest)
-one_of_laws b [] e laws = word_laws b.key b.part laws
+one_of_laws b [] e laws = word_laws b.key e b.part laws
 one_of_laws b (c ∷ rest) e laws =
-    let h = and_parts (unlike b.key c rest) (distinct c rest) e in
-    choose_laws (is_word b.key) (branch b) (one_of c rest) (word_laws b.key b.part laws.0) (one_of_laws c rest h.1 laws.1) (branch_begins b) (one_of_avoids b.key c rest h.0)
+    let far = and_parts (is_far b.key) (unlike b.key c rest && distinct c rest) e in
+    let h = and_parts (unlike b.key c rest) (distinct c rest) far.1 in
+    choose_laws (is_word b.key) (word_agrees b.key far.0) (branch b) (one_of c rest) (word_laws b.key far.0 b.part laws.0) (one_of_laws c rest h.1 laws.1) (branch_begins b) (one_of_avoids b.key c rest h.0)

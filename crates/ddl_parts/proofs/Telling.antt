@@ -1,19 +1,6 @@
 -- Tokens that are told apart, by their kinds and words.
-use Rattle.std.proofs.Common.{◌≡◌, ℕ, Bool, true, false, ◌||◌, ◌&&◌, List, [], ◌∷◌, ◌++◌, refl, ap, subst, ◌∙◌, bytes_eq, eqb-true, arith}
-use Rattle.std.specs.Prelude.{◌==◌}
-use Rattle.std.specs.List.{list_any}
-use Rattle.std.specs.Str.{str_eq_ignore_ascii_case, str_to_ascii_lowercase}
-use Rattle.std.proofs.lemmas.Slice.Eq.{bytes_eq-Decides}
-use Rattle.sql_lex.specs.declared.token.TokenKind.{TokenKind}
-use Rattle.sql_lex.specs.declared.token.TokenKind.TheVariants.{Word, QuotedName, Sign}
-use Rattle.sql_lex.specs.Meaning.{is_keyword_of}
-use Rattle.ddl_parts.specs.Lexemes.{Lexeme, is_word, is_sign, is_sign_kind, never, starts}
-use Rattle.ddl_parts.specs.Parts.{Part, nothing}
-use Rattle.ddl_parts.specs.Laws.{Apart, Avoids, Begins}
-use Rattle.ddl_parts.specs.Leaves.{is_name, is_name_kind, is_literal, is_literal_kind}
-use Rattle.ddl_parts.specs.Types.{type_goes_on, is_type_word, is_word_kind, stop_words}
-use Rattle.ddl_parts.proofs.Steps.{starts_more, starts_covered}
-use Rattle.ddl_parts.proofs.Leads.{word_no_sign}
+use Rattle.ddl_parts.proofs.Common.{◌≡◌, ℕ, Bool, true, false, ◌||◌, ◌&&◌, List, [], ◌∷◌, ◌++◌, refl, ap, subst, ◌∙◌, bytes_eq, eqb-true, arith, ◌==◌, list_any, str_eq_ignore_ascii_case, str_to_ascii_lowercase, bytes_eq-Decides, TokenKind, Word, QuotedName, Sign, is_keyword_of, Lexeme, is_word, is_sign, is_sign_kind, never, starts, Part, nothing, Apart, Avoids, Begins, is_name, is_name_kind, is_literal, is_literal_kind, type_goes_on, is_type_word, is_word_kind, stop_words}
+use Rattle.ddl_parts.proofs.{Steps.starts_more, Steps.starts_covered, Leads.word_no_sign}
 
 -- what goes on with no token is followed by anything
 pub free : (test : Lexeme → Bool) → Apart test never

@@ -1,21 +1,7 @@
 -- The tokens of a type: how a step goes on, and those of a qualified name.
-use Rattle.std.proofs.Common.{◌≡◌, ℕ, zero, suc, ◌+◌, ◌-◌, ◌≤◌, Bool, true, false, cond, List, [], ◌∷◌, length, take, drop, Option, Some, None, Result, Ok, Err, is_ok, refl, sym, ap, subst, ◌∙◌, arith, option_and_then}
-use Rattle.std.proofs.lemmas.List.{length-drop}
-use Rattle.std.specs.Option.{ok_or}
-use Rattle.ddl_parts.specs.declared.types.TypeSpot.{TypeSpot}
-use Rattle.ddl_parts.specs.declared.types.TypeSpot.TheVariants.{Begin, FirstWord, Schema, Dotted, Path}
-use Rattle.cat_model.specs.declared.type_name.TypeName.{TypeName}
+use Rattle.ddl_parts.proofs.Common.{◌≡◌, ℕ, zero, suc, ◌+◌, ◌-◌, ◌≤◌, Bool, true, false, cond, List, [], ◌∷◌, length, take, drop, Option, Some, None, Result, Ok, Err, is_ok, refl, sym, ap, subst, ◌∙◌, arith, option_and_then, length-drop, ok_or, TypeSpot, Begin, FirstWord, Schema, Dotted, Path, TypeName, ReadError, Lexeme, is_sign, starts, source, name_value, Reading, Runs, run, scan, first_by, one_at, seen_at, Fails, typing, type_step, is_type_word, if_name, type_of, type_part}
+use Rattle.ddl_parts.proofs.{Steps.gives, Slices.drop_twice, Machines.run_none, Machines.machine_laws, RunLaws.typing_ends}
 use Rattle.cat_model.specs.declared.type_name.TypeName.TheVariants as type_name
-use Rattle.ddl_parts.specs.declared.fault.ReadError.{ReadError}
-use Rattle.ddl_parts.specs.Lexemes.{Lexeme, is_sign, starts, source}
-use Rattle.ddl_parts.specs.Leaves.{name_value}
-use Rattle.ddl_parts.specs.Parts.{Reading, Runs, run, scan, first_by, one_at, seen_at}
-use Rattle.ddl_parts.specs.Pieces.{Fails}
-use Rattle.ddl_parts.specs.Types.{typing, type_step, is_type_word, if_name, type_of, type_part}
-use Rattle.ddl_parts.proofs.Steps.{gives}
-use Rattle.ddl_parts.proofs.Slices.{drop_twice}
-use Rattle.ddl_parts.proofs.Machines.{run_none, machine_laws}
-use Rattle.ddl_parts.proofs.RunLaws.{typing_ends}
 
 abbrev gone : TypeSpot → Result TypeSpot Bool
 gone x = Ok x

@@ -2,6 +2,7 @@ pub mod Lexemes
 pub mod Parts
 pub mod Laws
 pub mod Leaves
+pub mod Shortened
 pub mod Pieces
 pub mod Collecting
 pub mod Expressions

@@ -3,7 +3,7 @@ ghost use Rattle.std.specs.Prelude.{◌≡◌, ◌≤◌, ◌-◌, length, take,
 ghost use Rattle.ddl_parts.specs.Pieces.{lexemes, are_joined, are_sound, GivesPart};
 ghost use Rattle.ddl_parts.specs.Expressions.{are_not_null, without_not_null, default_and_null};
 
-use crate::fault::ReadError;
+use crate::fault::Parsed;
 use crate::pieces::{Piece, is_word_at};
 use crate::runs::{run_end, text_between};
 use copy_text::Text;
@@ -50,7 +50,7 @@ pub(crate) fn default_and_null_at(
     text: &[u8],
     pieces: &[Piece],
     at: usize,
-) -> Result<((Text, bool), usize), ReadError>
+) -> Parsed<(Text, bool)>
     requires joined { are_joined (length text.now) pieces.now ≡ true }
     requires sound { are_sound text.now pieces.now ≡ true }
     ensures { GivesPart (lexemes text.now pieces.now) (λ x. (x.0, x.1)) result (default_and_null.read (drop at (lexemes text.now pieces.now))) }

@@ -22,6 +22,9 @@ pub enum ReadError {
     Memory,
 }
 
+/// A value and the place behind its tokens, or why there is none.
+pub type Parsed<T> = Result<(T, usize), ReadError>;
+
 impl From<AllocError> for ReadError {
     ghost from_gives = { λ _ error. error ≡ Memory };
 

@@ -11,6 +11,6 @@ mod runs;
 mod types;
 
 pub use collecting::{Run, collect};
-pub use fault::{Halt, ReadError};
+pub use fault::{Halt, Parsed, ReadError};
 pub use pieces::{Piece, Pieces};
 pub use qualified::qualified_name;

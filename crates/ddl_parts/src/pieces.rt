@@ -10,7 +10,7 @@ ghost use Rattle.ddl_parts.specs.Pieces.{lexeme_of, lexemes, are_joined, are_sou
 ghost use Rattle.ddl_parts.specs.declared.fault.ReadError.TheVariants.{Halted};
 
 use crate::defaults::default_and_null_at;
-use crate::fault::{Halt, ReadError};
+use crate::fault::{Halt, Parsed, ReadError};
 use crate::runs::{run_at, text_between};
 use crate::types::type_at;
 use cat_model::TypeName;
@@ -117,14 +117,14 @@ impl<'a> Pieces<'a> {
     }
 
     /// The name at a place, and the place behind it.
-    pub fn name(&self, alloc: Global, at: usize) -> Result<(Name, usize), ReadError>
+    pub fn name(&self, alloc: Global, at: usize) -> Parsed<Name>
         ensures { GivesPart self.now (λ n. n) result (name.read (drop at self.now)) }
     {
         name_at(alloc, self.text, &self.pieces, at)
     }
 
     /// The text of the literal at a place, and the place behind it.
-    pub fn literal(&self, alloc: Global, at: usize) -> Result<(Text, usize), ReadError>
+    pub fn literal(&self, alloc: Global, at: usize) -> Parsed<Text>
         ensures { GivesPart self.now (λ t. t) result (literal.read (drop at self.now)) }
     {
         literal_at(alloc, self.text, &self.pieces, at)
@@ -132,7 +132,7 @@ impl<'a> Pieces<'a> {
 
     /// The text of the expression at a place, and the place behind it.
     #[tactic(auto, unfolding(crate::specs::Expressions::expression))]
-    pub fn expression(&self, alloc: Global, at: usize) -> Result<(Text, usize), ReadError>
+    pub fn expression(&self, alloc: Global, at: usize) -> Parsed<Text>
         ensures { GivesPart self.now (λ t. t) result (expression.read (drop at self.now)) }
     {
         run_at(alloc, self.text, &self.pieces, at, false, false)
@@ -140,18 +140,14 @@ impl<'a> Pieces<'a> {
 
     /// The text of the default at a place, which NOT NULL may not follow, and the place behind it.
     #[tactic(auto, unfolding(crate::specs::Expressions::default_text))]
-    pub fn default_text(&self, alloc: Global, at: usize) -> Result<(Text, usize), ReadError>
+    pub fn default_text(&self, alloc: Global, at: usize) -> Parsed<Text>
         ensures { GivesPart self.now (λ t. t) result (default_text.read (drop at self.now)) }
     {
         run_at(alloc, self.text, &self.pieces, at, true, false)
     }
 
     /// The text of the default at a place, whether NOT NULL follows it, and the place behind both.
-    pub fn default_and_null(
-        &self,
-        alloc: Global,
-        at: usize,
-    ) -> Result<((Text, bool), usize), ReadError>
+    pub fn default_and_null(&self, alloc: Global, at: usize) -> Parsed<(Text, bool)>
         ensures { GivesPart self.now (λ x. (x.0, x.1)) result (default_and_null.read (drop at self.now)) }
     {
         default_and_null_at(alloc, self.text, &self.pieces, at)
@@ -175,7 +171,7 @@ impl<'a> Pieces<'a> {
     }
 
     /// The type at a place, and the place behind it.
-    pub fn type_name(&self, alloc: Global, at: usize) -> Result<(TypeName, usize), ReadError>
+    pub fn type_name(&self, alloc: Global, at: usize) -> Parsed<TypeName>
         ensures { GivesPart self.now (λ t. t) result (type_part.read (drop at self.now)) }
     {
         type_at(alloc, self.text, &self.pieces, at)
@@ -325,12 +321,7 @@ pub(crate) fn name_value(
     Ok(name_in(token_name(alloc, text, piece.token)?))
 }
 
-pub(crate) fn name_at(
-    alloc: Global,
-    text: &[u8],
-    pieces: &[Piece],
-    at: usize,
-) -> Result<(Name, usize), ReadError>
+pub(crate) fn name_at(alloc: Global, text: &[u8], pieces: &[Piece], at: usize) -> Parsed<Name>
     requires { are_joined (length text.now) pieces.now ≡ true }
     ensures { GivesPart (lexemes text.now pieces.now) (λ n. n) result (name.read (drop at (lexemes text.now pieces.now))) }
 {
@@ -344,12 +335,7 @@ pub(crate) fn name_at(
 }
 
 #[tactic(auto, unfolding(crate::specs::Leaves::literal_value))]
-fn literal_at(
-    alloc: Global,
-    text: &[u8],
-    pieces: &[Piece],
-    at: usize,
-) -> Result<(Text, usize), ReadError>
+fn literal_at(alloc: Global, text: &[u8], pieces: &[Piece], at: usize) -> Parsed<Text>
     requires { are_joined (length text.now) pieces.now ≡ true }
     ensures { GivesPart (lexemes text.now pieces.now) (λ t. t) result (literal.read (drop at (lexemes text.now pieces.now))) }
 {

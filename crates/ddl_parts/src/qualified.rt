@@ -3,17 +3,13 @@ ghost use Rattle.std.specs.Prelude.{drop};
 ghost use Rattle.ddl_parts.specs.Leaves.{qualified};
 ghost use Rattle.ddl_parts.specs.Pieces.{GivesPart};
 
-use crate::fault::ReadError;
+use crate::fault::Parsed;
 use crate::pieces::Pieces;
 use cat_model::QName;
 use std::alloc::Global;
 
 /// The qualified name at a place, and the place behind it.
-pub fn qualified_name(
-    alloc: Global,
-    pieces: &Pieces<'_>,
-    at: usize,
-) -> Result<(QName, usize), ReadError>
+pub fn qualified_name(alloc: Global, pieces: &Pieces<'_>, at: usize) -> Parsed<QName>
     ensures { GivesPart pieces.now (λ q. q) result (qualified.read (drop at pieces.now)) }
 {
     let (schema, at) = pieces.name(alloc, at)?;

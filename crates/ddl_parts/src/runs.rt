@@ -8,7 +8,7 @@ ghost use Rattle.ddl_parts.specs.Expressions.{behind_kind, behind_sign, without_
 ghost use Rattle.ddl_parts.specs.declared.runs.Spot.TheVariants.{Inside};
 ghost use Rattle.std.specs.Str.{IsUtf8};
 
-use crate::fault::ReadError;
+use crate::fault::{Parsed, ReadError};
 use crate::pieces::{Piece, halt, is_sign_kind, piece_at};
 use copy_text::Text;
 use sql_lex::{TokenKind, is_keyword};
@@ -297,7 +297,7 @@ pub(crate) fn run_at(
     at: usize,
     bounded: bool,
     takes: bool,
-) -> Result<(Text, usize), ReadError>
+) -> Parsed<Text>
     requires joined { are_joined (length text.now) pieces.now ≡ true }
     requires sound { are_sound text.now pieces.now ≡ true }
     ensures { GivesPart (lexemes text.now pieces.now) (λ t. t) result (seen_at source (scan (nested bounded takes) (nested bounded takes).start (drop at (lexemes text.now pieces.now)))) }

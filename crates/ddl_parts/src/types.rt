@@ -9,7 +9,7 @@ ghost use Rattle.ddl_parts.specs.Pieces.{lexeme_of, lexemes, are_joined, are_sou
 ghost use Rattle.ddl_parts.specs.declared.types.TypeSpot.TheVariants.{Begin, FirstWord, Schema, Dotted, Counted, Behind};
 ghost use Rattle.ddl_parts.specs.Types.{stop_words, is_word_kind, is_number_kind, is_type_word, is_number, if_name, is_long_by, only_if, more_words, type_step, type_long, type_done, typing, type_part};
 
-use crate::fault::{Halt, ReadError};
+use crate::fault::{Halt, Parsed, ReadError};
 use crate::pieces::{Piece, halt, is_sign_at, is_sign_kind, name_at, name_value, piece_at};
 use crate::runs::text_between;
 use cat_model::{QName, TypeName};
@@ -273,12 +273,7 @@ fn is_path(text: &[u8], pieces: &[Piece], from: usize, end: usize) -> bool
 
 /// The type at a place, and the place behind it.
 #[tactic(auto, unfolding(crate::specs::Types::type_part))]
-pub(crate) fn type_at(
-    alloc: Global,
-    text: &[u8],
-    pieces: &[Piece],
-    at: usize,
-) -> Result<(TypeName, usize), ReadError>
+pub(crate) fn type_at(alloc: Global, text: &[u8], pieces: &[Piece], at: usize) -> Parsed<TypeName>
     requires joined { are_joined (length text.now) pieces.now ≡ true }
     requires sound { are_sound text.now pieces.now ≡ true }
     ensures { GivesPart (lexemes text.now pieces.now) (λ t. t) result (type_part.read (drop at (lexemes text.now pieces.now))) }

@@ -1,13 +1,6 @@
 -- What follows the columns of a key, token by token.
-use Rattle.std.proofs.Common.{◌≡◌, ℕ, ◌+◌, Bool, List, ◌∷◌, drop, Option, Some, None, Result, Ok, Err, refl, sym, ap, ◌∙◌}
-use Rattle.std.specs.Option.{ok_or}
-use Rattle.ddl_parts.specs.Lexemes.{Lexeme}
-use Rattle.ddl_parts.specs.Leaves.{name_value}
-use Rattle.ddl_parts.specs.Parts.{first_by}
-use Rattle.ddl_numbers.proofs.Places.{IsAt}
-use Rattle.ddl_read.specs.declared.rests.RestSpot.{RestSpot}
-use Rattle.ddl_read.specs.declared.rests.RestSpot.TheVariants.{Begin, Deferrable, Initially, Ended, Foreign, FirstOn, Update, UpdateNo, UpdateSet, Updated, SecondOn, Delete, DeleteNo, DeleteSet, Chosen, Opened, Named, Deleted}
-use Rattle.ddl_read.specs.Rests.{if_name, if_read, is_long_by, is_long_read, rest_step, rest_long, step_first, long_first}
+use Rattle.ddl_read.proofs.Common.{◌≡◌, ℕ, ◌+◌, Bool, List, ◌∷◌, drop, Option, Some, None, Result, Ok, Err, refl, sym, ap, ◌∙◌, ok_or, Lexeme, name_value, first_by, IsAt, if_name, if_read, is_long_by, is_long_read, rest_step, rest_long, step_first, long_first}
+use Rattle.ddl_read.specs.{declared.rests.RestSpot.RestSpot, declared.rests.RestSpot.TheVariants.Begin, declared.rests.RestSpot.TheVariants.Deferrable, declared.rests.RestSpot.TheVariants.Initially, declared.rests.RestSpot.TheVariants.Ended, declared.rests.RestSpot.TheVariants.Foreign, declared.rests.RestSpot.TheVariants.FirstOn, declared.rests.RestSpot.TheVariants.Update, declared.rests.RestSpot.TheVariants.UpdateNo, declared.rests.RestSpot.TheVariants.UpdateSet, declared.rests.RestSpot.TheVariants.Updated, declared.rests.RestSpot.TheVariants.SecondOn, declared.rests.RestSpot.TheVariants.Delete, declared.rests.RestSpot.TheVariants.DeleteNo, declared.rests.RestSpot.TheVariants.DeleteSet, declared.rests.RestSpot.TheVariants.Chosen, declared.rests.RestSpot.TheVariants.Opened, declared.rests.RestSpot.TheVariants.Named, declared.rests.RestSpot.TheVariants.Deleted}
 
 first_name : (r : Result (List ℕ) Bool) (t : Lexeme) (ts : List Lexeme) → if_read (first_by t ts r) Named ≡ if_name r Named
 first_name (Ok n) t ts = refl

@@ -1,20 +1,9 @@
 -- A text read statement by statement: those so far and those behind are those of the text.
-use Rattle.std.proofs.Common.{◌≡◌, ℕ, zero, suc, ◌+◌, ◌-◌, ◌<◌, ◌≤◌, List, [], ◌∷◌, ◌++◌, length, Option, Some, None, Result, Ok, Err, refl, sym, ap, ◌∙◌, arith, append_assoc, append-nil}
-use Rattle.sql_lex.specs.declared.fault.LexFault.{LexFault}
-use Rattle.sql_lex.specs.declared.token.Token.{Token}
-use Rattle.sql_lex.specs.Meaning.{spelling}
-use Rattle.cat_model.specs.declared.object.QName.{QName}
-use Rattle.cat_model.specs.declared.stmt.Stmt.TheVariants as stmt
-use Rattle.cat_model.specs.declared.stmt.Stmt.{Stmt}
-use Rattle.ddl_parts.specs.declared.pieces.Piece.{Piece}
-use Rattle.ddl_parts.specs.Pieces.{lexemes}
-use Rattle.ddl_parts.specs.Collecting.{Collected, collected}
-use Rattle.ddl_read.specs.declared.located.Located.{Located}
-use Rattle.ddl_read.specs.declared.fault.DdlFault.{DdlFault}
-use Rattle.ddl_read.specs.declared.fault.ReadStmtsError.{ReadStmtsError}
-use Rattle.ddl_read.specs.declared.fault.ReadStmtsError.TheVariants as errors
+use Rattle.ddl_read.proofs.Common.{◌≡◌, ℕ, zero, suc, ◌+◌, ◌-◌, ◌<◌, ◌≤◌, Bool, true, false, cond, List, [], ◌∷◌, ◌++◌, length, Option, Some, None, Result, Ok, Err, refl, sym, ap, ◌∙◌, arith, append_assoc, append-nil, codes, or_parts, LexFault, Token, TokenKind, next_token_of, spelling, is_keyword_of, Stmt, Piece, Lexeme, is_word, is_sign, is_sign_kind, lexeme_of, lexemes, value_of, Collected, collected, collected_within, collected_by, Reading, Whole, whole, whole_of, begins_statement, stray_in, stray, told, line_at, line_said, statements_at, listed, first_start, no_more, statement_of, statements_by, statements_within, statements_of}
 use Rattle.ddl_lines.specs.MetaLines.{meta_line}
-use Rattle.ddl_read.specs.Reading.{◌>>=◌, Fails, Whole, whole, whole_of, completed, line_at, line_said, statements_at, listed, first_start, no_more, statement_of, statements_by, statements_within, statements_of}
+use Rattle.ddl_read.specs.{Grammar.command, Grammar.statement, declared.fault.DdlFault.TheVariants.Unknown, declared.located.Located.Located, declared.fault.DdlFault.DdlFault, declared.fault.ReadStmtsError.ReadStmtsError, Reading.◌>>=◌, Reading.Fails}
+use Rattle.cat_model.specs.declared.stmt.Stmt.TheVariants as stmt
+use Rattle.ddl_read.specs.declared.fault.ReadStmtsError.TheVariants as errors
 
 -- statements so far, before what is read behind them
 abbrev pub behind : List Located → Result (List Located) DdlFault → Result (List Located) DdlFault
@@ -122,14 +111,59 @@ at_bad_line answer text so_far at t (errors.Fault fault) left line failed =
     let o = opened answer text so_far at left in
     o.2 ∙ ap (turn o.0 text so_far at) line ∙ ap (said_line o.0 text so_far t) failed
 
+-- ---- a token that begins no statement
+
+refused : (gap : List ℕ) (kind : TokenKind) (word : List ℕ) (start : ℕ) (ts : List Lexeme) → begins_statement kind word ≡ false
+    → statement.read (record { gap = gap; kind = kind; word = word; start = start } ∷ ts) ≡ Err (record { long = false; rest = record { gap = gap; kind = kind; word = word; start = start } ∷ ts })
+unfolding statement command begins_statement is_sign is_word
+refused gap kind word start ts e =
+    let sign = or_parts (is_sign_kind 59 kind) _ e in
+    let a = or_parts (is_keyword_of kind word (codes "create")) _ sign.1 in
+    let b = or_parts (is_keyword_of kind word (codes "alter")) _ a.1 in
+    let c = or_parts (is_keyword_of kind word (codes "select")) _ b.1 in
+    let d = or_parts (is_keyword_of kind word (codes "set")) _ c.1 in
+    let f = or_parts (is_keyword_of kind word (codes "copy")) _ d.1 in
+    let g = or_parts (is_keyword_of kind word (codes "grant")) _ f.1 in
+    let h = or_parts (is_keyword_of kind word (codes "revoke")) _ g.1 in
+    let i = or_parts (is_keyword_of kind word (codes "comment")) _ h.1 in
+    rw (sign.0, a.0, b.0, c.0, d.0, f.0, g.0, h.0, i.0) refl
+
+strayed : (text : List ℕ) (r : Result (Option Token) LexFault) (start : ℕ) → stray_in text r ≡ Some start → (t : Token) × (r ≡ Ok (Some t)) × (begins_statement t.kind (spelling text t) ≡ false) × (t.start ≡ start)
+strayed text (Ok (Some t)) start e = by (begins_statement t.kind (spelling text t)) refl e
+  where
+    by : (b : Bool) → begins_statement t.kind (spelling text t) ≡ b → cond b None (Some t.start) ≡ Some start → (u : Token) × (Ok (Some t) ≡ (let r : Result (Option Token) LexFault = Ok (Some u) in r)) × (begins_statement u.kind (spelling text u) ≡ false) × (u.start ≡ start)
+    by true is e = absurd cc
+    by false is e = (t, refl, is, cc)
+strayed text (Ok None) start e = absurd cc
+strayed text (Err fault) start e = absurd cc
+
+-- the tokens that would be collected begin with it
+collected_by_it : (text : List ℕ) (at : ℕ) (t : Token) → next_token_of text at ≡ Ok (Some t) → (more : List Piece) × ((collected text at).pieces ≡ record { from = at; token = t } ∷ more)
+unfolding collected collected_within
+collected_by_it text at t e =
+    let fuel : length text + 1 ≡ suc (length text) = omega arith in
+    (_, ap (λ n. (collected_within n text at).pieces) fuel ∙ ap (λ r. (collected_by (collected_within (length text) text) at r).pieces) e)
+
+abbrev fails_at : ℕ → Result (Option Stmt) DdlFault
+fails_at k = Err (Unknown k)
+
+pub at_stray : (answer : Result (List Located) DdlFault) (text : List ℕ) (so_far : List Located) (at start : ℕ) → IsLeft answer text so_far at → line_at text at ≡ None → stray text at ≡ Some start → answer ≡ Err (Unknown start)
+unfolding stray statement_of
+at_stray answer text so_far at start left no_line e =
+    let s = strayed text (next_token_of text at) start e in
+    let c = collected text at in
+    let p = collected_by_it text at s.0 s.1 in
+    let piece : Piece = record { from = at; token = s.0 } in
+    let l = lexeme_of text piece in
+    let first : first_start c.pieces ≡ Some start = ap first_start p.1 ∙ ap (λ (k : ℕ). Some k) s.3 in
+    let read : statement.read (lexemes text c.pieces) ≡ Err (record { long = false; rest = l ∷ lexemes text p.0 }) =
+    ap (λ (ps : List Piece). statement.read (lexemes text ps)) p.1 ∙ refused l.gap l.kind l.word l.start (lexemes text p.0) s.2 in
+    let place : statement_of (length text) (lexemes text c.pieces) c.fault ≡ Err (Unknown start) =
+    ap (λ (r : Reading (Option Stmt)). told (length text) c.fault (value_of r)) read ∙ ap fails_at s.3 in
+    at_bad_statement answer text so_far at c start (errors.Fault (Unknown start)) left (record { no_line = no_line; tokens = refl; first = first }) (ap (whole_of text c.end) place)
+
 pub some_pieces : (ps : List Piece) (start : ℕ) → first_start ps ≡ Some start → 0 < length ps
 some_pieces [] start e = absurd cc
 some_pieces (p ∷ ps) start e = omega arith
 
 -- ---- the rows of a COPY
-
--- a statement that is no COPY is whole where its tokens end
-pub uncompleted : (text : List ℕ) (end : ℕ) (s : Option Stmt) → ((q : QName) (columns : List (List ℕ)) (rows : List ℕ) → s ≡ Some (stmt.CopyRows q columns rows) → ⊥) → completed text end s ≡ Ok (whole s end)
-uncompleted text end None other = refl
-uncompleted text end (Some (stmt.CopyRows q columns rows)) other = absurd (other q columns rows refl)
-uncompleted text end (Some s) other = refl

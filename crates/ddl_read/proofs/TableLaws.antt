@@ -1,32 +1,6 @@
 -- The items of CREATE TYPE, CREATE DOMAIN and CREATE TABLE are told apart.
-use Rattle.std.proofs.Common.{◌≡◌, ℕ, Bool, true, false, not, cond, ◌||◌, List, [], ◌∷◌, None, Ok, Err, refl, ap, codes}
-use Rattle.std.specs.Prelude.{◌==◌}
-use Rattle.std.specs.Str.{is_utf8, chars}
-use Rattle.std.proofs.Math.Utf8.{encode}
-use Rattle.std.proofs.lemmas.Bool.{or_parts, not-true}
-use Rattle.sql_lex.specs.Meaning.{is_keyword_of, name_of}
-use Rattle.ddl_parts.specs.Lexemes.{Lexeme, is_word, is_sign}
-use Rattle.ddl_parts.specs.Parts.{Part, seen, choose, nothing}
-use Rattle.ddl_parts.specs.Laws.{Lawful, Apart, Avoids, Begins}
-use Rattle.ddl_parts.specs.Lists.{comma, listing}
-use Rattle.ddl_parts.specs.Leaves.{name_in, name_value, is_name, literal, is_literal}
-use Rattle.ddl_parts.specs.Expressions.{default_text, default_and_null, ends_run, is_end_kind}
-use Rattle.ddl_parts.specs.Types.{type_goes_on, type_part}
-use Rattle.ddl_parts.proofs.Simple.{one_laws, one_begins}
-use Rattle.ddl_parts.proofs.Sequence.{lead_begins}
-use Rattle.ddl_parts.proofs.Choice.{choose_begins}
-use Rattle.ddl_parts.proofs.Repeated.{AreApart}
-use Rattle.ddl_parts.proofs.Listing.{listing_apart}
-use Rattle.ddl_parts.proofs.Leads.{a_word, name_laws, name_begins, literal_laws, literal_begins, sign_laws, words_apart, choose_avoids}
-use Rattle.ddl_parts.proofs.RunLaws.{expression_laws, expression_ends_bracket, default_text_laws, default_and_null_laws, type_laws}
-use Rattle.ddl_read.specs.declared.tables.TableElement.{TableElement}
-use Rattle.ddl_read.specs.declared.tables.TableElement.TheVariants.{Column, Check}
-use Rattle.ddl_read.specs.declared.tables.Spot.{Spot}
-use Rattle.ddl_read.specs.declared.tables.Spot.TheVariants.{Opening, BehindColumn, BehindCheck}
-use Rattle.ddl_read.specs.Clauses.{check_of, named_check}
-use Rattle.ddl_read.specs.TableGrammar.{more_attributes, Attributes, not_null, given, null_first, default_first, attributes, typed, checking, column_name_value, column_name, column_of, column, element, last_element, element_begins, element_at, spot_behind, elements, more_elements}
-use Rattle.ddl_parts.proofs.Telling.{free, stop_no_type, sign_no_word, sign_no_type, word_is_name, begins_more}
-use Rattle.ddl_parts.proofs.Composing.{Headed, lawful_seen, lawful_word, lawful_sign, lawful_ended, lawful_then, lawful_next, headed_word, headed_seen, headed_next, lawful_choose, lawful_either, lawful_maybe, lawful_optional, avoids_headed, avoids_maybe}
+use Rattle.ddl_read.proofs.Common.{◌≡◌, ℕ, Bool, true, false, not, cond, ◌||◌, List, [], ◌∷◌, None, Ok, Err, refl, ap, codes, ◌==◌, is_utf8, chars, encode, or_parts, not-true, is_keyword_of, name_of, Lexeme, is_word, is_sign, Part, seen, choose, nothing, Lawful, Apart, Avoids, Begins, comma, listing, name_in, name_value, is_name, literal, is_literal, default_text, default_and_null, ends_run, is_end_kind, type_goes_on, type_part, Agrees, word_agrees, sign_agrees, name_agrees, literal_agrees, name_shortens, guarded_shortens, refused_shortens, Shortens, one_laws, one_begins, lead_begins, choose_begins, AreApart, listing_apart, a_word, name_laws, name_begins, literal_laws, literal_begins, sign_laws, words_apart, choose_avoids, expression_laws, expression_ends_bracket, default_text_laws, default_and_null_laws, type_laws, TableElement, Column, Check, Opening, BehindColumn, BehindCheck, more_attributes, Attributes, not_null, given, null_first, default_first, attributes, typed, checking, column_name_value, column_name, column_of, column, element, last_element, element_begins, element_at, spot_behind, elements, more_elements, free, stop_no_type, sign_no_word, sign_no_type, word_is_name, begins_more, Headed, lawful_seen, lawful_word, lawful_sign, lawful_ended, lawful_then, lawful_next, headed_word, headed_seen, headed_next, lawful_choose, lawful_either, lawful_maybe, lawful_optional, avoids_headed, avoids_maybe}
+use Rattle.ddl_read.specs.{declared.tables.Spot.Spot, Clauses.check_of, Clauses.named_check}
 
 -- ---- checks
 
@@ -34,7 +8,7 @@ pub named_check_is : Headed (is_word (codes "constraint")) named_check
 unfolding named_check
 named_check_is =
     headed_seen check_of
-    (headed_word (codes "constraint") (lawful_next name_laws (lawful_word (codes "check") (lawful_sign 40 (lawful_ended 41 expression_laws expression_ends_bracket))) (λ t. refl)))
+    (headed_word (codes "constraint") refl (lawful_next name_laws (lawful_word (codes "check") refl (lawful_sign 40 (lawful_ended 41 expression_laws expression_ends_bracket))) (λ t. refl)))
 
 pub named_check_free : (t : Lexeme) → named_check.goes_on t ≡ false
 unfolding named_check
@@ -43,17 +17,17 @@ named_check_free t = refl
 -- ---- CREATE TYPE
 
 pub labels_apart : AreApart (λ t. is_literal t || (comma t || literal.goes_on t)) (listing is_literal literal)
-labels_apart = listing_apart is_literal literal literal_laws literal_begins (free comma)
+labels_apart = listing_apart is_literal literal_agrees literal literal_laws literal_begins (free comma)
 
 -- ---- types with what may follow them
 
 null_first_is : Headed (is_word (codes "not")) null_first
 unfolding null_first
-null_first_is = headed_seen not_null (headed_word (codes "not") (lawful_word (codes "null") (lawful_optional (headed_word (codes "default") default_text_laws))))
+null_first_is = headed_seen not_null (headed_word (codes "not") refl (lawful_word (codes "null") refl (lawful_optional (headed_word (codes "default") refl default_text_laws))))
 
 default_first_is : Headed (is_word (codes "default")) default_first
 unfolding default_first
-default_first_is = headed_seen given (headed_word (codes "default") default_and_null_laws)
+default_first_is = headed_seen given (headed_word (codes "default") refl default_and_null_laws)
 
 abbrev none_given : Attributes
 none_given = (None, false)
@@ -110,6 +84,7 @@ comma_no_attributes = sign_end 44 comma_ends refl refl refl
 pub checks_apart : AreApart (is_word (codes "constraint")) checking
 checks_apart = record {
   laws = λ s. named_check_is.laws;
+  agrees = λ s. word_agrees (codes "constraint") refl;
   begins = λ s. named_check_is.begins;
   apart = λ s v t e. named_check_free t;
   covers = λ s t e. (e, named_check_free t);
@@ -128,19 +103,23 @@ column_name_is t v e = by (is_word (codes "constraint") t) refl e
     by true is e = absurd cc
     by false is e = (is, e)
 
+column_name_shortens : Shortens column_name_value
+unfolding column_name_value
+column_name_shortens = guarded_shortens (is_word (codes "constraint")) (λ t. Err false) name_value column_name_value (word_agrees (codes "constraint") refl) refused_shortens name_shortens (λ t. refl)
+
 column_name_laws : Lawful column_name
 unfolding column_name_value is_word is_keyword_of name_value name_in name_of is_utf8 chars encode
-column_name_laws = one_laws column_name_value (a_word (codes "a")) (codes "a") refl
+column_name_laws = one_laws column_name_value column_name_shortens (a_word (codes "a")) (codes "a") refl
 
-column_by : {test : Lexeme → Bool} → Begins test column_name → Headed test column
+column_by : {test : Lexeme → Bool} → Agrees test → Begins test column_name → Headed test column
 unfolding column
-column_by {test} begins = let named : Headed test column_name = record { laws = column_name_laws; begins = begins } in headed_seen column_of (headed_next named typed_laws (λ t. refl))
+column_by {test} agrees begins = let named : Headed test column_name = record { laws = column_name_laws; begins = begins; agrees = agrees } in headed_seen column_of (headed_next named typed_laws (λ t. refl))
 
 column_is : Headed is_name column
-column_is = column_by (one_begins column_name_value is_name (λ t v e. name_begins v (t ∷ []) (t, refl, (column_name_is t v e).1)))
+column_is = column_by name_agrees (one_begins column_name_value is_name (λ t v e. name_begins v (t ∷ []) (t, refl, (column_name_is t v e).1)))
 
 column_is_no_check : Headed is_no_constraint column
-column_is_no_check = column_by (one_begins column_name_value is_no_constraint (λ t v e. ap not (column_name_is t v e).0))
+column_is_no_check = column_by (λ t long. ap not (word_agrees (codes "constraint") refl t long)) (one_begins column_name_value is_no_constraint (λ t v e. ap not (column_name_is t v e).0))
 
 not_true : (t : Lexeme) → is_no_constraint t ≡ true → is_word (codes "constraint") t ≡ false
 not_true t e = not-true (is_word (codes "constraint") t) e
@@ -174,6 +153,7 @@ last_element_free t = named_check_free t
 pub elements_apart : AreApart more_elements elements
 elements_apart = record {
   laws = laws;
+  agrees = agrees;
   begins = begins;
   apart = λ s v. apart v s;
   covers = covers;
@@ -183,6 +163,10 @@ elements_apart = record {
     laws Opening = element_laws
     laws BehindColumn = sign_laws 44 element element_laws
     laws BehindCheck = sign_laws 44 last_element last_element_laws
+
+    agrees : (s : Spot) → Agrees (element_begins s)
+    agrees Opening = name_agrees
+    agrees x = sign_agrees 44
 
     begins : (s : Spot) → Begins (element_begins s) (element_at s)
     begins Opening = element_begins_name

@@ -1,15 +1,5 @@
 -- A path is read where a literal is.
-use Rattle.std.proofs.Common.{◌≡◌, ℕ, Bool, false, List, [], ◌∷◌, drop, Result, Ok, Err, refl, sym, ap, ◌∙◌}
-use Rattle.cat_model.specs.declared.object.QName.{QName}
-use Rattle.ddl_parts.specs.Lexemes.{Lexeme}
-use Rattle.ddl_parts.specs.Parts.{Stop, first_by}
-use Rattle.ddl_parts.specs.Leaves.{literal, literal_value}
-use Rattle.ddl_parts.specs.Pieces.{Fails, halted}
-use Rattle.ddl_parts.specs.declared.fault.Halt.{Halt}
-use Rattle.ddl_parts.specs.declared.fault.ReadError.{ReadError}
-use Rattle.ddl_parts.specs.declared.fault.ReadError.TheVariants.{Halted, Memory}
-use Rattle.ddl_parts.proofs.Steps.{value_is, rest_is}
-use Rattle.ddl_read.specs.ValueGrammar.{GivesPath, path_in, path_of, path_value, literal_path}
+use Rattle.ddl_read.proofs.Common.{◌≡◌, ℕ, Bool, List, [], ◌∷◌, drop, Result, Ok, Err, refl, sym, ap, ◌∙◌, QName, Lexeme, Stop, first_by, literal, literal_value, Fails, halted, ReadError, Halted, Memory, value_is, rest_is, path_in, path_of, path_value, GivesPath, literal_path}
 
 abbrev Place : Type 0
 Place = List Lexeme
@@ -28,14 +18,14 @@ path_is_read (t ∷ ts) rest text q e is = by (literal_value t) refl e
         ap (λ (r : Result (List ℕ) Bool). first_by t ts (path_of r)) same ∙ ap (λ (x : List ℕ). first_by t ts (path_in x)) (value_is found text ts rest e) ∙ ap (first_by t ts) is ∙ ap read_as (rest_is found text ts rest e)
     by (Err long) same e = absurd cc
 
-pub no_path_is_read : (ts rest : Place) (text : List ℕ) → literal.read ts ≡ Ok (text, rest) → path_in text ≡ Err false → literal_path.read ts ≡ Err (record { long = false; rest = ts })
+pub no_path_is_read : (ts rest : Place) (text : List ℕ) (long : Bool) → literal.read ts ≡ Ok (text, rest) → path_in text ≡ Err long → literal_path.read ts ≡ Err (record { long = long; rest = ts })
 unfolding path_value
-no_path_is_read [] rest text e is = absurd cc
-no_path_is_read (t ∷ ts) rest text e is = by (literal_value t) refl e
+no_path_is_read [] rest text long e is = absurd cc
+no_path_is_read (t ∷ ts) rest text long e is = by (literal_value t) refl e
   where
-    by : (r : Result (List ℕ) Bool) → literal_value t ≡ r → first_by t ts r ≡ Ok (text, rest) → first_by t ts (path_of (literal_value t)) ≡ Err (record { long = false; rest = t ∷ ts })
+    by : (r : Result (List ℕ) Bool) → literal_value t ≡ r → first_by t ts r ≡ Ok (text, rest) → first_by t ts (path_of (literal_value t)) ≡ Err (record { long = long; rest = t ∷ ts })
     by (Ok found) same e = ap (λ (r : Result (List ℕ) Bool). first_by t ts (path_of r)) same ∙ ap (λ (x : List ℕ). first_by t ts (path_in x)) (value_is found text ts rest e) ∙ ap (first_by t ts) is
-    by (Err long) same e = absurd cc
+    by (Err other) same e = absurd cc
 
 pub no_literal_is_read : (ts : Place) (s : Stop) → literal.read ts ≡ Err s → literal_path.read ts ≡ Err s
 unfolding path_value
@@ -53,7 +43,7 @@ literal_fails ts at (Halted h) e = no_literal_is_read (drop at ts) (halted ts h)
 
 pub path_fails : (ts : Place) (at end : ℕ) (text : List ℕ) (error : ReadError) → literal.read (drop at ts) ≡ Ok (text, drop end ts) → GivesPath at (Err error) (path_in text) → Fails ts error (literal_path.read (drop at ts))
 path_fails ts at end text Memory e is = tt
-path_fails ts at end text (Halted h) e is = no_path_is_read (drop at ts) (drop end ts) text e is.0 ∙ ap (λ (x : Halt). failed (halted ts x)) (sym is.1)
+path_fails ts at end text (Halted h) e is = no_path_is_read (drop at ts) (drop end ts) text h.long e is.0 ∙ ap failed (sym is.1)
   where
-    failed : Stop → Result (QName × Place) Stop
-    failed s = Err s
+    failed : ℕ → Result (QName × Place) Stop
+    failed place = Err (record { long = h.long; rest = drop place ts })

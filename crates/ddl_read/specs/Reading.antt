@@ -1,25 +1,26 @@
 -- The statements of a text, and the first place from which on it has none.
 -- A statement's tokens are those up to its semicolon; all of them together spell it. The rows of a COPY stand behind
 -- its semicolon. A line that begins with a backslash is a statement by itself.
-use Rattle.std.specs.Prelude.{◌≡◌, ℕ, zero, suc, ◌+◌, Bool, true, false, List, [], ◌∷◌, ◌++◌, length, drop, Option, Some, None, Result, Ok, Err, ⊤, if◌then◌else◌}
+use Rattle.std.specs.Prelude.{◌≡◌, ℕ, zero, suc, ◌+◌, Bool, true, false, ◌||◌, List, [], ◌∷◌, ◌++◌, length, drop, Option, Some, None, Result, Ok, Err, ⊤, if◌then◌else◌, codes}
+use Rattle.std.specs.List.{list_any}
 use Rattle.sql_lex.specs.declared.fault.LexFault.{LexFault}
 use Rattle.sql_lex.specs.declared.token.Token.{Token}
 use Rattle.sql_lex.specs.declared.token.TokenKind.{TokenKind}
 use Rattle.sql_lex.specs.declared.token.TokenKind.TheVariants.{MetaLine}
 use Rattle.sql_lex.specs.Next.{next_token_of}
-use Rattle.sql_lex.specs.Meaning.{spelling}
+use Rattle.sql_lex.specs.Meaning.{spelling, is_keyword_of}
 use Rattle.cat_model.specs.declared.object.QName.{QName}
 use Rattle.cat_model.specs.declared.stmt.Stmt.{Stmt}
 use Rattle.cat_model.specs.declared.stmt.Stmt.TheVariants as stmt
 use Rattle.ddl_parts.specs.declared.pieces.Piece.{Piece}
-use Rattle.ddl_parts.specs.Lexemes.{Lexeme, start_of}
+use Rattle.ddl_parts.specs.Lexemes.{Lexeme, is_sign_kind, start_of}
 use Rattle.ddl_parts.specs.Parts.{Stop}
 use Rattle.ddl_parts.specs.Pieces.{lexemes, value_of}
 use Rattle.ddl_parts.specs.Collecting.{Collected, collected}
 use Rattle.ddl_parts.specs.declared.fault.ReadError.{ReadError}
 use Rattle.ddl_parts.specs.declared.fault.ReadError.TheVariants as reading
 use Rattle.ddl_lines.specs.CopyRows.{Copied, rows_behind}
-use Rattle.ddl_lines.specs.MetaLines.{meta_line}
+use Rattle.ddl_lines.specs.MetaLines.{Wrong, meta_line}
 use Rattle.ddl_read.specs.declared.located.Located.{Located}
 use Rattle.ddl_read.specs.declared.fault.DdlFault.{DdlFault}
 use Rattle.ddl_read.specs.declared.fault.DdlFault.TheVariants.{Lex, Unknown, LongName, Incomplete}
@@ -94,13 +95,32 @@ line_in _ = None
 unfoldable pub line_at : List ℕ → ℕ → Option Token
 line_at text at = line_in (next_token_of text at)
 
--- what it says, or its fault at its backslash
-abbrev pub line_fault : Bool → ℕ → DdlFault
-line_fault long at = if long then LongName at else Unknown at
+-- what a line says that begins at a place, or its fault
+abbrev pub line_fault : ℕ → Wrong → DdlFault
+line_fault start wrong = if wrong.long then LongName (start + wrong.at) else Unknown (start + wrong.at)
 
-abbrev pub line_said : ℕ → Result (Option Stmt) Bool → Result (Option Stmt) DdlFault
-line_said at (Ok s) = Ok s
-line_said at (Err long) = Err (line_fault long at)
+abbrev pub line_said : ℕ → Result (Option Stmt) Wrong → Result (Option Stmt) DdlFault
+line_said start (Ok s) = Ok s
+line_said start (Err wrong) = Err (line_fault start wrong)
+
+-- ---- a token that begins no statement
+
+-- the first word of each kind of statement
+abbrev pub first_words : List (List ℕ)
+first_words =
+    codes "create" ∷ codes "alter" ∷ codes "select" ∷ codes "set" ∷ codes "copy" ∷ codes "grant" ∷ codes "revoke" ∷ codes "comment" ∷ []
+
+-- a token of this kind and word begins a statement, or is an empty one
+unfoldable pub begins_statement : TokenKind → List ℕ → Bool
+begins_statement kind word = is_sign_kind 59 kind || list_any (is_keyword_of kind word) first_words
+
+abbrev pub stray_in : List ℕ → Result (Option Token) LexFault → Option ℕ
+stray_in text (Ok (Some t)) = if begins_statement t.kind (spelling text t) then None else Some t.start
+stray_in text _ = None
+
+-- the place of the next token, where no statement begins with it
+unfoldable pub stray : List ℕ → ℕ → Option ℕ
+stray text at = stray_in text (next_token_of text at)
 
 -- ---- all of them
 

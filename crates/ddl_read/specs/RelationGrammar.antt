@@ -8,6 +8,7 @@ use Rattle.ddl_parts.specs.Lexemes.{Lexeme, is_word, is_sign, starts}
 use Rattle.ddl_parts.specs.Parts.{Part, Branch, seen, choose, choose_at, stop, one_of, ◌then◌, ◌▸◌, ◌◂◌}
 use Rattle.ddl_parts.specs.Leaves.{name, qualified}
 use Rattle.ddl_parts.specs.Expressions.{expression}
+use Rattle.ddl_read.specs.declared.relations.Index.{Index}
 use Rattle.ddl_read.specs.Clauses.{semicolon, new_owner}
 use Rattle.ddl_read.specs.SequenceGrammar.{create_sequence}
 
@@ -60,19 +61,23 @@ begun_by test p = record {
 unfoldable pub bracketed : Part (List ℕ)
 bracketed = begun_by (is_sign 40) expression
 
--- a name, a path, a method and what follows them
-abbrev pub Index : Type 0
-Index = List ℕ × (QName × (List ℕ × List ℕ))
+-- of a name, a path, a method and what follows them
+abbrev pub index_made : List ℕ × (QName × (List ℕ × List ℕ)) → Index
+index_made x = record { name = x.0; table = x.1.0; method = x.1.1.0; rest = x.1.1.1 }
 
--- name ON path USING method (rest;
-unfoldable pub index_parts : Part Index
-index_parts = name then (is_word (codes "on") ▸ (qualified then (is_word (codes "using") ▸ (name then (bracketed ◂ semicolon)))))
+-- name ON path USING method (rest
+unfoldable pub index_body : Part Index
+index_body = seen index_made (name then (is_word (codes "on") ▸ (qualified then (is_word (codes "using") ▸ (name then bracketed)))))
+
+-- the same and a semicolon
+abbrev pub index_parts : Part Index
+index_parts = index_body ◂ semicolon
 
 abbrev pub index_of : Index → Stmt
-index_of x = stmt.CreateIndex x.1.0 x.0 x.1.1.0 x.1.1.1
+index_of i = stmt.CreateIndex i.table i.name i.method i.rest
 
 abbrev pub unique_index_of : Index → Stmt
-unique_index_of x = stmt.CreateUniqueIndex x.1.0 x.0 x.1.1.0 x.1.1.1
+unique_index_of i = stmt.CreateUniqueIndex i.table i.name i.method i.rest
 
 unfoldable pub create_index : Part Stmt
 create_index = seen index_of index_parts

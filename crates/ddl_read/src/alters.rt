@@ -9,7 +9,7 @@ use crate::columns::columns;
 use crate::rests::{foreign_rest, key_rest};
 use cat_model::{Items, Owned, QName, Stmt};
 use copy_text::{Name, Text};
-use ddl_parts::{Halt, Pieces, ReadError, qualified_name};
+use ddl_parts::{Halt, Parsed, Pieces, ReadError, qualified_name};
 use std::alloc::Global;
 
 /// What a constraint of a table says.
@@ -38,11 +38,7 @@ pub enum TableChange {
 
 /// OWNER TO and a role.
 #[tactic(auto, unfolding(crate::specs::Clauses::new_owner))]
-pub(crate) fn new_owner(
-    alloc: Global,
-    pieces: &Pieces<'_>,
-    at: usize,
-) -> Result<(Name, usize), ReadError>
+pub(crate) fn new_owner(alloc: Global, pieces: &Pieces<'_>, at: usize) -> Parsed<Name>
     ensures { GivesPart pieces.now (λ n. n) result (new_owner.read (drop at pieces.now)) }
 {
     let at = pieces.word(at, "owner")?;
@@ -54,11 +50,7 @@ pub(crate) fn new_owner(
 
 /// The expression of a check in its brackets.
 #[tactic(auto, unfolding(crate::specs::AlterGrammar::check_body))]
-fn check_body(
-    alloc: Global,
-    pieces: &Pieces<'_>,
-    at: usize,
-) -> Result<(Constraint, usize), ReadError>
+fn check_body(alloc: Global, pieces: &Pieces<'_>, at: usize) -> Parsed<Constraint>
     ensures { GivesPart pieces.now (λ c. c) result (check_body.read (drop at pieces.now)) }
 {
     let at = pieces.sign(at, b'(')?;
@@ -69,11 +61,7 @@ fn check_body(
 
 /// The columns of a primary key, and what follows them.
 #[tactic(auto, unfolding(crate::specs::AlterGrammar::primary_body))]
-fn primary_body(
-    alloc: Global,
-    pieces: &Pieces<'_>,
-    at: usize,
-) -> Result<(Constraint, usize), ReadError>
+fn primary_body(alloc: Global, pieces: &Pieces<'_>, at: usize) -> Parsed<Constraint>
     ensures { GivesPart pieces.now (λ c. c) result (primary_body.read (drop at pieces.now)) }
 {
     let at = pieces.word(at, "key")?;
@@ -84,11 +72,7 @@ fn primary_body(
 
 /// The columns of a unique constraint, and what follows them.
 #[tactic(auto, unfolding(crate::specs::AlterGrammar::unique_body))]
-fn unique_body(
-    alloc: Global,
-    pieces: &Pieces<'_>,
-    at: usize,
-) -> Result<(Constraint, usize), ReadError>
+fn unique_body(alloc: Global, pieces: &Pieces<'_>, at: usize) -> Parsed<Constraint>
     ensures { GivesPart pieces.now (λ c. c) result (unique_body.read (drop at pieces.now)) }
 {
     let (columns, at) = columns(alloc, pieces, at)?;
@@ -98,11 +82,7 @@ fn unique_body(
 
 /// The columns of a foreign key, its parents, their columns and what follows them.
 #[tactic(auto, unfolding(crate::specs::AlterGrammar::foreign_body))]
-fn foreign_body(
-    alloc: Global,
-    pieces: &Pieces<'_>,
-    at: usize,
-) -> Result<(Constraint, usize), ReadError>
+fn foreign_body(alloc: Global, pieces: &Pieces<'_>, at: usize) -> Parsed<Constraint>
     ensures { GivesPart pieces.now (λ c. c) result (foreign_body.read (drop at pieces.now)) }
 {
     let at = pieces.word(at, "key")?;
@@ -119,11 +99,7 @@ fn foreign_body(
 
 /// What a constraint says: its definition, from a place of the tokens on.
 #[tactic(auto, unfolding(crate::specs::AlterGrammar::constraint_body))]
-pub fn constraint_body(
-    alloc: Global,
-    pieces: &Pieces<'_>,
-    at: usize,
-) -> Result<(Constraint, usize), ReadError>
+pub fn constraint_body(alloc: Global, pieces: &Pieces<'_>, at: usize) -> Parsed<Constraint>
     ensures { GivesPart pieces.now (λ c. c) result (constraint_body.read (drop at pieces.now)) }
 {
     if pieces.is_word(at, "check") {
@@ -144,7 +120,7 @@ pub fn constraint_body(
 
 /// A constraint that is added.
 #[tactic(auto, unfolding(crate::specs::AlterGrammar::added))]
-fn added(alloc: Global, pieces: &Pieces<'_>, at: usize) -> Result<(TableChange, usize), ReadError>
+fn added(alloc: Global, pieces: &Pieces<'_>, at: usize) -> Parsed<TableChange>
     ensures { GivesPart pieces.now (λ c. c) result (added.read (drop at pieces.now)) }
 {
     let at = pieces.word(at, "constraint")?;
@@ -156,11 +132,7 @@ fn added(alloc: Global, pieces: &Pieces<'_>, at: usize) -> Result<(TableChange, 
 
 /// The default of a column.
 #[tactic(auto, unfolding(crate::specs::AlterGrammar::new_default))]
-fn new_default(
-    alloc: Global,
-    pieces: &Pieces<'_>,
-    at: usize,
-) -> Result<(TableChange, usize), ReadError>
+fn new_default(alloc: Global, pieces: &Pieces<'_>, at: usize) -> Parsed<TableChange>
     ensures { GivesPart pieces.now (λ c. c) result (new_default.read (drop at pieces.now)) }
 {
     let at = pieces.word(at, "column")?;
@@ -174,11 +146,7 @@ fn new_default(
 
 /// A change of the table alone, before which ONLY may stand.
 #[tactic(auto, unfolding(crate::specs::AlterGrammar::own_change))]
-fn own_change(
-    alloc: Global,
-    pieces: &Pieces<'_>,
-    at: usize,
-) -> Result<(TableChange, usize), ReadError>
+fn own_change(alloc: Global, pieces: &Pieces<'_>, at: usize) -> Parsed<TableChange>
     ensures { GivesPart pieces.now (λ c. c) result (own_change.read (drop at pieces.now)) }
 {
     if pieces.is_word(at, "add") {
@@ -191,11 +159,7 @@ fn own_change(
 
 /// A change of a table.
 #[tactic(auto, unfolding(crate::specs::AlterGrammar::table_change))]
-fn table_change(
-    alloc: Global,
-    pieces: &Pieces<'_>,
-    at: usize,
-) -> Result<(TableChange, usize), ReadError>
+fn table_change(alloc: Global, pieces: &Pieces<'_>, at: usize) -> Parsed<TableChange>
     ensures { GivesPart pieces.now (λ c. c) result (table_change.read (drop at pieces.now)) }
 {
     if pieces.is_word(at, "owner") {
@@ -250,7 +214,7 @@ fn changed(q: QName, change: TableChange) -> Stmt
 
 /// The bare word ONLY as a name.
 #[tactic(auto, unfolding(crate::specs::AlterGrammar::only_value))]
-fn only_name(alloc: Global, pieces: &Pieces<'_>, at: usize) -> Result<(Name, usize), ReadError>
+fn only_name(alloc: Global, pieces: &Pieces<'_>, at: usize) -> Parsed<Name>
     ensures { GivesPart pieces.now (λ n. n) result (only_name.read (drop at pieces.now)) }
 {
     if pieces.is_word(at, "only") {
@@ -261,7 +225,7 @@ fn only_name(alloc: Global, pieces: &Pieces<'_>, at: usize) -> Result<(Name, usi
 
 /// A name that isn't the bare word ONLY.
 #[tactic(auto, unfolding(crate::specs::AlterGrammar::other_value))]
-fn other_name(alloc: Global, pieces: &Pieces<'_>, at: usize) -> Result<(Name, usize), ReadError>
+fn other_name(alloc: Global, pieces: &Pieces<'_>, at: usize) -> Parsed<Name>
     ensures { GivesPart pieces.now (λ n. n) result (other_name.read (drop at pieces.now)) }
 {
     if pieces.is_word(at, "only") {
@@ -272,7 +236,7 @@ fn other_name(alloc: Global, pieces: &Pieces<'_>, at: usize) -> Result<(Name, us
 
 /// A path that doesn't begin with the bare word ONLY.
 #[tactic(auto, unfolding(crate::specs::AlterGrammar::other_path))]
-fn other_path(alloc: Global, pieces: &Pieces<'_>, at: usize) -> Result<(QName, usize), ReadError>
+fn other_path(alloc: Global, pieces: &Pieces<'_>, at: usize) -> Parsed<QName>
     ensures { GivesPart pieces.now (λ q. q) result (other_path.read (drop at pieces.now)) }
 {
     let (schema, at) = other_name(alloc, pieces, at)?;
@@ -283,12 +247,7 @@ fn other_path(alloc: Global, pieces: &Pieces<'_>, at: usize) -> Result<(QName, u
 
 /// What stands behind the word ONLY, which is a schema where a dot follows.
 #[tactic(auto, unfolding(crate::specs::AlterGrammar::behind_only))]
-fn behind_only(
-    alloc: Global,
-    pieces: &Pieces<'_>,
-    at: usize,
-    schema: Name,
-) -> Result<(Stmt, usize), ReadError>
+fn behind_only(alloc: Global, pieces: &Pieces<'_>, at: usize, schema: Name) -> Parsed<Stmt>
     ensures { GivesPart pieces.now (λ s. s) result ((seen (only_changed schema) behind_only).read (drop at pieces.now)) }
 {
     if pieces.is_sign(at, b'.') {
@@ -304,11 +263,7 @@ fn behind_only(
 
 /// ALTER TABLE.
 #[tactic(auto, unfolding(crate::specs::AlterGrammar::altered_table))]
-pub(crate) fn altered_table(
-    alloc: Global,
-    pieces: &Pieces<'_>,
-    at: usize,
-) -> Result<(Stmt, usize), ReadError>
+pub(crate) fn altered_table(alloc: Global, pieces: &Pieces<'_>, at: usize) -> Parsed<Stmt>
     ensures { GivesPart pieces.now (λ s. s) result (altered_table.read (drop at pieces.now)) }
 {
     if pieces.is_word(at, "only") {

@@ -8,11 +8,11 @@ ghost use Rattle.ddl_parts.specs.Pieces.{GivesPart, GivesPlace};
 ghost use Rattle.ddl_read.specs.Columns.{further, columns};
 
 use copy_text::Name;
-use ddl_parts::{Pieces, ReadError};
+use ddl_parts::{Parsed, Pieces};
 use std::alloc::Global;
 
 /// A comma and a name.
-fn next_name(alloc: Global, pieces: &Pieces<'_>, at: usize) -> Result<(Name, usize), ReadError>
+fn next_name(alloc: Global, pieces: &Pieces<'_>, at: usize) -> Parsed<Name>
     ensures { GivesPart pieces.now (λ n. n) result ((comma ▸ name).read (drop at pieces.now)) }
 {
     let at = pieces.sign(at, b',')?;
@@ -20,7 +20,7 @@ fn next_name(alloc: Global, pieces: &Pieces<'_>, at: usize) -> Result<(Name, usi
 }
 
 /// Names behind the first, each with its comma.
-fn further(alloc: Global, pieces: &Pieces<'_>, from: usize) -> Result<(Vec<Name>, usize), ReadError>
+fn further(alloc: Global, pieces: &Pieces<'_>, from: usize) -> Parsed<Vec<Name>>
     ensures { GivesPart pieces.now (λ v. v.items) result (further.read (drop from pieces.now)) }
 {
     let mut names = Vec::new(alloc);
@@ -37,11 +37,7 @@ fn further(alloc: Global, pieces: &Pieces<'_>, from: usize) -> Result<(Vec<Name>
 
 /// Names with commas in brackets, one at least.
 #[tactic(auto, unfolding(crate::specs::Columns::columns))]
-pub(crate) fn columns(
-    alloc: Global,
-    pieces: &Pieces<'_>,
-    at: usize,
-) -> Result<(Vec<Name>, usize), ReadError>
+pub(crate) fn columns(alloc: Global, pieces: &Pieces<'_>, at: usize) -> Parsed<Vec<Name>>
     ensures { GivesPart pieces.now (λ v. v.items) result (columns.read (drop at pieces.now)) }
 {
     let at = pieces.sign(at, b'(')?;

@@ -6,16 +6,12 @@ ghost use Rattle.ddl_read.specs.CopyGrammar.{copy_from, some_columns};
 use crate::columns::columns;
 use cat_model::{Items, Stmt};
 use copy_text::Name;
-use ddl_parts::{Pieces, ReadError, qualified_name};
+use ddl_parts::{Parsed, Pieces, qualified_name};
 use std::alloc::Global;
 
 /// Columns in brackets, or none.
 #[tactic(auto, unfolding(crate::specs::CopyGrammar::some_columns))]
-fn some_columns(
-    alloc: Global,
-    pieces: &Pieces<'_>,
-    at: usize,
-) -> Result<(Vec<Name>, usize), ReadError>
+fn some_columns(alloc: Global, pieces: &Pieces<'_>, at: usize) -> Parsed<Vec<Name>>
     ensures { GivesPart pieces.now (λ v. v.items) result (some_columns.read (drop at pieces.now)) }
 {
     if pieces.is_sign(at, b'(') {
@@ -26,11 +22,7 @@ fn some_columns(
 
 /// COPY behind its word, up to its semicolon, without rows.
 #[tactic(auto, unfolding(crate::specs::CopyGrammar::copy_from))]
-pub(crate) fn copy_from(
-    alloc: Global,
-    pieces: &Pieces<'_>,
-    at: usize,
-) -> Result<(Stmt, usize), ReadError>
+pub(crate) fn copy_from(alloc: Global, pieces: &Pieces<'_>, at: usize) -> Parsed<Stmt>
     ensures { GivesPart pieces.now (λ s. s) result (copy_from.read (drop at pieces.now)) }
 {
     let (q, at) = qualified_name(alloc, pieces, at)?;

@@ -13,11 +13,11 @@ pub enum DdlFault {
     /// The text has no tokens from here on.
     #[error("{0}")]
     Lex(LexFault),
-    /// No statement goes on with the token that begins here, no rows of a COPY begin with this byte, or the line
-    /// with a backslash that begins here isn't known.
+    /// No statement goes on with the token that begins here, no rows of a COPY begin with this byte, the line with a
+    /// backslash that begins here isn't known, or what stands here for the name of such a line is none.
     #[error("no statement goes on at byte {0}")]
     Unknown(usize),
-    /// The name that begins here, or that the line with a backslash has which begins here, has more than 63 bytes.
+    /// The name that begins here has more than 63 bytes, or one in the path whose literal begins here has.
     #[error("the name at byte {0} is too long")]
     LongName(usize),
     /// The text ends, at this place, within a statement.

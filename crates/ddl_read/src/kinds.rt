@@ -12,12 +12,12 @@ use crate::values::set_value;
 use cat_model::{CheckDef, Owned, QName, Stmt};
 use copy_text::Name;
 use ddl_admin::{alter_role, comment_on, create_database, create_role};
-use ddl_parts::{Pieces, ReadError, qualified_name};
+use ddl_parts::{Parsed, Pieces, ReadError, qualified_name};
 use ddl_rights::{granted, revoked};
 use std::alloc::Global;
 
 #[tactic(auto, unfolding(crate::specs::Grammar::create_schema))]
-fn create_schema(alloc: Global, pieces: &Pieces<'_>, at: usize) -> Result<(Stmt, usize), ReadError>
+fn create_schema(alloc: Global, pieces: &Pieces<'_>, at: usize) -> Parsed<Stmt>
     ensures { GivesPart pieces.now (λ s. s) result (create_schema.read (drop at pieces.now)) }
 {
     let (name, at) = pieces.name(alloc, at)?;
@@ -26,7 +26,7 @@ fn create_schema(alloc: Global, pieces: &Pieces<'_>, at: usize) -> Result<(Stmt,
 }
 
 #[tactic(auto, unfolding(crate::specs::Grammar::created))]
-fn created(alloc: Global, pieces: &Pieces<'_>, at: usize) -> Result<(Stmt, usize), ReadError>
+fn created(alloc: Global, pieces: &Pieces<'_>, at: usize) -> Parsed<Stmt>
     ensures { GivesPart pieces.now (λ s. s) result (created.read (drop at pieces.now)) }
 {
     if pieces.is_word(at, "schema") {
@@ -57,11 +57,7 @@ fn created(alloc: Global, pieces: &Pieces<'_>, at: usize) -> Result<(Stmt, usize
 }
 
 #[tactic(auto, unfolding(crate::specs::Grammar::name_and_owner))]
-fn name_and_owner(
-    alloc: Global,
-    pieces: &Pieces<'_>,
-    at: usize,
-) -> Result<((Name, Name), usize), ReadError>
+fn name_and_owner(alloc: Global, pieces: &Pieces<'_>, at: usize) -> Parsed<(Name, Name)>
     ensures { GivesPart pieces.now (λ x. (x.0, x.1)) result (name_and_owner.read (drop at pieces.now)) }
 {
     let (name, at) = pieces.name(alloc, at)?;
@@ -70,11 +66,7 @@ fn name_and_owner(
 }
 
 #[tactic(auto, unfolding(crate::specs::Grammar::path_and_owner))]
-fn path_and_owner(
-    alloc: Global,
-    pieces: &Pieces<'_>,
-    at: usize,
-) -> Result<((QName, Name), usize), ReadError>
+fn path_and_owner(alloc: Global, pieces: &Pieces<'_>, at: usize) -> Parsed<(QName, Name)>
     ensures { GivesPart pieces.now (λ x. (x.0, x.1)) result (path_and_owner.read (drop at pieces.now)) }
 {
     let (q, at) = qualified_name(alloc, pieces, at)?;
@@ -90,7 +82,7 @@ fn owner_to(object: Owned, role: Name) -> Stmt
 }
 
 #[tactic(auto, unfolding(crate::specs::Grammar::new_check))]
-fn new_check(alloc: Global, pieces: &Pieces<'_>, at: usize) -> Result<(CheckDef, usize), ReadError>
+fn new_check(alloc: Global, pieces: &Pieces<'_>, at: usize) -> Parsed<CheckDef>
     ensures { GivesPart pieces.now (λ c. c) result (new_check.read (drop at pieces.now)) }
 {
     let at = pieces.word(at, "add")?;
@@ -100,7 +92,7 @@ fn new_check(alloc: Global, pieces: &Pieces<'_>, at: usize) -> Result<(CheckDef,
 }
 
 #[tactic(auto, unfolding(crate::specs::Grammar::altered_domain, crate::specs::Grammar::domain_change))]
-fn altered_domain(alloc: Global, pieces: &Pieces<'_>, at: usize) -> Result<(Stmt, usize), ReadError>
+fn altered_domain(alloc: Global, pieces: &Pieces<'_>, at: usize) -> Parsed<Stmt>
     ensures { GivesPart pieces.now (λ s. s) result (altered_domain.read (drop at pieces.now)) }
 {
     let (q, at) = qualified_name(alloc, pieces, at)?;
@@ -113,7 +105,7 @@ fn altered_domain(alloc: Global, pieces: &Pieces<'_>, at: usize) -> Result<(Stmt
 }
 
 #[tactic(auto, unfolding(crate::specs::Grammar::altered))]
-fn altered(alloc: Global, pieces: &Pieces<'_>, at: usize) -> Result<(Stmt, usize), ReadError>
+fn altered(alloc: Global, pieces: &Pieces<'_>, at: usize) -> Parsed<Stmt>
     ensures { GivesPart pieces.now (λ s. s) result (altered.read (drop at pieces.now)) }
 {
     if pieces.is_word(at, "schema") {
@@ -153,7 +145,7 @@ fn altered(alloc: Global, pieces: &Pieces<'_>, at: usize) -> Result<(Stmt, usize
 }
 
 #[tactic(auto, unfolding(crate::specs::Grammar::set_config))]
-fn set_config(alloc: Global, pieces: &Pieces<'_>, at: usize) -> Result<(Stmt, usize), ReadError>
+fn set_config(alloc: Global, pieces: &Pieces<'_>, at: usize) -> Parsed<Stmt>
     ensures { GivesPart pieces.now (λ s. s) result (set_config.read (drop at pieces.now)) }
 {
     let at = pieces.sign(at, b'(')?;
@@ -168,7 +160,7 @@ fn set_config(alloc: Global, pieces: &Pieces<'_>, at: usize) -> Result<(Stmt, us
 }
 
 #[tactic(auto, unfolding(crate::specs::Grammar::selected))]
-fn selected(alloc: Global, pieces: &Pieces<'_>, at: usize) -> Result<(Stmt, usize), ReadError>
+fn selected(alloc: Global, pieces: &Pieces<'_>, at: usize) -> Parsed<Stmt>
     ensures { GivesPart pieces.now (λ s. s) result (selected.read (drop at pieces.now)) }
 {
     let at = pieces.word(at, "pg_catalog")?;
@@ -192,7 +184,7 @@ fn equals_or_to(pieces: &Pieces<'_>, at: usize) -> Result<usize, ReadError>
 }
 
 #[tactic(auto, unfolding(crate::specs::Grammar::setting))]
-fn setting(alloc: Global, pieces: &Pieces<'_>, at: usize) -> Result<(Stmt, usize), ReadError>
+fn setting(alloc: Global, pieces: &Pieces<'_>, at: usize) -> Parsed<Stmt>
     ensures { GivesPart pieces.now (λ s. s) result (setting.read (drop at pieces.now)) }
 {
     let (name, at) = pieces.name(alloc, at)?;
@@ -203,7 +195,7 @@ fn setting(alloc: Global, pieces: &Pieces<'_>, at: usize) -> Result<(Stmt, usize
 }
 
 #[tactic(auto, unfolding(crate::specs::Grammar::command))]
-fn command(alloc: Global, pieces: &Pieces<'_>, at: usize) -> Result<(Stmt, usize), ReadError>
+fn command(alloc: Global, pieces: &Pieces<'_>, at: usize) -> Parsed<Stmt>
     ensures { GivesPart pieces.now (λ s. s) result (command.read (drop at pieces.now)) }
 {
     if pieces.is_word(at, "create") {

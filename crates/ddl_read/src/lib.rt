@@ -18,3 +18,4 @@ pub use alters::{Constraint, constraint_body};
 pub use fault::{DdlFault, ReadStmtsError};
 pub use located::Located;
 pub use reading::read_stmts;
+pub use relations::{Index, index_body};

@@ -1,8 +1,8 @@
 //! The statements of a text, one after another.
-ghost use Rattle.std.specs.Prelude.{◌≡◌, ◌<◌, ◌≤◌, ◌++◌, [], length, drop, true, IfOk, IfSome, OnOk};
+ghost use Rattle.std.specs.Prelude.{◌≡◌, ◌<◌, ◌≤◌, ◌+◌, ◌^◌, ◌++◌, [], length, drop, true, IfOk, IfSome, OnOk};
 ghost use Rattle.ddl_parts.specs.Pieces.{lexemes};
-ghost use Rattle.ddl_parts.specs.Lexemes.{start_of};
-ghost use Rattle.ddl_read.specs.Reading.{Adds, AddsLine, Gives, completed, error_of, fault_by, first_start, line_at, line_said, listed, no_more, statement_of, statements_of, whole, whole_of};
+ghost use Rattle.ddl_parts.specs.Lexemes.{is_sign_kind, start_of};
+ghost use Rattle.ddl_read.specs.Reading.{Adds, AddsLine, Gives, completed, error_of, fault_by, first_start, begins_statement, line_at, line_said, listed, no_more, statement_of, statements_of, stray, whole, whole_of};
 ghost use Rattle.ddl_lines.specs.MetaLines.{meta_line};
 ghost use Rattle.sql_lex.specs.Meaning.{spelling};
 
@@ -12,7 +12,7 @@ use crate::located::Located;
 use cat_model::{Items, Stmt};
 use ddl_lines::{MetaError, Rows, RowsError, meta_line, rows_behind};
 use ddl_parts::{Piece, Pieces, ReadError, Run, collect};
-use sql_lex::{LexFault, Token, TokenKind, next_token};
+use sql_lex::{LexFault, Token, TokenKind, is_keyword, next_token};
 use std::alloc::{AllocError, Global};
 
 /// The fault at a token, or behind the last one.
@@ -139,14 +139,59 @@ fn line_at(text: &[u8], at: usize) -> Option<Token>
     }
 }
 
+/// Whether tokens of this kind end a statement.
+fn is_end(kind: TokenKind) -> bool
+    ensures { result ≡ is_sign_kind 59 kind }
+{
+    match kind {
+        TokenKind::Sign(sign) => b';' == sign,
+        _ => false,
+    }
+}
+
+/// Whether a token begins a statement, or is an empty one.
+#[tactic(auto, unfolding(crate::specs::Reading::begins_statement))]
+fn begins_statement(text: &[u8], token: Token) -> bool
+    requires low { token.start ≤ token.end }
+    requires high { token.end ≤ length text.now }
+    ensures { result ≡ begins_statement token.kind (spelling text.now token) }
+{
+    is_end(token.kind)
+        || is_keyword(text, token, "create")
+        || is_keyword(text, token, "alter")
+        || is_keyword(text, token, "select")
+        || is_keyword(text, token, "set")
+        || is_keyword(text, token, "copy")
+        || is_keyword(text, token, "grant")
+        || is_keyword(text, token, "revoke")
+        || is_keyword(text, token, "comment")
+}
+
+/// The place of the next token, where no statement begins with it.
+#[tactic(auto, unfolding(crate::specs::Reading::stray))]
+fn stray(text: &[u8], at: usize) -> Option<usize>
+    requires { at ≤ length text.now }
+    ensures { result ≡ stray text.now at }
+{
+    let Ok(Some(token)) = next_token(text, at) else {
+        return None;
+    };
+    if begins_statement(text, token) {
+        None
+    } else {
+        Some(token.start)
+    }
+}
+
 /// What a line with a backslash says, or its fault.
 fn line_said(alloc: Global, start: usize, line: &[u8]) -> Result<Option<Stmt>, ReadStmtsError>
+    requires { start + length line.now < 2 ^ 64 }
     ensures { Gives (λ s. s) result (line_said start (meta_line line.now)) }
 {
     match meta_line(alloc, line) {
         Ok(stmt) => Ok(stmt),
-        Err(MetaError::LongName) => Err(ReadStmtsError::Fault(DdlFault::LongName(start))),
-        Err(MetaError::Unknown) => Err(ReadStmtsError::Fault(DdlFault::Unknown(start))),
+        Err(MetaError::LongName(at)) => Err(ReadStmtsError::Fault(DdlFault::LongName(start + at))),
+        Err(MetaError::Unknown(at)) => Err(ReadStmtsError::Fault(DdlFault::Unknown(start + at))),
         Err(MetaError::Memory) => Err(ReadStmtsError::Memory),
     }
 }
@@ -205,6 +250,9 @@ pub fn read_stmts(alloc: Global, text: &[u8]) -> Result<Vec<Located>, ReadStmtsE
             add_line(alloc, text, line, &mut statements)?;
             at = line.end;
             continue;
+        }
+        if let Some(start) = stray(text, at) {
+            return Err(ReadStmtsError::Fault(DdlFault::Unknown(start)));
         }
         let Run { pieces, end, fault } = collect(alloc, text, at)?;
         let Some(start) = first_start(&pieces) else {

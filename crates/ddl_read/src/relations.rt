@@ -1,22 +1,31 @@
 //! Readers of statements about sequences, views and indexes, behind the words that tell them apart.
 ghost use Rattle.std.specs.Prelude.{◌≡◌, drop};
 ghost use Rattle.ddl_parts.specs.Pieces.{GivesPart};
-ghost use Rattle.ddl_read.specs.RelationGrammar.{owned_by, altered_sequence, view_and_body, create_view, replace_view, bracketed, index_parts, create_index, create_unique_index, created_relation};
+ghost use Rattle.ddl_read.specs.RelationGrammar.{owned_by, altered_sequence, view_and_body, create_view, replace_view, bracketed, index_body, index_of, index_parts, unique_index_of, create_index, create_unique_index, created_relation};
 
 use crate::alters::new_owner;
 use crate::sequences::create_sequence;
 use cat_model::{Owned, QName, Stmt};
 use copy_text::{Name, Text};
-use ddl_parts::{Halt, Pieces, ReadError, qualified_name};
+use ddl_parts::{Halt, Parsed, Pieces, ReadError, qualified_name};
 use std::alloc::Global;
+
+/// What the definition of an index says.
+#[derive(Drop)]
+pub struct Index {
+    /// Its name.
+    pub name: Name,
+    /// The path of its table.
+    pub table: QName,
+    /// Its method, as `btree`.
+    pub method: Name,
+    /// What follows the method, from its bracket on.
+    pub rest: Text,
+}
 
 /// The column that owns a sequence.
 #[tactic(auto, unfolding(crate::specs::RelationGrammar::owned_by))]
-fn owned_by(
-    alloc: Global,
-    pieces: &Pieces<'_>,
-    at: usize,
-) -> Result<((QName, Name), usize), ReadError>
+fn owned_by(alloc: Global, pieces: &Pieces<'_>, at: usize) -> Parsed<(QName, Name)>
     ensures { GivesPart pieces.now (λ x. (x.0, x.1)) result (owned_by.read (drop at pieces.now)) }
 {
     let at = pieces.word(at, "owned")?;
@@ -30,11 +39,7 @@ fn owned_by(
 
 /// ALTER SEQUENCE.
 #[tactic(auto, unfolding(crate::specs::RelationGrammar::altered_sequence, crate::specs::RelationGrammar::sequence_change))]
-pub(crate) fn altered_sequence(
-    alloc: Global,
-    pieces: &Pieces<'_>,
-    at: usize,
-) -> Result<(Stmt, usize), ReadError>
+pub(crate) fn altered_sequence(alloc: Global, pieces: &Pieces<'_>, at: usize) -> Parsed<Stmt>
     ensures { GivesPart pieces.now (λ s. s) result (altered_sequence.read (drop at pieces.now)) }
 {
     let (q, at) = qualified_name(alloc, pieces, at)?;
@@ -48,11 +53,7 @@ pub(crate) fn altered_sequence(
 }
 
 /// A view and its body.
-fn view_and_body(
-    alloc: Global,
-    pieces: &Pieces<'_>,
-    at: usize,
-) -> Result<((QName, Text), usize), ReadError>
+fn view_and_body(alloc: Global, pieces: &Pieces<'_>, at: usize) -> Parsed<(QName, Text)>
     ensures { GivesPart pieces.now (λ x. (x.0, x.1)) result (view_and_body.read (drop at pieces.now)) }
 {
     let (q, at) = qualified_name(alloc, pieces, at)?;
@@ -64,7 +65,7 @@ fn view_and_body(
 
 /// CREATE VIEW.
 #[tactic(auto, unfolding(crate::specs::RelationGrammar::create_view))]
-fn create_view(alloc: Global, pieces: &Pieces<'_>, at: usize) -> Result<(Stmt, usize), ReadError>
+fn create_view(alloc: Global, pieces: &Pieces<'_>, at: usize) -> Parsed<Stmt>
     ensures { GivesPart pieces.now (λ s. s) result (create_view.read (drop at pieces.now)) }
 {
     let ((q, body), at) = view_and_body(alloc, pieces, at)?;
@@ -73,7 +74,7 @@ fn create_view(alloc: Global, pieces: &Pieces<'_>, at: usize) -> Result<(Stmt, u
 
 /// CREATE OR REPLACE VIEW, behind OR.
 #[tactic(auto, unfolding(crate::specs::RelationGrammar::replace_view))]
-fn replace_view(alloc: Global, pieces: &Pieces<'_>, at: usize) -> Result<(Stmt, usize), ReadError>
+fn replace_view(alloc: Global, pieces: &Pieces<'_>, at: usize) -> Parsed<Stmt>
     ensures { GivesPart pieces.now (λ s. s) result (replace_view.read (drop at pieces.now)) }
 {
     let at = pieces.word(at, "replace")?;
@@ -84,7 +85,7 @@ fn replace_view(alloc: Global, pieces: &Pieces<'_>, at: usize) -> Result<(Stmt, 
 
 /// An expression that begins with an opening bracket.
 #[tactic(auto, unfolding(crate::specs::RelationGrammar::bracketed))]
-fn bracketed(alloc: Global, pieces: &Pieces<'_>, at: usize) -> Result<(Text, usize), ReadError>
+fn bracketed(alloc: Global, pieces: &Pieces<'_>, at: usize) -> Parsed<Text>
     ensures { GivesPart pieces.now (λ t. t) result (bracketed.read (drop at pieces.now)) }
 {
     if pieces.is_sign(at, b'(') {
@@ -93,70 +94,96 @@ fn bracketed(alloc: Global, pieces: &Pieces<'_>, at: usize) -> Result<(Text, usi
     Err(ReadError::Halted(Halt { long: false, at }))
 }
 
-/// An index's name, its table, its method and what follows them.
-#[tactic(auto, unfolding(crate::specs::RelationGrammar::index_parts))]
-fn index_parts(
-    alloc: Global,
-    pieces: &Pieces<'_>,
-    at: usize,
-) -> Result<((Name, QName, Name, Text), usize), ReadError>
-    ensures { GivesPart pieces.now (λ x. (x.0, (x.1, (x.2, x.3)))) result (index_parts.read (drop at pieces.now)) }
+/// The definition of an index, as it stands behind INDEX, and the place behind it.
+///
+/// `Halted` is the place among the tokens where it doesn't go on, `Memory` that there was none for what it says. It is the
+/// whole of the tokens where the place behind it is their number.
+/// <https://www.postgresql.org/docs/16/sql-createindex.html>
+#[tactic(auto, unfolding(crate::specs::RelationGrammar::index_body))]
+pub fn index_body(alloc: Global, pieces: &Pieces<'_>, at: usize) -> Parsed<Index>
+    ensures { GivesPart pieces.now (λ i. i) result (index_body.read (drop at pieces.now)) }
 {
     let (name, at) = pieces.name(alloc, at)?;
     let at = pieces.word(at, "on")?;
-    let (q, at) = qualified_name(alloc, pieces, at)?;
+    let (table, at) = qualified_name(alloc, pieces, at)?;
     let at = pieces.word(at, "using")?;
     let (method, at) = pieces.name(alloc, at)?;
     let (rest, at) = bracketed(alloc, pieces, at)?;
+    let index = Index {
+        name,
+        table,
+        method,
+        rest,
+    };
+    Ok((index, at))
+}
+
+/// The same and a semicolon.
+fn index_parts(alloc: Global, pieces: &Pieces<'_>, at: usize) -> Parsed<Index>
+    ensures { GivesPart pieces.now (λ i. i) result (index_parts.read (drop at pieces.now)) }
+{
+    let (index, at) = index_body(alloc, pieces, at)?;
     let at = pieces.sign(at, b';')?;
-    Ok(((name, q, method, rest), at))
+    Ok((index, at))
+}
+
+/// The statement that makes an index.
+fn usual_index(index: Index) -> Stmt
+    ensures { result ≡ index_of index }
+{
+    let Index {
+        name,
+        table,
+        method,
+        rest,
+    } = index;
+    Stmt::CreateIndex {
+        q: table,
+        name,
+        method,
+        rest,
+    }
+}
+
+/// The statement that makes a unique index.
+fn unique_index(index: Index) -> Stmt
+    ensures { result ≡ unique_index_of index }
+{
+    let Index {
+        name,
+        table,
+        method,
+        rest,
+    } = index;
+    Stmt::CreateUniqueIndex {
+        q: table,
+        name,
+        method,
+        rest,
+    }
 }
 
 /// CREATE INDEX.
 #[tactic(auto, unfolding(crate::specs::RelationGrammar::create_index))]
-fn create_index(alloc: Global, pieces: &Pieces<'_>, at: usize) -> Result<(Stmt, usize), ReadError>
+fn create_index(alloc: Global, pieces: &Pieces<'_>, at: usize) -> Parsed<Stmt>
     ensures { GivesPart pieces.now (λ s. s) result (create_index.read (drop at pieces.now)) }
 {
-    let ((name, q, method, rest), at) = index_parts(alloc, pieces, at)?;
-    Ok((
-        Stmt::CreateIndex {
-            q,
-            name,
-            method,
-            rest,
-        },
-        at,
-    ))
+    let (index, at) = index_parts(alloc, pieces, at)?;
+    Ok((usual_index(index), at))
 }
 
 /// CREATE UNIQUE INDEX, behind UNIQUE.
 #[tactic(auto, unfolding(crate::specs::RelationGrammar::create_unique_index))]
-fn create_unique_index(
-    alloc: Global,
-    pieces: &Pieces<'_>,
-    at: usize,
-) -> Result<(Stmt, usize), ReadError>
+fn create_unique_index(alloc: Global, pieces: &Pieces<'_>, at: usize) -> Parsed<Stmt>
     ensures { GivesPart pieces.now (λ s. s) result (create_unique_index.read (drop at pieces.now)) }
 {
     let at = pieces.word(at, "index")?;
-    let ((name, q, method, rest), at) = index_parts(alloc, pieces, at)?;
-    Ok((
-        Stmt::CreateUniqueIndex {
-            q,
-            name,
-            method,
-            rest,
-        },
-        at,
-    ))
+    let (index, at) = index_parts(alloc, pieces, at)?;
+    Ok((unique_index(index), at))
 }
 
 /// CREATE of a view or an index, by its first word.
-pub(crate) fn created_relation(
-    alloc: Global,
-    pieces: &Pieces<'_>,
-    at: usize,
-) -> Result<(Stmt, usize), ReadError>
+pub(crate) fn created_relation(alloc: Global, pieces: &Pieces<'_>, at: usize) -> Parsed<Stmt>
     ensures { GivesPart pieces.now (λ s. s) result (created_relation.read (drop at pieces.now)) }
 {
     if pieces.is_word(at, "view") {

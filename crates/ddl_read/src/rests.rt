@@ -8,7 +8,7 @@ ghost use Rattle.ddl_parts.specs.Pieces.{GivesPart, GivesRun, ended};
 ghost use Rattle.ddl_read.specs.Rests.{only_if, either, action_first, step_first, long_first, rest_done, resting, key_rest, begins_foreign, foreign_rest};
 
 use copy_text::Text;
-use ddl_parts::{Halt, Pieces, ReadError};
+use ddl_parts::{Halt, Parsed, Pieces, ReadError};
 use std::alloc::{AllocError, Global};
 
 /// Where reading what follows the columns of a key, or those of a foreign key's parents, stands.
@@ -295,11 +295,7 @@ fn no_text(alloc: Global) -> Text
 
 /// What follows the columns of a primary key or a unique constraint, or nothing.
 #[tactic(auto, unfolding(crate::specs::Rests::key_rest, crate::specs::Rests::rest_done))]
-pub(crate) fn key_rest(
-    alloc: Global,
-    pieces: &Pieces<'_>,
-    at: usize,
-) -> Result<(Text, usize), ReadError>
+pub(crate) fn key_rest(alloc: Global, pieces: &Pieces<'_>, at: usize) -> Parsed<Text>
     ensures { GivesPart pieces.now (λ t. t) result (key_rest.read (drop at pieces.now)) }
 {
     if pieces.is_word(at, "deferrable") {
@@ -320,11 +316,7 @@ fn begins_foreign(pieces: &Pieces<'_>, at: usize) -> bool
 
 /// What follows the columns of a foreign key's parents, or nothing.
 #[tactic(auto, unfolding(crate::specs::Rests::foreign_rest, crate::specs::Rests::rest_done))]
-pub(crate) fn foreign_rest(
-    alloc: Global,
-    pieces: &Pieces<'_>,
-    at: usize,
-) -> Result<(Text, usize), ReadError>
+pub(crate) fn foreign_rest(alloc: Global, pieces: &Pieces<'_>, at: usize) -> Parsed<Text>
     ensures { GivesPart pieces.now (λ t. t) result (foreign_rest.read (drop at pieces.now)) }
 {
     if begins_foreign(pieces, at) {

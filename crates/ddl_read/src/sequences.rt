@@ -9,7 +9,7 @@ ghost use Rattle.ddl_read.specs.SequenceGrammar.{no_clauses, is_unsaid, with_num
 
 use cat_model::{QName, SequenceKind, Stmt};
 use ddl_numbers::{LIMIT, count_first, opposite};
-use ddl_parts::{Halt, Pieces, ReadError, qualified_name};
+use ddl_parts::{Halt, Parsed, Pieces, ReadError, qualified_name};
 use ddl_write::{usual_max, usual_min};
 use std::alloc::Global;
 
@@ -313,7 +313,7 @@ fn is_between(spot: ClauseSpot) -> bool
 }
 
 /// The clauses, where they may end.
-fn clauses_end(so_far: Reached, at: usize) -> Result<(Clauses, usize), ReadError>
+fn clauses_end(so_far: Reached, at: usize) -> Parsed<Clauses>
     ensures { result ≡ ended_by so_far at (is_between so_far.spot) }
 {
     if is_between(so_far.spot) {
@@ -323,7 +323,7 @@ fn clauses_end(so_far: Reached, at: usize) -> Result<(Clauses, usize), ReadError
 }
 
 /// The clauses at a place, and the place behind them.
-fn sequence_clauses(pieces: &Pieces<'_>, from: usize) -> Result<(Clauses, usize), ReadError>
+fn sequence_clauses(pieces: &Pieces<'_>, from: usize) -> Parsed<Clauses>
     ensures { GivesPart pieces.now (λ c. c) result (sequence_clauses.read (drop from pieces.now)) }
 {
     let mut so_far = Reached {
@@ -411,11 +411,7 @@ fn sequence_of(q: QName, clauses: Clauses) -> Stmt
 
 /// CREATE SEQUENCE.
 #[tactic(auto, unfolding(crate::specs::SequenceGrammar::create_sequence))]
-pub(crate) fn create_sequence(
-    alloc: Global,
-    pieces: &Pieces<'_>,
-    at: usize,
-) -> Result<(Stmt, usize), ReadError>
+pub(crate) fn create_sequence(alloc: Global, pieces: &Pieces<'_>, at: usize) -> Parsed<Stmt>
     ensures { GivesPart pieces.now (λ s. s) result (create_sequence.read (drop at pieces.now)) }
 {
     let (q, at) = qualified_name(alloc, pieces, at)?;

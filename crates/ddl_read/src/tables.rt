@@ -10,7 +10,7 @@ ghost use Rattle.ddl_read.specs.TableGrammar.{create_enum, null_first, default_f
 
 use cat_model::{CheckDef, ColumnDef, Items, Stmt, TypeName};
 use copy_text::{Name, Text};
-use ddl_parts::{Halt, Pieces, ReadError, qualified_name};
+use ddl_parts::{Halt, Parsed, Pieces, ReadError, qualified_name};
 use std::alloc::{AllocError, Global};
 
 /// Where a list of a table's columns and checks stands.
@@ -35,11 +35,7 @@ pub enum TableElement {
 
 /// A check with its name.
 #[tactic(auto, unfolding(crate::specs::Clauses::named_check))]
-pub(crate) fn named_check(
-    alloc: Global,
-    pieces: &Pieces<'_>,
-    at: usize,
-) -> Result<(CheckDef, usize), ReadError>
+pub(crate) fn named_check(alloc: Global, pieces: &Pieces<'_>, at: usize) -> Parsed<CheckDef>
     ensures { GivesPart pieces.now (λ c. c) result (named_check.read (drop at pieces.now)) }
 {
     let at = pieces.word(at, "constraint")?;
@@ -63,12 +59,7 @@ fn begins_label(pieces: &Pieces<'_>, at: usize, behind: bool) -> bool
 }
 
 /// A label, with the comma before it where it isn't the first.
-fn label_at(
-    alloc: Global,
-    pieces: &Pieces<'_>,
-    at: usize,
-    behind: bool,
-) -> Result<(Text, usize), ReadError>
+fn label_at(alloc: Global, pieces: &Pieces<'_>, at: usize, behind: bool) -> Parsed<Text>
     ensures { GivesPart pieces.now (λ t. t) result (((listing is_literal literal).item behind).read (drop at pieces.now)) }
 {
     if behind {
@@ -79,7 +70,7 @@ fn label_at(
 }
 
 /// Labels with commas between them, or none.
-fn labels(alloc: Global, pieces: &Pieces<'_>, from: usize) -> Result<(Vec<Text>, usize), ReadError>
+fn labels(alloc: Global, pieces: &Pieces<'_>, from: usize) -> Parsed<Vec<Text>>
     ensures { GivesPart pieces.now (λ v. v.items) result ((listed is_literal literal).read (drop from pieces.now)) }
 {
     let mut labels = Vec::new(alloc);
@@ -98,11 +89,7 @@ fn labels(alloc: Global, pieces: &Pieces<'_>, from: usize) -> Result<(Vec<Text>,
 
 /// CREATE TYPE.
 #[tactic(auto, unfolding(crate::specs::TableGrammar::create_enum))]
-pub(crate) fn create_enum(
-    alloc: Global,
-    pieces: &Pieces<'_>,
-    at: usize,
-) -> Result<(Stmt, usize), ReadError>
+pub(crate) fn create_enum(alloc: Global, pieces: &Pieces<'_>, at: usize) -> Parsed<Stmt>
     ensures { GivesPart pieces.now (λ s. s) result (create_enum.read (drop at pieces.now)) }
 {
     let (q, at) = qualified_name(alloc, pieces, at)?;
@@ -123,11 +110,7 @@ pub(crate) fn create_enum(
 
 /// NOT NULL, behind which a default may follow.
 #[tactic(auto, unfolding(crate::specs::TableGrammar::null_first))]
-fn null_first(
-    alloc: Global,
-    pieces: &Pieces<'_>,
-    at: usize,
-) -> Result<((Option<Text>, bool), usize), ReadError>
+fn null_first(alloc: Global, pieces: &Pieces<'_>, at: usize) -> Parsed<(Option<Text>, bool)>
     ensures { GivesPart pieces.now (λ x. (x.0, x.1)) result (null_first.read (drop at pieces.now)) }
 {
     let at = pieces.word(at, "not")?;
@@ -142,11 +125,7 @@ fn null_first(
 
 /// A default, behind which NOT NULL may follow.
 #[tactic(auto, unfolding(crate::specs::TableGrammar::default_first))]
-fn default_first(
-    alloc: Global,
-    pieces: &Pieces<'_>,
-    at: usize,
-) -> Result<((Option<Text>, bool), usize), ReadError>
+fn default_first(alloc: Global, pieces: &Pieces<'_>, at: usize) -> Parsed<(Option<Text>, bool)>
     ensures { GivesPart pieces.now (λ x. (x.0, x.1)) result (default_first.read (drop at pieces.now)) }
 {
     let at = pieces.word(at, "default")?;
@@ -156,11 +135,7 @@ fn default_first(
 
 /// A default and NOT NULL, in either order.
 #[tactic(auto, unfolding(crate::specs::TableGrammar::attributes))]
-fn attributes(
-    alloc: Global,
-    pieces: &Pieces<'_>,
-    at: usize,
-) -> Result<((Option<Text>, bool), usize), ReadError>
+fn attributes(alloc: Global, pieces: &Pieces<'_>, at: usize) -> Parsed<(Option<Text>, bool)>
     ensures { GivesPart pieces.now (λ x. (x.0, x.1)) result (attributes.read (drop at pieces.now)) }
 {
     if pieces.is_word(at, "not") {
@@ -174,11 +149,7 @@ fn attributes(
 
 /// A type, its default and NOT NULL.
 #[tactic(auto, unfolding(crate::specs::TableGrammar::typed))]
-fn typed(
-    alloc: Global,
-    pieces: &Pieces<'_>,
-    at: usize,
-) -> Result<((TypeName, Option<Text>, bool), usize), ReadError>
+fn typed(alloc: Global, pieces: &Pieces<'_>, at: usize) -> Parsed<(TypeName, Option<Text>, bool)>
     ensures { GivesPart pieces.now (λ x. (x.0, (x.1, x.2))) result (typed.read (drop at pieces.now)) }
 {
     let (type_name, at) = pieces.type_name(alloc, at)?;
@@ -187,11 +158,7 @@ fn typed(
 }
 
 /// Checks one after another.
-fn checks(
-    alloc: Global,
-    pieces: &Pieces<'_>,
-    from: usize,
-) -> Result<(Vec<CheckDef>, usize), ReadError>
+fn checks(alloc: Global, pieces: &Pieces<'_>, from: usize) -> Parsed<Vec<CheckDef>>
     ensures { GivesPart pieces.now (λ v. v.items) result ((many (is_word (codes "constraint")) checking).read (drop from pieces.now)) }
 {
     let mut checks = Vec::new(alloc);
@@ -208,11 +175,7 @@ fn checks(
 
 /// CREATE DOMAIN.
 #[tactic(auto, unfolding(crate::specs::TableGrammar::create_domain))]
-pub(crate) fn create_domain(
-    alloc: Global,
-    pieces: &Pieces<'_>,
-    at: usize,
-) -> Result<(Stmt, usize), ReadError>
+pub(crate) fn create_domain(alloc: Global, pieces: &Pieces<'_>, at: usize) -> Parsed<Stmt>
     ensures { GivesPart pieces.now (λ s. s) result (create_domain.read (drop at pieces.now)) }
 {
     let (q, at) = qualified_name(alloc, pieces, at)?;
@@ -234,7 +197,7 @@ pub(crate) fn create_domain(
 
 /// The name of a column, which isn't the bare word CONSTRAINT.
 #[tactic(auto, unfolding(crate::specs::TableGrammar::column_name_value))]
-fn column_name(alloc: Global, pieces: &Pieces<'_>, at: usize) -> Result<(Name, usize), ReadError>
+fn column_name(alloc: Global, pieces: &Pieces<'_>, at: usize) -> Parsed<Name>
     ensures { GivesPart pieces.now (λ n. n) result (column_name.read (drop at pieces.now)) }
 {
     if pieces.is_word(at, "constraint") {
@@ -245,7 +208,7 @@ fn column_name(alloc: Global, pieces: &Pieces<'_>, at: usize) -> Result<(Name, u
 
 /// A column.
 #[tactic(auto, unfolding(crate::specs::TableGrammar::column))]
-fn column(alloc: Global, pieces: &Pieces<'_>, at: usize) -> Result<(ColumnDef, usize), ReadError>
+fn column(alloc: Global, pieces: &Pieces<'_>, at: usize) -> Parsed<ColumnDef>
     ensures { GivesPart pieces.now (λ c. c) result (column.read (drop at pieces.now)) }
 {
     let (name, at) = column_name(alloc, pieces, at)?;
@@ -263,11 +226,7 @@ fn column(alloc: Global, pieces: &Pieces<'_>, at: usize) -> Result<(ColumnDef, u
 
 /// A column or a check.
 #[tactic(auto, unfolding(crate::specs::TableGrammar::element, crate::specs::TableGrammar::last_element))]
-fn element(
-    alloc: Global,
-    pieces: &Pieces<'_>,
-    at: usize,
-) -> Result<(TableElement, usize), ReadError>
+fn element(alloc: Global, pieces: &Pieces<'_>, at: usize) -> Parsed<TableElement>
     ensures { GivesPart pieces.now (λ e. e) result (element.read (drop at pieces.now)) }
 {
     if pieces.is_word(at, "constraint") {
@@ -279,11 +238,7 @@ fn element(
 
 /// A check, behind which no column stands.
 #[tactic(auto, unfolding(crate::specs::TableGrammar::last_element))]
-fn last_element(
-    alloc: Global,
-    pieces: &Pieces<'_>,
-    at: usize,
-) -> Result<(TableElement, usize), ReadError>
+fn last_element(alloc: Global, pieces: &Pieces<'_>, at: usize) -> Parsed<TableElement>
     ensures { GivesPart pieces.now (λ e. e) result (last_element.read (drop at pieces.now)) }
 {
     let (check, at) = named_check(alloc, pieces, at)?;
@@ -301,12 +256,7 @@ fn begins_element(pieces: &Pieces<'_>, at: usize, spot: Spot) -> bool
 }
 
 /// A column or a check, with the comma before it where it isn't the first.
-fn element_at(
-    alloc: Global,
-    pieces: &Pieces<'_>,
-    at: usize,
-    spot: Spot,
-) -> Result<(TableElement, usize), ReadError>
+fn element_at(alloc: Global, pieces: &Pieces<'_>, at: usize, spot: Spot) -> Parsed<TableElement>
     ensures { GivesPart pieces.now (λ e. e) result ((element_at spot).read (drop at pieces.now)) }
 {
     match spot {
@@ -349,7 +299,7 @@ fn table_elements(
     alloc: Global,
     pieces: &Pieces<'_>,
     from: usize,
-) -> Result<((Vec<ColumnDef>, Vec<CheckDef>), usize), ReadError>
+) -> Parsed<(Vec<ColumnDef>, Vec<CheckDef>)>
     ensures { GivesPart pieces.now (λ x. (x.0.items, x.1.items)) result (table_elements.read (drop from pieces.now)) }
 {
     let mut columns = Vec::new(alloc);
@@ -368,11 +318,7 @@ fn table_elements(
 
 /// CREATE TABLE.
 #[tactic(auto, unfolding(crate::specs::TableGrammar::create_table))]
-pub(crate) fn create_table(
-    alloc: Global,
-    pieces: &Pieces<'_>,
-    at: usize,
-) -> Result<(Stmt, usize), ReadError>
+pub(crate) fn create_table(alloc: Global, pieces: &Pieces<'_>, at: usize) -> Parsed<Stmt>
     ensures { GivesPart pieces.now (λ s. s) result (create_table.read (drop at pieces.now)) }
 {
     let (q, at) = qualified_name(alloc, pieces, at)?;

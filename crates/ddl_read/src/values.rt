@@ -1,32 +1,36 @@
 //! Readers of a sequence's value, behind SELECT pg_catalog.setval.
 ghost use Rattle.std.specs.Prelude.{◌≡◌, drop};
 ghost use Rattle.ddl_parts.specs.Pieces.{GivesPart};
-ghost use Rattle.ddl_read.specs.ValueGrammar.{GivesPath, path_in, literal_path, truth, set_value};
+ghost use Rattle.ddl_parts.specs.Shortened.{path_in};
+ghost use Rattle.ddl_read.specs.ValueGrammar.{GivesPath, literal_path, truth, set_value};
 
 use cat_model::{QName, Stmt};
 use ddl_numbers::whole_number;
-use ddl_parts::{Halt, Pieces, ReadError, Run, collect, qualified_name};
+use ddl_parts::{Halt, Parsed, Pieces, ReadError, Run, collect, qualified_name};
 use std::alloc::Global;
 
-/// The path that all tokens of a text spell. Where they spell none, reading halts at the place that is given.
-#[tactic(auto, unfolding(crate::specs::ValueGrammar::path_in))]
+/// The path that all tokens of a text spell. Where they spell none, reading halts at the place that is given, and tells
+/// whether it is for a name that is too long.
+#[tactic(auto, unfolding(ddl_parts::specs::Shortened::path_in))]
 fn path_in(alloc: Global, text: &[u8], at: usize) -> Result<QName, ReadError>
     ensures { GivesPath at result (path_in text.now) }
 {
     let Run { pieces, fault, .. } = collect(alloc, text, 0)?;
-    if fault.is_some() {
-        return Err(ReadError::Halted(Halt { long: false, at }));
-    }
     let pieces = Pieces::new(text, pieces);
     match qualified_name(alloc, &pieces, 0) {
-        Ok((q, end)) if end >= pieces.len() => Ok(q),
+        Ok((q, end)) => {
+            if fault.is_some() || end < pieces.len() {
+                return Err(ReadError::Halted(Halt { long: false, at }));
+            }
+            Ok(q)
+        }
+        Err(ReadError::Halted(Halt { long, .. })) => Err(ReadError::Halted(Halt { long, at })),
         Err(ReadError::Memory) => Err(ReadError::Memory),
-        _ => Err(ReadError::Halted(Halt { long: false, at })),
     }
 }
 
 /// The path in the literal at a place, and the place behind it.
-fn literal_path(alloc: Global, pieces: &Pieces<'_>, at: usize) -> Result<(QName, usize), ReadError>
+fn literal_path(alloc: Global, pieces: &Pieces<'_>, at: usize) -> Parsed<QName>
     ensures { GivesPart pieces.now (λ q. q) result (literal_path.read (drop at pieces.now)) }
 {
     let (text, end) = pieces.literal(alloc, at)?;
@@ -36,7 +40,7 @@ fn literal_path(alloc: Global, pieces: &Pieces<'_>, at: usize) -> Result<(QName,
 
 /// TRUE or FALSE at a place, and the place behind it.
 #[tactic(auto, unfolding(crate::specs::ValueGrammar::truth))]
-fn truth(pieces: &Pieces<'_>, at: usize) -> Result<(bool, usize), ReadError>
+fn truth(pieces: &Pieces<'_>, at: usize) -> Parsed<bool>
     ensures { GivesPart pieces.now (λ b. b) result (truth.read (drop at pieces.now)) }
 {
     if pieces.is_word(at, "true") {
@@ -49,11 +53,7 @@ fn truth(pieces: &Pieces<'_>, at: usize) -> Result<(bool, usize), ReadError>
 
 /// SELECT pg_catalog.setval.
 #[tactic(auto, unfolding(crate::specs::ValueGrammar::set_value))]
-pub(crate) fn set_value(
-    alloc: Global,
-    pieces: &Pieces<'_>,
-    at: usize,
-) -> Result<(Stmt, usize), ReadError>
+pub(crate) fn set_value(alloc: Global, pieces: &Pieces<'_>, at: usize) -> Parsed<Stmt>
     ensures { GivesPart pieces.now (λ s. s) result (set_value.read (drop at pieces.now)) }
 {
     let at = pieces.sign(at, b'(')?;

@@ -1,12 +1,6 @@
 -- The laws of a part whose value decides what stands behind it.
-use Rattle.std.proofs.Common.{◌≡◌, Bool, false, List, ◌++◌, Ok, Err, refl, sym, ap, ◌∙◌, append_assoc, arith}
-use Rattle.ddl_parts.specs.Lexemes.{Lexeme, starts}
-use Rattle.ddl_parts.specs.Parts.{Part, Reading, ◌>>=◌}
-use Rattle.ddl_parts.specs.Laws.{Lawful, Begins, Avoids}
-use Rattle.ddl_parts.proofs.Steps.{starts-append}
-use Rattle.ddl_parts.proofs.Told.{Tells, told, lawful, told_on}
-use Rattle.ddl_parts.proofs.Telling.{starts_none}
-use Rattle.ddl_rights.specs.Depending.{◌thenby◌}
+use Rattle.ddl_rights.proofs.Common.{◌≡◌, Bool, false, List, ◌∷◌, ◌++◌, Ok, Err, refl, sym, ap, ◌∙◌, append_assoc, arith, Lexeme, starts, Part, Reading, ◌>>=◌, Lawful, Begins, Avoids, shortened, starts-append, Tells, lawful, told_on, starts_none, ◌thenby◌}
+use Rattle.ddl_parts.proofs.Lemmas.{told, named_by}
 
 -- what a value that is spelled decides has the laws, goes on with nothing further and isn't taken for more of the first
 pub record Decided {A B : Type 0} (p : Part A) (f : A → Part B) : Type 0 where
@@ -31,7 +25,12 @@ tells p f d ts (Err s) h = let x = (d.laws h.fits.0 (h.front ++ h.fits.1) h.fits
   front = h.front;
   parts = h.parts;
   fits = (x.value, h.fits.1 ++ x.tokens, (h.fits.0, h.front ++ h.fits.1, x.tokens, sym (append_assoc h.front h.fits.1 x.tokens), h.fits.2, x.spells));
-  local = λ t behind is other. ap (λ r. r >>= λ x. (f x.0).read x.1) (h.local t behind is other);
+  local = λ t behind is u like other. ap (λ r. r >>= λ x. (f x.0).read x.1) (h.local t behind is u like other);
+  named = λ e.
+      let n = h.named e in
+      let all = h.front ++ shortened n.token ∷ n.more in
+      let y = (d.laws n.value all n.spells).example in
+      named_by n y.value (n.more ++ y.tokens) (n.value, all, y.tokens, sym (append_assoc h.front (shortened n.token ∷ n.more) y.tokens), n.spells, y.spells);
 }
 
 only : {A B : Type 0} (p : Part A) (f : A → Part B) → Lawful p → Decided p f → (w : B) (front rest : List Lexeme) → (p thenby f).Spells w front → (p thenby f).read (front ++ rest) ≡ Ok (w, rest)

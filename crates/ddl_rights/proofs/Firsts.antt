@@ -1,17 +1,17 @@
 -- One token that stands for a value: its laws, and how it is read.
-use Rattle.std.proofs.Common.{◌≡◌, ℕ, zero, suc, ◌+◌, ◌<◌, ◌≤◌, Bool, List, [], ◌∷◌, length, drop, Option, Some, None, Result, refl, sym, ap, ◌∙◌, arith}
-use Rattle.ddl_parts.specs.Lexemes.{Lexeme}
-use Rattle.ddl_parts.specs.Parts.{first_by, seen_at}
-use Rattle.ddl_parts.specs.Laws.{Lawful}
-use Rattle.ddl_parts.proofs.Simple.{one_laws}
-use Rattle.ddl_parts.specs.Leaves.{name, name_value}
-use Rattle.ddl_rights.specs.declared.rights.Wanted.{Wanted}
-use Rattle.ddl_rights.specs.RightsGrammar.{right_first, wanted_first}
-use Rattle.ddl_rights.specs.Grants.{named_by, first}
-use Rattle.ddl_rights.specs.Values.{told, by_first, answered}
+use Rattle.ddl_rights.proofs.Common.{◌≡◌, ℕ, zero, suc, ◌+◌, ◌<◌, ◌≤◌, Bool, List, [], ◌∷◌, length, drop, Option, Some, None, Result, Err, true, refl, sym, ap, ◌∙◌, arith, Lexeme, first_by, seen_at, Lawful, IsTooLong, shortened, one_laws, name, name_value, Wanted, right_first, wanted_first, named_by, first, told, by_first, answered}
 
-pub by_first_laws : {A : Type 0} (value : List Lexeme → Option A) (t : Lexeme) (v : A) → value (t ∷ []) ≡ Some v → Lawful (by_first value)
-by_first_laws value t v e = one_laws (λ t. told (value (t ∷ []))) t v (ap told e)
+-- what a token stands for is told of a shorter one in its place too
+abbrev pub TellsAlike : {A : Type 0} → (List Lexeme → Option A) → Type 0
+TellsAlike value = (t : Lexeme) → IsTooLong t → value (shortened t ∷ []) ≡ value (t ∷ [])
+
+never_long : {A : Type 0} (o : Option A) → told o ≡ Err true → ⊥
+never_long None e = absurd cc
+never_long (Some v) e = absurd cc
+
+pub by_first_laws : {A : Type 0} (value : List Lexeme → Option A) → TellsAlike value → (t : Lexeme) (v : A) → value (t ∷ []) ≡ Some v → Lawful (by_first value)
+by_first_laws value alike t v e =
+    one_laws (λ t. told (value (t ∷ []))) (record { long = λ x l. absurd (never_long (value (x ∷ [])) l); none = λ x long l. ap told (alike x long) ∙ l }) t v (ap told e)
 
 first_answered : {A : Type 0} (t : Lexeme) (ts : List Lexeme) (o : Option A) → first_by t ts (told o) ≡ answered o (t ∷ ts)
 first_answered t ts o = grind arith

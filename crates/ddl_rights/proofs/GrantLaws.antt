@@ -1,23 +1,7 @@
 -- The grammar of GRANT and REVOKE has the laws of a part.
-use Rattle.std.proofs.Common.{◌≡◌, ℕ, Bool, true, false, List, [], ◌∷◌, Option, Some, None, Result, Ok, Err, refl, ap, subst, codes}
-use Rattle.std.specs.Str.{is_utf8, chars}
-use Rattle.std.proofs.Math.Utf8.{encode}
-use Rattle.sql_lex.specs.Meaning.{name_of, is_keyword_of}
+use Rattle.ddl_rights.proofs.Common.{◌≡◌, ℕ, Bool, true, false, List, [], ◌∷◌, Option, Some, None, Result, Ok, Err, refl, ap, subst, codes, is_utf8, chars, encode, name_of, is_keyword_of, Lexeme, is_word, is_sign, Lawful, name_value, name_in, avoids_never, shortened, word_agrees, sign_agrees, name_shortens, Shortens, one_laws, a_word, name_laws, free, sign_no_word, Headed, lawful_seen, lawful_word, lawful_ended, lawful_next, headed_word, headed_seen, headed_next, one_sign, lawful_either, Wanted, right_first, wanted_first, wanted, grantee_of, grantee, grant_option, to_grantee, from_grantee, grant_rights, revoke_rights, First, named_by, first, behind_first, granted, revoked}
+use Rattle.ddl_rights.proofs.{Depends.thenby_laws, RightsLaws.CanBeOn, RightsLaws.wanted_can, RightsLaws.rights_and_object_laws, RightsLaws.rights_and_object_ends, RightsLaws.goes_to_object, RightsLaws.rights_and_object_begins, RightsLaws.to_no_object, RightsLaws.wanted_laws, RightsLaws.wanted_spelled, MembershipLaws.membership_is, MembershipLaws.membership_ends}
 use Rattle.cat_model.specs.declared.stmt.Stmt.TheVariants as stmt
-use Rattle.ddl_parts.specs.Lexemes.{Lexeme, is_word, is_sign}
-use Rattle.ddl_parts.specs.Laws.{Lawful}
-use Rattle.ddl_parts.specs.Leaves.{name_value, name_in}
-use Rattle.ddl_parts.proofs.Steps.{avoids_never}
-use Rattle.ddl_parts.proofs.Simple.{one_laws}
-use Rattle.ddl_parts.proofs.Leads.{a_word, name_laws}
-use Rattle.ddl_parts.proofs.Telling.{free, sign_no_word}
-use Rattle.ddl_parts.proofs.Composing.{Headed, lawful_seen, lawful_word, lawful_ended, lawful_next, headed_word, headed_seen, headed_next, one_sign, lawful_either}
-use Rattle.ddl_rights.specs.declared.rights.Wanted.{Wanted}
-use Rattle.ddl_rights.specs.RightsGrammar.{right_first, wanted_first, wanted, grantee_of, grantee}
-use Rattle.ddl_rights.specs.Grants.{grant_option, to_grantee, from_grantee, grant_rights, revoke_rights, First, named_by, first, behind_first, granted, revoked}
-use Rattle.ddl_rights.proofs.Depends.{thenby_laws}
-use Rattle.ddl_rights.proofs.RightsLaws.{CanBeOn, wanted_can, rights_and_object_laws, rights_and_object_ends, goes_to_object, rights_and_object_begins, to_no_object, wanted_laws, wanted_spelled}
-use Rattle.ddl_rights.proofs.MembershipLaws.{membership_is, membership_ends}
 
 -- ---- rights
 
@@ -27,22 +11,22 @@ grantee_laws = lawful_seen grantee_of name_laws
 grant_option_laws : Lawful grant_option
 unfolding grant_option
 grant_option_laws =
-    lawful_either (headed_seen (λ x. true) (headed_word (codes "with") (lawful_word (codes "grant") (lawful_word (codes "option") (one_sign 59).laws))))
+    lawful_either (headed_seen (λ x. true) (headed_word (codes "with") refl (lawful_word (codes "grant") refl (lawful_word (codes "option") refl (one_sign 59).laws))))
     (headed_seen (λ x. false) (one_sign 59)) (sign_no_word 59 (codes "with"))
 
 to_grantee_laws : Lawful to_grantee
 unfolding to_grantee
-to_grantee_laws = lawful_word (codes "to") (lawful_next grantee_laws grant_option_laws (λ t. refl))
+to_grantee_laws = lawful_word (codes "to") refl (lawful_next grantee_laws grant_option_laws (λ t. refl))
 
 from_grantee_laws : Lawful from_grantee
 unfolding from_grantee
-from_grantee_laws = lawful_word (codes "from") (lawful_ended 59 grantee_laws (free (is_sign 59)))
+from_grantee_laws = lawful_word (codes "from") refl (lawful_ended 59 grantee_laws (free (is_sign 59)))
 
 grant_rights_are : (w : Wanted) → CanBeOn w → Headed goes_to_object (grant_rights w)
 unfolding grant_rights
 grant_rights_are w can =
     headed_seen (λ x. stmt.Grant x.0.0 x.0.1 x.1.0 x.1.1)
-    (headed_next (record { laws = rights_and_object_laws w can; begins = rights_and_object_begins w }) to_grantee_laws (rights_and_object_ends w))
+    (headed_next (record { laws = rights_and_object_laws w can; begins = rights_and_object_begins w; agrees = λ t long. rw (sign_agrees 44 t long, word_agrees (codes "on") refl t long) refl }) to_grantee_laws (rights_and_object_ends w))
 
 grant_rights_ends : (w : Wanted) (t : Lexeme) → (grant_rights w).goes_on t ≡ false
 unfolding grant_rights to_grantee grant_option
@@ -62,9 +46,21 @@ abbrev CanFollow : Option Wanted → Type 0
 CanFollow None = Unit {0}
 CanFollow (Some w) = CanBeOn w
 
+named_long : (o : Option Wanted) (r : Result (List ℕ) Bool) (b : Bool) → named_by o r ≡ Err b → r ≡ Err b
+named_long o (Ok n) b e = absurd cc
+named_long o (Err long) b e = cc
+
+first_shortens : Shortens (λ t. named_by (wanted_first (t ∷ [])) (name_value t))
+first_shortens = record {
+  long = λ t e.
+      let h = name_shortens.long t (named_long (wanted_first (t ∷ [])) (name_value t) true e) in
+      (h.0, ((h.1.0, wanted_first (shortened t ∷ [])), ap (named_by (wanted_first (shortened t ∷ []))) h.1.1));
+  none = λ t long e. ap (named_by (wanted_first (shortened t ∷ []))) (name_shortens.none t long (named_long (wanted_first (t ∷ [])) (name_value t) false e));
+}
+
 first_laws : Lawful first
 unfolding name_value name_in name_of is_utf8 chars encode wanted_first right_first is_word is_keyword_of
-first_laws = one_laws (λ t. named_by (wanted_first (t ∷ [])) (name_value t)) (a_word (codes "a")) (codes "a", None) refl
+first_laws = one_laws (λ t. named_by (wanted_first (t ∷ [])) (name_value t)) first_shortens (a_word (codes "a")) (codes "a", None) refl
 
 first_spelled : (x : First) (ts : List Lexeme) → first.Spells x ts → CanFollow x.1
 first_spelled x ts spells = by (wanted_first (spells.0 ∷ [])) refl (named (wanted_first (spells.0 ∷ [])) (name_value spells.0) spells.2)

@@ -1,3 +1,4 @@
+pub mod Common
 pub mod Depends
 pub mod Firsts
 pub mod RightSets

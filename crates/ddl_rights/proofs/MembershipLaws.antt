@@ -1,33 +1,24 @@
 -- The grammar of GRANT of a role has the laws of a part.
-use Rattle.std.proofs.Common.{◌≡◌, ℕ, true, false, List, [], ◌∷◌, Some, None, refl, codes}
-use Rattle.std.specs.Prelude.{Option}
-use Rattle.sql_lex.specs.Meaning.{is_keyword_of}
-use Rattle.ddl_parts.specs.Lexemes.{Lexeme, is_word, is_sign}
-use Rattle.ddl_parts.specs.Parts.{Part, mark, seen, ◌then◌, ◌▸◌, ◌◂◌}
-use Rattle.ddl_parts.specs.Laws.{Lawful, Avoids}
-use Rattle.ddl_parts.specs.Leaves.{name}
-use Rattle.ddl_parts.specs.Lists.{comma}
-use Rattle.ddl_parts.proofs.Simple.{seen_avoids}
-use Rattle.ddl_parts.proofs.Leads.{a_word, name_laws, word_no_sign, words_apart}
-use Rattle.ddl_parts.proofs.Tables.{one_of_avoids}
-use Rattle.ddl_parts.proofs.Telling.{free, sign_no_word, signs_apart}
-use Rattle.ddl_parts.proofs.Composing.{Headed, lawful_seen, lawful_word, lawful_ended, lawful_then, lawful_next, headed_word, headed_sign, headed_seen, one_sign, lawful_choose, lawful_either, lawful_unless, avoids_either}
-use Rattle.ddl_rights.specs.Memberships.{truth_first, truth, set_behind, inherit_and_set, others_behind, options, with_options, granted_by, member, member_of, membership}
+use Rattle.ddl_rights.proofs.Common.{◌≡◌, ℕ, true, false, List, [], ◌∷◌, Some, None, refl, codes, Option, is_keyword_of, Lexeme, is_word, is_sign, Part, mark, seen, ◌then◌, ◌▸◌, ◌◂◌, Lawful, Avoids, name, comma, IsTooLong, shortened, seen_avoids, a_word, name_laws, word_no_sign, words_apart, one_of_avoids, free, sign_no_word, signs_apart, Headed, lawful_seen, lawful_word, lawful_ended, lawful_then, lawful_next, headed_word, headed_sign, headed_seen, one_sign, lawful_choose, lawful_either, lawful_unless, avoids_either, truth_first, truth, set_behind, inherit_and_set, others_behind, options, with_options, granted_by, member, member_of, membership, word_like}
 use Rattle.ddl_rights.proofs.Firsts.{by_first_laws}
+
+truth_same : (t : Lexeme) → IsTooLong t → truth_first (shortened t ∷ []) ≡ truth_first (t ∷ [])
+unfolding truth_first
+truth_same t long = simp (word_like t long)
 
 truth_laws : Lawful truth
 unfolding truth_first is_word is_keyword_of
-truth_laws = by_first_laws truth_first (a_word (codes "true")) true refl
+truth_laws = by_first_laws truth_first truth_same (a_word (codes "true")) true refl
 
 set_behind_laws : Lawful set_behind
 unfolding set_behind
-set_behind_laws = lawful_unless true (headed_sign 44 (lawful_word (codes "set") truth_laws))
+set_behind_laws = lawful_unless true (headed_sign 44 (lawful_word (codes "set") refl truth_laws))
 
 inherit_and_set_laws : Lawful inherit_and_set
 unfolding inherit_and_set
 inherit_and_set_laws =
-    lawful_either (headed_word (codes "inherit") (lawful_seen (λ x. (Some x.0, x.1)) (lawful_next truth_laws set_behind_laws (λ t. refl))))
-    (headed_word (codes "set") (lawful_seen (λ b. (None, b)) truth_laws)) (words_apart (codes "set") (codes "inherit") refl)
+    lawful_either (headed_word (codes "inherit") refl (lawful_seen (λ x. (Some x.0, x.1)) (lawful_next truth_laws set_behind_laws (λ t. refl))))
+    (headed_word (codes "set") refl (lawful_seen (λ b. (None, b)) truth_laws)) (words_apart (codes "set") (codes "inherit") refl)
 
 inherit_and_set_avoids : Avoids (is_word (codes "admin")) inherit_and_set
 unfolding inherit_and_set
@@ -42,12 +33,12 @@ others_behind_laws = lawful_unless (None, true) (headed_sign 44 inherit_and_set_
 options_laws : Lawful options
 unfolding options
 options_laws =
-    lawful_choose (headed_word (codes "admin") (lawful_next truth_laws others_behind_laws (λ t. refl))) (lawful_seen (λ x. (false, x)) inherit_and_set_laws)
+    lawful_choose (headed_word (codes "admin") refl (lawful_next truth_laws others_behind_laws (λ t. refl))) (lawful_seen (λ x. (false, x)) inherit_and_set_laws)
     (seen_avoids (is_word (codes "admin")) (λ x. (false, x)) inherit_and_set inherit_and_set_avoids)
 
 with_options_laws : Lawful with_options
 unfolding with_options
-with_options_laws = lawful_unless (false, (None, true)) (headed_word (codes "with") options_laws)
+with_options_laws = lawful_unless (false, (None, true)) (headed_word (codes "with") refl options_laws)
 
 -- options go on with a comma, or begin with WITH
 options_end : (t : Lexeme) → comma t ≡ false → is_word (codes "with") t ≡ false → with_options.goes_on t ≡ false
@@ -55,7 +46,7 @@ unfolding with_options options others_behind inherit_and_set set_behind
 options_end t e f = rw (e, f) refl
 
 grantor : Headed (is_word (codes "granted")) (seen Some (is_word (codes "granted") ▸ (is_word (codes "by") ▸ (name ◂ is_sign 59))))
-grantor = headed_seen Some (headed_word (codes "granted") (lawful_word (codes "by") (lawful_ended 59 name_laws (free (is_sign 59)))))
+grantor = headed_seen Some (headed_word (codes "granted") refl (lawful_word (codes "by") refl (lawful_ended 59 name_laws (free (is_sign 59)))))
 
 abbrev unsaid : Part (Option (List ℕ))
 unsaid = seen (λ x. None) (mark (is_sign 59))
@@ -79,7 +70,7 @@ member_laws = lawful_next name_laws (lawful_then with_options_laws granted_by_la
 
 pub membership_is : (role : List ℕ) → Headed (is_word (codes "to")) (membership role)
 unfolding membership
-membership_is role = headed_word (codes "to") (lawful_seen (member_of role) member_laws)
+membership_is role = headed_word (codes "to") refl (lawful_seen (member_of role) member_laws)
 
 pub membership_ends : (role : List ℕ) (t : Lexeme) → (membership role).goes_on t ≡ false
 unfolding membership member granted_by

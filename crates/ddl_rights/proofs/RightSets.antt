@@ -1,19 +1,8 @@
 -- Sets of rights: a set as the list of its rights, a set within another, and all the rights of a kind.
-use Rattle.std.proofs.Common.{◌≡◌, ℕ, Bool, true, false, not, ◌||◌, ◌&&◌, List, [], ◌∷◌, ◌++◌, map, refl, sym, ap, ◌∙◌, codes, arith}
-use Rattle.std.specs.List.{flat_map}
-use Rattle.std.proofs.lemmas.Bool.{or_left, or_right, and_parts}
-use Rattle.cat_model.specs.declared.grant.Rights.{Rights}
-use Rattle.cat_model.specs.declared.grant.Granted.{Granted}
-use Rattle.cat_model.specs.declared.grant.Granted.TheVariants as on
-use Rattle.cat_model.specs.declared.object.QName.{QName}
-use Rattle.cat_model.specs.Grants.{no_rights, has_rights, table_rights, sequence_rights, schema_rights, type_rights}
+use Rattle.ddl_rights.proofs.Common.{◌≡◌, ℕ, Bool, true, false, not, ◌||◌, ◌&&◌, List, [], ◌∷◌, ◌++◌, map, refl, sym, ap, ◌∙◌, codes, arith, flat_map, or_left, or_right, and_parts, Rights, Granted, QName, no_rights, has_rights, table_rights, sequence_rights, schema_rights, type_rights, Right, Select, Usage, Insert, References, Delete, Trigger, Truncate, Update, Create, Kind, Tables, has, with_right, within, kind_rights, some_kind_has, goes_with, all_of}
 use Rattle.ddl_write.specs.RightsText.{is_all, each_right, word_there}
-use Rattle.ddl_rights.specs.declared.rights.Right.{Right}
-use Rattle.ddl_rights.specs.declared.rights.Right.TheVariants.{Select, Usage, Insert, References, Delete, Trigger, Truncate, Update, Create}
-use Rattle.ddl_rights.specs.declared.rights.Kind.{Kind}
-use Rattle.ddl_rights.specs.declared.rights.Kind.TheVariants.{Tables}
-use Rattle.ddl_rights.specs.RightsGrammar.{has, with_right, within, kind_rights, some_kind_has, goes_with, all_of}
 use Rattle.ddl_rights.specs.Writable.{kind_of}
+use Rattle.cat_model.specs.declared.grant.Granted.TheVariants as on
 
 -- ---- all the rights of a kind
 

@@ -1,33 +1,9 @@
 -- The grammar of rights and of objects has the laws of a part, and a list of rights is one that some kind has.
-use Rattle.std.proofs.Common.{◌≡◌, ℕ, Bool, true, false, not, cond, ◌||◌, List, [], ◌∷◌, ◌++◌, Option, Some, None, option_map, Ok, refl, sym, ap, subst, ◌∙◌, codes, inl, inr, arith}
-use Rattle.std.proofs.lemmas.Bool.{or_left, or_right, or_cases}
-use Rattle.sql_lex.specs.Meaning.{is_keyword_of}
-use Rattle.cat_model.specs.declared.grant.Rights.{Rights}
-use Rattle.cat_model.specs.declared.grant.Granted.{Granted}
-use Rattle.cat_model.specs.declared.grant.Granted.TheVariants as on
-use Rattle.cat_model.specs.Grants.{table_rights, sequence_rights, schema_rights, type_rights}
-use Rattle.ddl_parts.specs.Lexemes.{Lexeme, is_word, starts}
-use Rattle.ddl_parts.specs.Parts.{Part, Many, no_more, one_more, many, seen}
-use Rattle.ddl_parts.specs.Laws.{Lawful, Begins, Apart}
-use Rattle.ddl_parts.specs.Leaves.{name, qualified}
-use Rattle.ddl_parts.specs.Lists.{comma}
-use Rattle.ddl_parts.proofs.Steps.{avoids_never, avoids_begun, starts-append, starts_more}
-use Rattle.ddl_parts.proofs.Telling.{sign_no_word}
-use Rattle.ddl_parts.proofs.Simple.{seen_laws}
-use Rattle.ddl_parts.proofs.Sequence.{lead_begins}
-use Rattle.ddl_parts.proofs.Repeated.{AreApart, many_laws}
-use Rattle.ddl_parts.proofs.Leads.{a_word, name_laws, qualified_laws, word_laws, sign_laws, word_no_sign, words_apart}
-use Rattle.ddl_rights.specs.declared.rights.Right.{Right}
-use Rattle.ddl_rights.specs.declared.rights.Right.TheVariants.{Select, Usage, Insert, References, Delete, Trigger, Truncate, Update, Create}
-use Rattle.ddl_rights.specs.declared.rights.Kind.{Kind}
-use Rattle.ddl_rights.specs.declared.rights.Kind.TheVariants.{Tables, Sequences, Schemas, Types}
-use Rattle.ddl_rights.specs.declared.rights.Wanted.{Wanted}
+use Rattle.ddl_rights.proofs.Common.{◌≡◌, ℕ, Bool, true, false, not, cond, ◌||◌, List, [], ◌∷◌, ◌++◌, Option, Some, None, option_map, Ok, refl, sym, ap, subst, ◌∙◌, codes, inl, inr, arith, or_left, or_right, or_cases, is_keyword_of, Rights, Granted, table_rights, sequence_rights, schema_rights, type_rights, Lexeme, is_word, starts, Part, Many, no_more, many, seen, Lawful, Begins, Apart, name, qualified, comma, avoids_never, avoids_begun, starts-append, starts_more, IsTooLong, shortened, sign_agrees, sign_no_word, seen_laws, lead_begins, AreApart, many_laws, a_word, name_laws, qualified_laws, word_laws, sign_laws, word_no_sign, words_apart, Right, Select, Usage, Insert, References, Delete, Trigger, Truncate, Update, Create, Kind, Tables, Sequences, Schemas, Types, Wanted, ◌thenby◌, told, has, with_right, only, within, kind_rights, some_kind_has, goes_with, right_first, wanted_first, wanted, joining, right_behind, more_rights, all_of, rights_from, kind_first, kind_has, having, kind_with, rights_on, object, on_object, rights_and_object, word_like}
+use Rattle.ddl_parts.specs.Parts.{one_more}
+use Rattle.ddl_rights.proofs.{Depends.Decided, Depends.thenby_laws, Firsts.by_first_laws}
 use Rattle.ddl_rights.specs.declared.rights.Wanted.TheVariants.{All, These}
-use Rattle.ddl_rights.specs.Depending.{◌thenby◌}
-use Rattle.ddl_rights.specs.Values.{told}
-use Rattle.ddl_rights.specs.RightsGrammar.{has, with_right, only, within, kind_rights, some_kind_has, goes_with, right_first, wanted_first, wanted, joining, right_behind, more_rights, all_of, rights_from, kind_first, kind_has, having, kind_with, rights_on, object, on_object, rights_and_object}
-use Rattle.ddl_rights.proofs.Depends.{Decided, thenby_laws}
-use Rattle.ddl_rights.proofs.Firsts.{by_first_laws}
+use Rattle.cat_model.specs.declared.grant.Granted.TheVariants as on
 
 -- ---- words
 
@@ -57,6 +33,19 @@ kind_is : (k : Kind) → kind_first (a_word (kind_word k) ∷ []) ≡ Some k
 unfolding kind_first is_word is_keyword_of
 kind_is Tables = refl
 kind_is x = refl
+
+-- words are told alike
+pub right_same : (t : Lexeme) → IsTooLong t → right_first (shortened t ∷ []) ≡ right_first (t ∷ [])
+unfolding right_first
+right_same t long = simp (word_like t long)
+
+pub wanted_same : (t : Lexeme) → IsTooLong t → wanted_first (shortened t ∷ []) ≡ wanted_first (t ∷ [])
+unfolding wanted_first
+wanted_same t long = simp (word_like t long, right_same t long)
+
+kind_same : (t : Lexeme) → IsTooLong t → kind_first (shortened t ∷ []) ≡ kind_first (t ∷ [])
+unfolding kind_first
+kind_same t long = simp (word_like t long)
 
 -- ---- rights that some kind has
 
@@ -142,11 +131,12 @@ goes_on r = by r.usage r.create refl refl
 pub right_behind_laws : (r : Rights) → Lawful (right_behind r)
 right_behind_laws r =
     let h = goes_on r in
-    by_first_laws (λ ts. joining r (right_first ts)) (a_word (right_word h.0)) h.0 (ap (joining r) (right_is h.0) ∙ ap (λ (b : Bool). cond b (Some h.0) None) h.1)
+    by_first_laws (λ ts. joining r (right_first ts)) (λ t long. ap (joining r) (right_same t long)) (a_word (right_word h.0)) h.0 (ap (joining r) (right_is h.0) ∙ ap (λ (b : Bool). cond b (Some h.0) None) h.1)
 
 pub rights_apart : (r : Rights) → AreApart comma (more_rights r)
 rights_apart r = record {
   laws = λ s. sign_laws 44 (right_behind s) (right_behind_laws s);
+  agrees = λ s. sign_agrees 44;
   begins = λ s. lead_begins comma (right_behind s);
   apart = λ s x t e. refl;
   covers = λ s t e. (e, refl);
@@ -173,7 +163,7 @@ kind_for (These r) can = kind_found r can
 pub kind_with_laws : (w : Wanted) → CanBeOn w → Lawful (kind_with w)
 kind_with_laws w can =
     let h = kind_for w can in
-    by_first_laws (λ ts. having w (kind_first ts)) (a_word (kind_word h.0)) h.0 (ap (having w) (kind_is h.0) ∙ ap (λ (b : Bool). cond b (Some h.0) None) h.1)
+    by_first_laws (λ ts. having w (kind_first ts)) (λ t long. ap (having w) (kind_same t long)) (a_word (kind_word h.0)) h.0 (ap (having w) (kind_is h.0) ∙ ap (λ (b : Bool). cond b (Some h.0) None) h.1)
 
 object_laws : (k : Kind) → Lawful (object k)
 object_laws Tables = seen_laws on.Table qualified qualified_laws
@@ -191,7 +181,7 @@ object_on w k = seen (λ o. (o, rights_on w k)) (object k)
 pub on_object_laws : (w : Wanted) → CanBeOn w → Lawful (on_object w)
 unfolding on_object
 on_object_laws w can =
-    word_laws (codes "on") (kind_with w thenby object_on w)
+    word_laws (codes "on") refl (kind_with w thenby object_on w)
     (thenby_laws (kind_with w) (object_on w) (kind_with_laws w can)
     (record {
       laws = λ k ts spells. seen_laws (λ o. (o, rights_on w k)) (object k) (object_laws k);
@@ -256,7 +246,7 @@ to_no_object t e = both (comma t) (is_word (codes "on") t) (is_word (codes "to")
 
 pub wanted_laws : Lawful wanted
 unfolding wanted_first is_word is_keyword_of
-wanted_laws = by_first_laws wanted_first (a_word (codes "all")) All refl
+wanted_laws = by_first_laws wanted_first wanted_same (a_word (codes "all")) All refl
 
 pub wanted_spelled : (w : Wanted) (ts : List Lexeme) → wanted.Spells w ts → CanBeOn w
 wanted_spelled w ts spells = by (wanted_first (spells.0 ∷ [])) refl spells.2

@@ -7,12 +7,12 @@ use crate::memberships::membership;
 use crate::rights::{Wanted, grantee, rights_and_object, wanted_at, wanted_rights};
 use cat_model::{Grantee, Stmt};
 use copy_text::Name;
-use ddl_parts::{Pieces, ReadError};
+use ddl_parts::{Parsed, Pieces};
 use std::alloc::Global;
 
 /// WITH GRANT OPTION, which may be left out, and the semicolon.
 #[tactic(auto, unfolding(crate::specs::Grants::grant_option))]
-fn grant_option(pieces: &Pieces<'_>, at: usize) -> Result<(bool, usize), ReadError>
+fn grant_option(pieces: &Pieces<'_>, at: usize) -> Parsed<bool>
     ensures { GivesPart pieces.now (λ b. b) result (grant_option.read (drop at pieces.now)) }
 {
     if pieces.is_word(at, "with") {
@@ -28,11 +28,7 @@ fn grant_option(pieces: &Pieces<'_>, at: usize) -> Result<(bool, usize), ReadErr
 
 /// Whom rights are granted to, and whether with the option.
 #[tactic(auto, unfolding(crate::specs::Grants::to_grantee))]
-fn to_grantee(
-    alloc: Global,
-    pieces: &Pieces<'_>,
-    at: usize,
-) -> Result<((Grantee, bool), usize), ReadError>
+fn to_grantee(alloc: Global, pieces: &Pieces<'_>, at: usize) -> Parsed<(Grantee, bool)>
     ensures { GivesPart pieces.now (λ x. (x.0, x.1)) result (to_grantee.read (drop at pieces.now)) }
 {
     let at = pieces.word(at, "to")?;
@@ -43,11 +39,7 @@ fn to_grantee(
 
 /// Whom rights are taken from.
 #[tactic(auto, unfolding(crate::specs::Grants::from_grantee))]
-fn from_grantee(
-    alloc: Global,
-    pieces: &Pieces<'_>,
-    at: usize,
-) -> Result<(Grantee, usize), ReadError>
+fn from_grantee(alloc: Global, pieces: &Pieces<'_>, at: usize) -> Parsed<Grantee>
     ensures { GivesPart pieces.now (λ g. g) result (from_grantee.read (drop at pieces.now)) }
 {
     let at = pieces.word(at, "from")?;
@@ -58,12 +50,7 @@ fn from_grantee(
 
 /// GRANT of rights, behind ALL or the first right.
 #[tactic(auto, unfolding(crate::specs::Grants::grant_rights))]
-fn grant_rights(
-    alloc: Global,
-    pieces: &Pieces<'_>,
-    at: usize,
-    wanted: Wanted,
-) -> Result<(Stmt, usize), ReadError>
+fn grant_rights(alloc: Global, pieces: &Pieces<'_>, at: usize, wanted: Wanted) -> Parsed<Stmt>
     ensures { GivesPart pieces.now (λ s. s) result ((grant_rights wanted).read (drop at pieces.now)) }
 {
     let ((object, rights), at) = rights_and_object(alloc, pieces, at, wanted)?;
@@ -81,12 +68,7 @@ fn grant_rights(
 
 /// REVOKE of rights, behind ALL or the first right.
 #[tactic(auto, unfolding(crate::specs::Grants::revoke_rights))]
-fn revoke_rights(
-    alloc: Global,
-    pieces: &Pieces<'_>,
-    at: usize,
-    wanted: Wanted,
-) -> Result<(Stmt, usize), ReadError>
+fn revoke_rights(alloc: Global, pieces: &Pieces<'_>, at: usize, wanted: Wanted) -> Parsed<Stmt>
     ensures { GivesPart pieces.now (λ s. s) result ((revoke_rights wanted).read (drop at pieces.now)) }
 {
     let ((object, rights), at) = rights_and_object(alloc, pieces, at, wanted)?;
@@ -102,11 +84,7 @@ fn revoke_rights(
 }
 
 /// A name, and the rights that it may stand for.
-fn first(
-    alloc: Global,
-    pieces: &Pieces<'_>,
-    at: usize,
-) -> Result<((Name, Option<Wanted>), usize), ReadError>
+fn first(alloc: Global, pieces: &Pieces<'_>, at: usize) -> Parsed<(Name, Option<Wanted>)>
     ensures { GivesPart pieces.now (λ x. (x.0, x.1)) result (first.read (drop at pieces.now)) }
 {
     let wanted = wanted_at(pieces, at);
@@ -121,7 +99,7 @@ fn behind_first(
     at: usize,
     name: Name,
     wanted: Option<Wanted>,
-) -> Result<(Stmt, usize), ReadError>
+) -> Parsed<Stmt>
     ensures { GivesPart pieces.now (λ s. s) result ((behind_first name wanted).read (drop at pieces.now)) }
 {
     match wanted {
@@ -140,7 +118,7 @@ fn behind_first(
 ///
 /// `Halted` tells the first token with which no GRANT goes on, `Memory` that memory ran out.
 #[tactic(auto, unfolding(crate::specs::Grants::granted))]
-pub fn granted(alloc: Global, pieces: &Pieces<'_>, at: usize) -> Result<(Stmt, usize), ReadError>
+pub fn granted(alloc: Global, pieces: &Pieces<'_>, at: usize) -> Parsed<Stmt>
     ensures { GivesPart pieces.now (λ s. s) result (granted.read (drop at pieces.now)) }
 {
     let ((name, wanted), at) = first(alloc, pieces, at)?;
@@ -151,7 +129,7 @@ pub fn granted(alloc: Global, pieces: &Pieces<'_>, at: usize) -> Result<(Stmt, u
 ///
 /// `Halted` tells the first token with which no REVOKE goes on, `Memory` that memory ran out.
 #[tactic(auto, unfolding(crate::specs::Grants::revoked))]
-pub fn revoked(alloc: Global, pieces: &Pieces<'_>, at: usize) -> Result<(Stmt, usize), ReadError>
+pub fn revoked(alloc: Global, pieces: &Pieces<'_>, at: usize) -> Parsed<Stmt>
     ensures { GivesPart pieces.now (λ s. s) result (revoked.read (drop at pieces.now)) }
 {
     let (wanted, at) = wanted_rights(pieces, at)?;

@@ -6,7 +6,7 @@ ghost use Rattle.ddl_rights.specs.Memberships.{truth_first, truth, set_behind, i
 use crate::rights::behind;
 use cat_model::Stmt;
 use copy_text::Name;
-use ddl_parts::{Pieces, ReadError};
+use ddl_parts::{Parsed, Pieces};
 use std::alloc::Global;
 
 /// What a membership allows: ADMIN, and INHERIT and SET.
@@ -30,7 +30,7 @@ fn truth_at(pieces: &Pieces<'_>, at: usize) -> Option<bool>
 }
 
 /// TRUE, FALSE or OPTION.
-fn truth(pieces: &Pieces<'_>, at: usize) -> Result<(bool, usize), ReadError>
+fn truth(pieces: &Pieces<'_>, at: usize) -> Parsed<bool>
     ensures { GivesPart pieces.now (λ b. b) result (truth.read (drop at pieces.now)) }
 {
     behind(pieces, at, truth_at(pieces, at))
@@ -38,7 +38,7 @@ fn truth(pieces: &Pieces<'_>, at: usize) -> Result<(bool, usize), ReadError>
 
 /// SET behind a comma, which may be left out.
 #[tactic(auto, unfolding(crate::specs::Memberships::set_behind))]
-fn set_behind(pieces: &Pieces<'_>, at: usize) -> Result<(bool, usize), ReadError>
+fn set_behind(pieces: &Pieces<'_>, at: usize) -> Parsed<bool>
     ensures { GivesPart pieces.now (λ b. b) result (set_behind.read (drop at pieces.now)) }
 {
     if pieces.is_sign(at, b',') {
@@ -51,10 +51,7 @@ fn set_behind(pieces: &Pieces<'_>, at: usize) -> Result<(bool, usize), ReadError
 
 /// INHERIT and SET, of which the first may be left out.
 #[tactic(auto, unfolding(crate::specs::Memberships::inherit_and_set))]
-fn inherit_and_set(
-    pieces: &Pieces<'_>,
-    at: usize,
-) -> Result<((Option<bool>, bool), usize), ReadError>
+fn inherit_and_set(pieces: &Pieces<'_>, at: usize) -> Parsed<(Option<bool>, bool)>
     ensures { GivesPart pieces.now (λ x. (x.0, x.1)) result (inherit_and_set.read (drop at pieces.now)) }
 {
     if pieces.is_word(at, "inherit") {
@@ -70,7 +67,7 @@ fn inherit_and_set(
 
 /// INHERIT and SET behind a comma, which may be left out.
 #[tactic(auto, unfolding(crate::specs::Memberships::others_behind))]
-fn others_behind(pieces: &Pieces<'_>, at: usize) -> Result<((Option<bool>, bool), usize), ReadError>
+fn others_behind(pieces: &Pieces<'_>, at: usize) -> Parsed<(Option<bool>, bool)>
     ensures { GivesPart pieces.now (λ x. (x.0, x.1)) result (others_behind.read (drop at pieces.now)) }
 {
     if pieces.is_sign(at, b',') {
@@ -82,7 +79,7 @@ fn others_behind(pieces: &Pieces<'_>, at: usize) -> Result<((Option<bool>, bool)
 
 /// The options behind WITH.
 #[tactic(auto, unfolding(crate::specs::Memberships::options))]
-fn options(pieces: &Pieces<'_>, at: usize) -> Result<(Options, usize), ReadError>
+fn options(pieces: &Pieces<'_>, at: usize) -> Parsed<Options>
     ensures { GivesPart pieces.now (λ x. (x.0, (x.1.0, x.1.1))) result (options.read (drop at pieces.now)) }
 {
     if pieces.is_word(at, "admin") {
@@ -97,7 +94,7 @@ fn options(pieces: &Pieces<'_>, at: usize) -> Result<(Options, usize), ReadError
 
 /// WITH and options, which may be left out.
 #[tactic(auto, unfolding(crate::specs::Memberships::with_options))]
-fn with_options(pieces: &Pieces<'_>, at: usize) -> Result<(Options, usize), ReadError>
+fn with_options(pieces: &Pieces<'_>, at: usize) -> Parsed<Options>
     ensures { GivesPart pieces.now (λ x. (x.0, (x.1.0, x.1.1))) result (with_options.read (drop at pieces.now)) }
 {
     if pieces.is_word(at, "with") {
@@ -109,11 +106,7 @@ fn with_options(pieces: &Pieces<'_>, at: usize) -> Result<(Options, usize), Read
 
 /// GRANTED BY and a name, which may be left out, and the semicolon.
 #[tactic(auto, unfolding(crate::specs::Memberships::granted_by))]
-fn granted_by(
-    alloc: Global,
-    pieces: &Pieces<'_>,
-    at: usize,
-) -> Result<(Option<Name>, usize), ReadError>
+fn granted_by(alloc: Global, pieces: &Pieces<'_>, at: usize) -> Parsed<Option<Name>>
     ensures { GivesPart pieces.now (λ n. n) result (granted_by.read (drop at pieces.now)) }
 {
     if pieces.is_word(at, "granted") {
@@ -129,12 +122,7 @@ fn granted_by(
 
 /// The member of a role.
 #[tactic(auto, unfolding(crate::specs::Memberships::membership, crate::specs::Memberships::member))]
-pub(crate) fn membership(
-    alloc: Global,
-    pieces: &Pieces<'_>,
-    at: usize,
-    role: Name,
-) -> Result<(Stmt, usize), ReadError>
+pub(crate) fn membership(alloc: Global, pieces: &Pieces<'_>, at: usize, role: Name) -> Parsed<Stmt>
     ensures { GivesPart pieces.now (λ s. s) result ((membership role).read (drop at pieces.now)) }
 {
     let at = pieces.word(at, "to")?;

@@ -7,7 +7,7 @@ ghost use Rattle.ddl_rights.specs.RightsGrammar.{has, with_right, within, kind_r
 
 use cat_model::{Granted, Grantee, Rights};
 use copy_text::Name;
-use ddl_parts::{Halt, Pieces, ReadError, qualified_name};
+use ddl_parts::{Halt, Parsed, Pieces, ReadError, qualified_name};
 use std::alloc::Global;
 
 /// A right on an object.
@@ -259,11 +259,7 @@ pub(crate) fn wanted_at(pieces: &Pieces<'_>, at: usize) -> Option<Wanted>
 }
 
 /// A value of the token at a place, and the place behind it.
-pub(crate) fn behind<T: Copy>(
-    pieces: &Pieces<'_>,
-    at: usize,
-    value: Option<T>,
-) -> Result<(T, usize), ReadError>
+pub(crate) fn behind<T: Copy>(pieces: &Pieces<'_>, at: usize, value: Option<T>) -> Parsed<T>
     ensures { GivesPart pieces.now (λ v. v) result (answered value (drop at pieces.now)) }
 {
     match value {
@@ -273,7 +269,7 @@ pub(crate) fn behind<T: Copy>(
 }
 
 /// ALL, or the first right of a list.
-pub(crate) fn wanted_rights(pieces: &Pieces<'_>, at: usize) -> Result<(Wanted, usize), ReadError>
+pub(crate) fn wanted_rights(pieces: &Pieces<'_>, at: usize) -> Parsed<Wanted>
     ensures { GivesPart pieces.now (λ w. w) result (wanted.read (drop at pieces.now)) }
 {
     behind(pieces, at, wanted_at(pieces, at))
@@ -289,18 +285,14 @@ fn joining(pieces: &Pieces<'_>, at: usize, rights: Rights) -> Option<Right>
     }
 }
 
-fn right_behind(pieces: &Pieces<'_>, at: usize, rights: Rights) -> Result<(Right, usize), ReadError>
+fn right_behind(pieces: &Pieces<'_>, at: usize, rights: Rights) -> Parsed<Right>
     ensures { GivesPart pieces.now (λ x. x) result ((right_behind rights).read (drop at pieces.now)) }
 {
     behind(pieces, at, joining(pieces, at, rights))
 }
 
 /// A comma, and a right that may stand behind others.
-fn one_more_right(
-    pieces: &Pieces<'_>,
-    at: usize,
-    rights: Rights,
-) -> Result<(Right, usize), ReadError>
+fn one_more_right(pieces: &Pieces<'_>, at: usize, rights: Rights) -> Parsed<Right>
     ensures { GivesPart pieces.now (λ x. x) result (((more_rights rights).item rights).read (drop at pieces.now)) }
 {
     let at = pieces.sign(at, b',')?;
@@ -308,11 +300,7 @@ fn one_more_right(
 }
 
 /// Some rights, and those of the rest of a list.
-fn rights_from(
-    pieces: &Pieces<'_>,
-    from: usize,
-    first: Rights,
-) -> Result<(Rights, usize), ReadError>
+fn rights_from(pieces: &Pieces<'_>, from: usize, first: Rights) -> Parsed<Rights>
     ensures { GivesPart pieces.now (λ r. r) result ((rights_from first).read (drop from pieces.now)) }
 {
     let mut rights = first;
@@ -367,7 +355,7 @@ fn having(pieces: &Pieces<'_>, at: usize, wanted: Wanted) -> Option<Kind>
     }
 }
 
-fn kind_with(pieces: &Pieces<'_>, at: usize, wanted: Wanted) -> Result<(Kind, usize), ReadError>
+fn kind_with(pieces: &Pieces<'_>, at: usize, wanted: Wanted) -> Parsed<Kind>
     ensures { GivesPart pieces.now (λ k. k) result ((kind_with wanted).read (drop at pieces.now)) }
 {
     behind(pieces, at, having(pieces, at, wanted))
@@ -384,12 +372,7 @@ fn rights_on(wanted: Wanted, kind: Kind) -> Rights
 }
 
 /// An object of a kind.
-fn object(
-    alloc: Global,
-    pieces: &Pieces<'_>,
-    at: usize,
-    kind: Kind,
-) -> Result<(Granted, usize), ReadError>
+fn object(alloc: Global, pieces: &Pieces<'_>, at: usize, kind: Kind) -> Parsed<Granted>
     ensures { GivesPart pieces.now (λ o. o) result ((object kind).read (drop at pieces.now)) }
 {
     match kind {
@@ -419,7 +402,7 @@ fn on_object(
     pieces: &Pieces<'_>,
     at: usize,
     wanted: Wanted,
-) -> Result<((Granted, Rights), usize), ReadError>
+) -> Parsed<(Granted, Rights)>
     ensures { GivesPart pieces.now (λ x. (x.0, x.1)) result ((on_object wanted).read (drop at pieces.now)) }
 {
     let at = pieces.word(at, "on")?;
@@ -435,7 +418,7 @@ pub(crate) fn rights_and_object(
     pieces: &Pieces<'_>,
     at: usize,
     wanted: Wanted,
-) -> Result<((Granted, Rights), usize), ReadError>
+) -> Parsed<(Granted, Rights)>
     ensures { GivesPart pieces.now (λ x. (x.0, x.1)) result ((rights_and_object wanted).read (drop at pieces.now)) }
 {
     match wanted {
@@ -459,11 +442,7 @@ fn grantee_of(name: Name) -> Grantee
 }
 
 /// A grantee.
-pub(crate) fn grantee(
-    alloc: Global,
-    pieces: &Pieces<'_>,
-    at: usize,
-) -> Result<(Grantee, usize), ReadError>
+pub(crate) fn grantee(alloc: Global, pieces: &Pieces<'_>, at: usize) -> Parsed<Grantee>
     ensures { GivesPart pieces.now (λ g. g) result (grantee.read (drop at pieces.now)) }
 {
     let (name, at) = pieces.name(alloc, at)?;

@@ -1,12 +1,8 @@
 -- One more word behind those that stand with commas.
-use Rattle.std.proofs.Common.{◌≡◌, ℕ, Bool, true, false, List, [], ◌∷◌, ◌++◌, refl, ap, ◌∙◌, append_assoc, ◌+◌, ◌<◌, length, take, get_or}
-use Rattle.std.specs.Prelude.{◌&&◌, ◌||◌, codes}
+use Rattle.std.proofs.Common.{◌≡◌, ℕ, Bool, true, false, List, [], ◌∷◌, ◌++◌, refl, ap, ◌∙◌, append_assoc, ◌+◌, ◌<◌, length, take, get_or, ◌&&◌, ◌||◌, codes}
+use Rattle.std.proofs.{lemmas.Grind.flat_map-append, lemmas.List.append-nil, lemmas.List.take_more}
 use Rattle.std.specs.List.{flat_map}
-use Rattle.std.proofs.lemmas.Grind.{flat_map-append}
-use Rattle.std.proofs.lemmas.List.{append-nil, take_more}
-use Rattle.ddl_write.specs.Paths.{only_if}
-use Rattle.ddl_write.specs.RightsText.{word_there, with_commas}
-use Rattle.ddl_write.specs.declared.rights.Right.{Right}
+use Rattle.ddl_write.specs.{Paths.only_if, RightsText.word_there, RightsText.with_commas, declared.rights.Right.Right}
 
 pub no_commas : with_commas [] ≡ []
 unfolding with_commas

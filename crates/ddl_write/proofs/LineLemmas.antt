@@ -1,9 +1,7 @@
 -- What stands in lines: items that are written one by one, and one list behind another.
-use Rattle.std.proofs.Common.{◌≡◌, ◌++◌}
-use Rattle.std.specs.Prelude.{List, map}
+use Rattle.std.proofs.Common.{◌≡◌, ◌++◌, List, map}
+use Rattle.std.proofs.{lemmas.List.Folds.flat_map-map, lemmas.Grind.flat_map-append}
 use Rattle.std.specs.List.{flat_map}
-use Rattle.std.proofs.lemmas.List.Folds.{flat_map-map}
-use Rattle.std.proofs.lemmas.Grind.{flat_map-append}
 
 pub lines_of_items : {A B C : Type 0} (h : B → List C) (v : A → B) (xs : List A) → flat_map h (map v xs) ≡ flat_map (λ x. h (v x)) xs
 lines_of_items h v xs = flat_map-map h v xs

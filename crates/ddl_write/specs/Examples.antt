@@ -30,7 +30,7 @@ no_rights = record {
 
 -- the statement is written so
 abbrev pub IsWritten : Stmt → List ℕ → Type 0
-IsWritten s text = spelling s ≡ Some text
+IsWritten s text = spelling s ≡ text
 
 pub record WorkedExamples : Type 0 where
   pub rising : IsWritten (stmt.CreateSequence (public (codes "s")) sequences.Integer (pos 1) (pos 1) (pos 1) (pos 2147483647) (pos 1) false)

@@ -1,6 +1,6 @@
 -- The one written spelling of each statement.
 -- Each ends with a semicolon and a newline.
-use Rattle.std.specs.Prelude.{ℕ, List, ◌∷◌, ◌++◌, Option, Some, codes}
+use Rattle.std.specs.Prelude.{ℕ, List, ◌∷◌, ◌++◌, codes}
 use Rattle.sql_lex.specs.Written.{written_name, written_literal}
 use Rattle.cat_model.specs.declared.object.QName.{QName}
 use Rattle.cat_model.specs.declared.grant.Owned.{Owned}
@@ -44,33 +44,33 @@ owner_text object role = codes "ALTER " ++ owned_object object ++ codes " OWNER 
 unfoldable pub domain_check_text : QName → List ℕ → List ℕ → List ℕ
 domain_check_text q name text = codes "ALTER DOMAIN " ++ path q ++ (10 ∷ codes "    ADD ") ++ check_text name text ++ ending
 
-unfoldable pub spelling : Stmt → Option (List ℕ)
-spelling (stmt.CreateSchema name) = Some (schema_text name)
-spelling (stmt.CreateEnum q labels) = Some (enum_text q labels)
-spelling (stmt.CreateDomain q base not_null default checks) = Some (domain_text q base not_null default checks)
-spelling (stmt.CreateTable q columns checks) = Some (table_text q columns checks)
-spelling (stmt.Set name value) = Some (set_text name value)
-spelling (stmt.SetConfig name value) = Some (setting_text name value)
-spelling (stmt.OwnerTo object role) = Some (owner_text object role)
-spelling (stmt.AddDomainCheck q name text) = Some (domain_check_text q name text)
-spelling (stmt.CreateSequence q kind start step min max cache cycle) = Some (sequence_text q kind start step min max cache cycle)
-spelling (stmt.OwnedBy q table column) = Some (owned_by_text q table column)
-spelling (stmt.SetVal q n called) = Some (value_text q n called)
-spelling (stmt.CreateView q body) = Some (view_text (codes "CREATE VIEW ") q body)
-spelling (stmt.ReplaceView q body) = Some (view_text (codes "CREATE OR REPLACE VIEW ") q body)
-spelling (stmt.SetDefault q column text) = Some (default_text q column text)
-spelling (stmt.AddPrimary q name columns rest) = Some (key_text (codes " PRIMARY KEY ") q name columns rest)
-spelling (stmt.AddUnique q name columns rest) = Some (key_text (codes " UNIQUE ") q name columns rest)
-spelling (stmt.AddForeign q name columns parent parent_columns rest) = Some (foreign_text q name columns parent parent_columns rest)
-spelling (stmt.AddCheck q name text) = Some (added_check_text q name text)
-spelling (stmt.CreateIndex q name method rest) = Some (index_text (codes "CREATE INDEX ") q name method rest)
-spelling (stmt.CreateUniqueIndex q name method rest) = Some (index_text (codes "CREATE UNIQUE INDEX ") q name method rest)
-spelling (stmt.CopyRows q columns rows) = Some (copy_text q columns rows)
-spelling (stmt.Grant object rights who option) = Some (grant_text object rights who option)
-spelling (stmt.Revoke object rights who) = Some (revoke_text object rights who)
-spelling (stmt.Comment object text) = Some (comment_text object text)
-spelling (stmt.CreateRole name) = Some (role_text name)
-spelling (stmt.AlterRole name changes) = Some (changes_text name changes)
-spelling (stmt.GrantRole role member grantor admin inherit may_set) = Some (member_text role member grantor admin inherit may_set)
-spelling (stmt.CreateDatabase name encoding) = Some (database_text name encoding)
-spelling (stmt.Connect name) = Some (connect_text name)
+unfoldable pub spelling : Stmt → List ℕ
+spelling (stmt.CreateSchema name) = schema_text name
+spelling (stmt.CreateEnum q labels) = enum_text q labels
+spelling (stmt.CreateDomain q base not_null default checks) = domain_text q base not_null default checks
+spelling (stmt.CreateTable q columns checks) = table_text q columns checks
+spelling (stmt.Set name value) = set_text name value
+spelling (stmt.SetConfig name value) = setting_text name value
+spelling (stmt.OwnerTo object role) = owner_text object role
+spelling (stmt.AddDomainCheck q name text) = domain_check_text q name text
+spelling (stmt.CreateSequence q kind start step min max cache cycle) = sequence_text q kind start step min max cache cycle
+spelling (stmt.OwnedBy q table column) = owned_by_text q table column
+spelling (stmt.SetVal q n called) = value_text q n called
+spelling (stmt.CreateView q body) = view_text (codes "CREATE VIEW ") q body
+spelling (stmt.ReplaceView q body) = view_text (codes "CREATE OR REPLACE VIEW ") q body
+spelling (stmt.SetDefault q column text) = default_text q column text
+spelling (stmt.AddPrimary q name columns rest) = key_text (codes " PRIMARY KEY ") q name columns rest
+spelling (stmt.AddUnique q name columns rest) = key_text (codes " UNIQUE ") q name columns rest
+spelling (stmt.AddForeign q name columns parent parent_columns rest) = foreign_text q name columns parent parent_columns rest
+spelling (stmt.AddCheck q name text) = added_check_text q name text
+spelling (stmt.CreateIndex q name method rest) = index_text (codes "CREATE INDEX ") q name method rest
+spelling (stmt.CreateUniqueIndex q name method rest) = index_text (codes "CREATE UNIQUE INDEX ") q name method rest
+spelling (stmt.CopyRows q columns rows) = copy_text q columns rows
+spelling (stmt.Grant object rights who option) = grant_text object rights who option
+spelling (stmt.Revoke object rights who) = revoke_text object rights who
+spelling (stmt.Comment object text) = comment_text object text
+spelling (stmt.CreateRole name) = role_text name
+spelling (stmt.AlterRole name changes) = changes_text name changes
+spelling (stmt.GrantRole role member grantor admin inherit may_set) = member_text role member grantor admin inherit may_set
+spelling (stmt.CreateDatabase name encoding) = database_text name encoding
+spelling (stmt.Connect name) = connect_text name

@@ -1,8 +1,8 @@
 //! Statements as texts.
-ghost use Rattle.std.specs.Prelude.{◌≡◌, ◌++◌, take, vec_len, OnOk, OnErr, Some};
+ghost use Rattle.std.specs.Prelude.{◌≡◌, ◌++◌, take, vec_len, OnOk, OnErr};
 ghost use Rattle.ddl_write.specs.Spelling.{path, owned_object, schema_text, set_text, setting_text, owner_text, domain_check_text, spelling};
 ghost use Rattle.sql_lex.specs.Written.{written_name};
-ghost use Rattle.ddl_write.specs.Outcome.{Writes, Extends};
+ghost use Rattle.ddl_write.specs.Outcome.{Extends};
 
 use crate::fault::WriteStmtError;
 use crate::keys::{put_check, put_foreign, put_index, put_key};
@@ -24,7 +24,7 @@ use std::alloc::AllocError;
 /// After an error `out` is as it was.
 /// <https://www.postgresql.org/docs/16/sql-commands.html>
 pub fn write_stmt(stmt: &Stmt, out: &mut Vec<u8>) -> Result<(), WriteStmtError>
-    ensures ok { Writes out.old.items out.new.items (spelling stmt.now) result }
+    ensures ok { OnOk result (out.new.items ≡ out.old.items ++ spelling stmt.now) }
     ensures err { OnErr result (out.new.items ≡ out.old.items) }
 {
     let len = out.len();
@@ -38,7 +38,7 @@ pub fn write_stmt(stmt: &Stmt, out: &mut Vec<u8>) -> Result<(), WriteStmtError>
 /// The same, where an error may leave some of the text.
 #[tactic(auto, unfolding(crate::specs::Spelling::spelling))]
 fn put_stmt(stmt: &Stmt, out: &mut Vec<u8>) -> Result<(), WriteStmtError>
-    ensures ok { Writes out.old.items out.new.items (spelling stmt.now) result }
+    ensures ok { OnOk result (out.new.items ≡ out.old.items ++ spelling stmt.now) }
     ensures kept { Extends out.old.items out.new.items }
 {
     match stmt {

@@ -2,7 +2,7 @@
 -- The owner has all rights of a new object, and every role may use a new type. Where the owner's rights differ, they are taken
 -- away and those that are left are granted; where every role lacks a right, it is taken away; then what others have is
 -- granted, first without the option to grant it on, then with it.
-use Rattle.std.specs.Prelude.{Bool, true, false, ◌&&◌, List, [], ◌∷◌, ◌++◌, Option, Some, None, unwrap_or, if◌then◌else◌}
+use Rattle.std.specs.Prelude.{Bool, true, false, ◌&&◌, List, [], ◌∷◌, ◌++◌, Option, Some, None, if◌then◌else◌}
 use Rattle.std.specs.List.{flat_map}
 use Rattle.acl_text.specs.declared.list.AclItem.{AclItem}
 use Rattle.cat_model.specs.declared.grant.Granted.{Granted}
@@ -62,8 +62,5 @@ grant_stmts kind object owner None = None
 grant_stmts kind object owner (Some items) = if are_default kind owner items then None else Some (all_stmts kind object owner items)
 
 -- statements one after another, each in its one spelling
-abbrev pub spelled : Stmt → Bytes
-spelled s = unwrap_or (spelling s) []
-
 abbrev pub texts : List Stmt → Bytes
-texts stmts = flat_map spelled stmts
+texts stmts = flat_map spelling stmts

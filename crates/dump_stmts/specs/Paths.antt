@@ -1,5 +1,5 @@
 -- The path by which an object is found, and statements as texts.
-use Rattle.std.specs.Prelude.{Bool, [], Option, Some, None, unwrap_or, codes}
+use Rattle.std.specs.Prelude.{Bool, [], Option, Some, None, codes}
 use Rattle.std.specs.Str.{bytes_eq}
 use Rattle.cat_model.specs.declared.object.QName.{QName}
 use Rattle.cat_model.specs.declared.stmt.Stmt.{Stmt}
@@ -15,10 +15,10 @@ joined schema name = None
 abbrev pub path_of : Obj → Option QName
 path_of o = joined o.schema o.name
 
--- the one spelling of a statement; nothing where there is none
+-- the one spelling of a statement; nothing where there is no statement
 abbrev pub written : Option Stmt → Bytes
 written None = []
-written (Some s) = unwrap_or (spelling s) []
+written (Some s) = spelling s
 
 -- each database has the schema public from the start
 abbrev pub is_public : Bytes → Bool

@@ -12,6 +12,7 @@ use Rattle.ddl_parts.proofs.Steps.{avoids_never}
 use Rattle.ddl_parts.proofs.Simple.{nothing_laws, seen_laws, seen_begins}
 use Rattle.ddl_parts.proofs.Sequence.{then_laws, lead_begins}
 use Rattle.ddl_parts.proofs.Choice.{choose_apart}
+use Rattle.ddl_parts.proofs.Shorter.{word_agrees}
 use Rattle.ddl_parts.proofs.Leads.{name_laws, qualified_laws, word_laws, ended_laws, words_apart}
 use Rattle.ddl_parts.proofs.RunLaws.{expression_laws, expression_ends}
 use Rattle.ddl_parts.proofs.Tables.{one_of_laws}
@@ -43,11 +44,11 @@ name_end = name then (is_word (codes "on") ▸ path_end)
 named_index_laws : Lawful named_index
 unfolding named_index
 named_index_laws =
-    word_laws (codes "index") name_end
+    word_laws (codes "index") refl name_end
     (then_laws name (is_word (codes "on") ▸ path_end) name_laws
-    (word_laws (codes "on") path_end
+    (word_laws (codes "on") refl path_end
     (then_laws qualified (is_word (codes "using") ▸ method_end) qualified_laws
-    (word_laws (codes "using") method_end (then_laws name expression name_laws expression_laws (avoids_never expression)))
+    (word_laws (codes "using") refl method_end (then_laws name expression name_laws expression_laws (avoids_never expression)))
     (avoids_never (is_word (codes "using") ▸ method_end))))
     (avoids_never (is_word (codes "on") ▸ path_end)))
 
@@ -62,9 +63,9 @@ pub index_text_laws : Lawful index_text
 unfolding index_text
 index_text_laws =
     let behind_unique = is_word (codes "unique") ▸ index_part true in
-    word_laws (codes "create") (choose (is_word (codes "unique")) behind_unique (index_part false))
-    (choose_apart (is_word (codes "unique")) (is_word (codes "index")) behind_unique (index_part false)
-    (word_laws (codes "unique") (index_part true) (index_part_laws true))
+    word_laws (codes "create") refl (choose (is_word (codes "unique")) behind_unique (index_part false))
+    (choose_apart (is_word (codes "unique")) (is_word (codes "index")) (word_agrees (codes "unique") refl) behind_unique (index_part false)
+    (word_laws (codes "unique") refl (index_part true) (index_part_laws true))
     (index_part_laws false)
     (lead_begins (is_word (codes "unique")) (index_part true))
     (seen_begins (is_word (codes "index")) (index_of false) named_index named_index_begins)

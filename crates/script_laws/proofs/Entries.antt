@@ -74,7 +74,7 @@ object_known law e (Some kinds.View) = mapped IsPath owned.View (path_of e) (λ 
 
 given_lays : (o : Option Owned) (r : Option (List ℕ)) → Known IsOwnedName o → Known IsName r → Lays (given o r) (given_to o r)
 unfolding spelling
-given_lays (Some object) (Some role) is named = statement_text (stmt.OwnerTo object role) (owner_text object role) (10 ∷ []) [] (is, named) refl (empty_line [] [] no_more)
+given_lays (Some object) (Some role) is named = statement_text (stmt.OwnerTo object role) (10 ∷ []) [] (is, named) (empty_line [] [] no_more)
 given_lays None r is named = no_more
 given_lays (Some object) None is named = no_more
 

@@ -10,6 +10,7 @@ use Rattle.std.proofs.lemmas.Str.{IsUtf8-append, IsUtf8-from_is_utf8}
 use Rattle.std.proofs.lemmas.List.Folds.{list_all-append}
 use Rattle.sql_lex.specs.Bytes.{in_line}
 use Rattle.cat_model.specs.declared.stmt.Stmt.{Stmt}
+use Rattle.ddl_write.specs.Spelling.{spelling}
 use Rattle.ddl_laws.specs.Laying.{Lays, IsShown, comment, no_more, empty_line, comment_line, statement_text}
 use Rattle.fmt_text.specs.Lines.{title, shown, shown_or_dash}
 use Rattle.fmt_text.specs.Parts.{is_table_data, group, told_owner, about}
@@ -24,8 +25,8 @@ lays_both _ b _ ts no_more k = k
 lays_both _ b _ ts (empty_line text ss h) k = empty_line (text ++ b) (ss ++ ts) (lays_both text b ss ts h k)
 lays_both _ b _ ts (comment_line line text ss shown h) k =
     subst (λ (x : List ℕ). Lays x (ss ++ ts)) (sym (append_assoc (comment line) text b)) (comment_line line (text ++ b) (ss ++ ts) shown (lays_both text b ss ts h k))
-lays_both _ b _ ts (statement_text s words text ss can spells h) k =
-    subst (λ (x : List ℕ). Lays x (s ∷ (ss ++ ts))) (sym (append_assoc words text b)) (statement_text s words (text ++ b) (ss ++ ts) can spells (lays_both text b ss ts h k))
+lays_both _ b _ ts (statement_text s text ss can h) k =
+    subst (λ (x : List ℕ). Lays x (s ∷ (ss ++ ts))) (sym (append_assoc (spelling s) text b)) (statement_text s (text ++ b) (ss ++ ts) can (lays_both text b ss ts h k))
 
 -- two empty lines
 pub two_lines : Lays (10 ∷ 10 ∷ []) []

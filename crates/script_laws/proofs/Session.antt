@@ -1,5 +1,5 @@
 -- The statements that prepare the session can be written, and lie in the head of a script.
-use Rattle.std.proofs.Common.{◌≡◌, ℕ, List, [], ◌∷◌, ◌++◌, Some, Ok, refl, codes}
+use Rattle.std.proofs.Common.{◌≡◌, ℕ, List, [], ◌∷◌, ◌++◌, Ok, refl, subst, codes}
 use Rattle.sql_lex.specs.Reserved.{is_reserved}
 use Rattle.sql_lex.specs.Written.{begins_bare, in_bare, is_bare, doubled, quoted, written_name, written_literal}
 use Rattle.sql_lex.specs.Bytes.{is_digit}
@@ -62,8 +62,8 @@ unfolding reads
 security_read = refl
 
 -- its spelling, behind which others lie
-spelled_before : (law : ReadLaw) (s : Stmt) (read words text : List ℕ) (end : ℕ) (ss : List Stmt) → statements_of read ≡ Ok (alone s end) → spelling s ≡ Some words → Lays text ss → Lays (words ++ text) (s ∷ ss)
-spelled_before law s read words text end ss e spells lays = statement_text s words text ss (law read (alone s end) e).0 spells lays
+spelled_before : (law : ReadLaw) (s : Stmt) (read words text : List ℕ) (end : ℕ) (ss : List Stmt) → statements_of read ≡ Ok (alone s end) → spelling s ≡ words → Lays text ss → Lays (words ++ text) (s ∷ ss)
+spelled_before law s read words text end ss e spells lays = subst (λ (x : List ℕ). Lays (x ++ text) (s ∷ ss)) spells (statement_text s text ss (law read (alone s end) e).0 lays)
 
 pub session_lays : ReadLaw → Lays session session_statements
 unfolding session set_text setting_text spelling is_digit is_reserved begins_bare in_bare is_bare doubled quoted written_name written_literal

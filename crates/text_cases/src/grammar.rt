@@ -178,8 +178,8 @@ fn said(alloc: Global, line: &[u8], out: &mut Vec<u8>) -> Result<(), AllocError>
     let mut found = Vec::new(alloc);
     match said_into(alloc, line, &mut found) {
         Ok(()) => put_found(&found, out),
-        Err(MetaError::Unknown) => out.extend_from_slice(b"unknown"),
-        Err(MetaError::LongName) => out.extend_from_slice(b"too long"),
+        Err(MetaError::Unknown(_)) => out.extend_from_slice(b"unknown"),
+        Err(MetaError::LongName(_)) => out.extend_from_slice(b"too long"),
         Err(MetaError::Memory) => Err(AllocError),
     }
 }

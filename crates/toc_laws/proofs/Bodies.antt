@@ -30,7 +30,7 @@ use Rattle.graph_parts.specs.declared.object.Obj.{Obj}
 use Rattle.graph_parts.specs.declared.object.ObjKind.{ObjKind}
 use Rattle.graph_parts.specs.declared.object.ObjKind.TheVariants as kind
 use Rattle.dump_rows.specs.Rows.{columns_of}
-use Rattle.dump_grants.specs.Stmts.{texts, spelled}
+use Rattle.dump_grants.specs.Stmts.{texts}
 use Rattle.dump_stmts.specs.Paths.{path_of, written, is_public}
 use Rattle.dump_stmts.specs.Stmts.{schema_stmt, stmt_of_kind, schema_defn, defn_of_kind}
 use Rattle.dump_stmts.specs.Tables.{more_names, column_list, copy_line, copy_of}
@@ -49,15 +49,12 @@ abbrev pub Said : List ℕ → Type 0
 Said text = (statements : List Stmt) × Lays text statements
 
 abbrev pub SpelledLaw : Type 0
-SpelledLaw = (s : Stmt) → IsWritable s → (text : List ℕ) × (spelling s ≡ Some text)
+SpelledLaw = (s : Stmt) → IsWritable s → Lays (spelling s) (s ∷ [])
 
 -- ---- statements
 
 pub spelled_lays : SpelledLaw → (s : Stmt) → IsWritable s → Lays (written (Some s)) (s ∷ [])
-spelled_lays law s is =
-    let w = law s is in
-    let text : unwrap_or (spelling s) [] ≡ w.0 = ap (λ (o : Option (List ℕ)). unwrap_or o []) w.1 in
-    subst (λ (x : List ℕ). Lays x (s ∷ [])) (append-nil w.0 ∙ sym text) (statement_text s w.0 [] [] is w.1 no_more)
+spelled_lays law s is = law s is
 
 pub written_lays : SpelledLaw → (o : Option Stmt) → Known IsWritable o → Lays (written o) (option_to_list o)
 written_lays law None k = no_more
@@ -65,7 +62,7 @@ written_lays law (Some s) k = spelled_lays law s k
 
 pub texts_lay : SpelledLaw → (ss : List Stmt) → AllWritable ss → Lays (texts ss) ss
 texts_lay law [] all = no_more
-texts_lay law (s ∷ ss) all = lays_both (spelled s) (texts ss) (s ∷ []) ss (spelled_lays law s all.0) (texts_lay law ss all.1)
+texts_lay law (s ∷ ss) all = lays_both (spelling s) (texts ss) (s ∷ []) ss (spelled_lays law s all.0) (texts_lay law ss all.1)
 
 -- ---- definitions
 
@@ -114,7 +111,7 @@ rows_lay cat holds oid q is r are =
     let columns = columns_of cat oid in
     let s = copy_stmt cat oid q r in
     let named : AllByRecursion IsName (names_in columns) = seen_have (IsOf table.PgAttribute attribute_cells) IsName (λ a. a.attname) columns (columns_hold cat holds oid) (λ a row. row.cells.1.1.0) in
-    let lays : Lays (copy_text q (names_in columns) r ++ codes "\n\n") (s ∷ []) = statement_text s (copy_text q (names_in columns) r) (codes "\n\n") [] (is, named, are) refl two_lines in
+    let lays : Lays (copy_text q (names_in columns) r ++ codes "\n\n") (s ∷ []) = statement_text s (codes "\n\n") [] (is, named, are) two_lines in
     subst (λ (x : List ℕ). Lays x (s ∷ [])) (sym (line_and_rows q columns r)) lays
 
 abbrev copied_of : Catalogue → Obj → Option QName → Bytes

@@ -1,8 +1,4 @@
-use Rattle.std.proofs.Common.{◌≡◌, true, false, drop, sym, ◌∙◌}
-use Rattle.std.proofs.lemmas.Result.{err_from_is_err_and}
-use Rattle.ddl_parts.specs.Lexemes.{starts}
-use Rattle.ddl_parts.proofs.Items.{fewer}
-use Rattle.ddl_admin.specs.Databases.{is_option, furthering, furthers}
+use Rattle.ddl_admin.proofs.Common.{◌≡◌, true, false, drop, sym, ◌∙◌, err_from_is_err_and, starts, fewer, is_option, furthering, furthers}
 use Rattle.ddl_admin.proofs.Further.{furthers_apart, goes_by, ends_at, fails_by}
 use Rattle.ddl_admin.proofs.databases.furthers.Goals as goal
 

@@ -1,5 +1,4 @@
-use Rattle.std.proofs.Common.{◌≡◌, ◌-◌, drop, length}
-use Rattle.ddl_admin.specs.Databases.{furthers}
+use Rattle.ddl_admin.proofs.Common.{◌≡◌, ◌-◌, drop, length, furthers}
 use Rattle.ddl_admin.proofs.databases.furthers.Given as goal
 
 -- what is read from the place on is what is read from the first

@@ -1,7 +1,4 @@
-use Rattle.std.proofs.Common.{◌≡◌, true, not, ◌&&◌, Bool, drop, sym, ap, ◌∙◌}
-use Rattle.ddl_parts.specs.Lexemes.{starts}
-use Rattle.ddl_admin.specs.Choices.{any_word}
-use Rattle.ddl_admin.specs.Databases.{own_options, is_bare}
+use Rattle.ddl_admin.proofs.Common.{◌≡◌, true, not, ◌&&◌, Bool, drop, sym, ap, ◌∙◌, starts, any_word, own_options, is_bare}
 use Rattle.ddl_admin.proofs.Further.{option_starts}
 use Rattle.ddl_admin.proofs.databases.is_option.Goals as goal
 

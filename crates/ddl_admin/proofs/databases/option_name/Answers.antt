@@ -1,7 +1,4 @@
-use Rattle.std.proofs.Common.{◌≡◌, true, drop, sym, ◌∙◌, arith}
-use Rattle.ddl_parts.specs.Lexemes.{starts}
-use Rattle.ddl_admin.specs.Databases.{is_option}
-use Rattle.ddl_numbers.proofs.Places.{token_at}
+use Rattle.ddl_admin.proofs.Common.{◌≡◌, true, drop, sym, ◌∙◌, arith, starts, is_option, token_at}
 use Rattle.ddl_admin.proofs.Places.{mark_is}
 use Rattle.ddl_admin.proofs.databases.option_name.Goals as goal
 

@@ -1,7 +1,4 @@
-use Rattle.std.proofs.Common.{◌≡◌, true, drop, sym, ◌∙◌, arith}
-use Rattle.ddl_parts.specs.Lexemes.{starts}
-use Rattle.ddl_admin.specs.Databases.{is_value}
-use Rattle.ddl_numbers.proofs.Places.{token_at}
+use Rattle.ddl_admin.proofs.Common.{◌≡◌, true, drop, sym, ◌∙◌, arith, starts, is_value, token_at}
 use Rattle.ddl_admin.proofs.Places.{mark_is}
 use Rattle.ddl_admin.proofs.databases.option_value.Goals as goal
 

@@ -1,6 +1,4 @@
-use Rattle.ddl_admin.proofs.CommentLaws.{comment_on_laws}
-use Rattle.ddl_admin.proofs.RoleLaws.{create_role_laws, alter_role_laws}
-use Rattle.ddl_admin.proofs.DatabaseLaws.{create_database_laws}
+use Rattle.ddl_admin.proofs.{CommentLaws.comment_on_laws, RoleLaws.create_role_laws, RoleLaws.alter_role_laws, DatabaseLaws.create_database_laws}
 use Rattle.ddl_admin.proofs.laws.parts_have_their_laws.Goals as goal
 
 pub returns : goal.returns

@@ -1,4 +1,4 @@
-use Rattle.std.proofs.Common.{refl}
+use Rattle.ddl_laws.proofs.Common.{refl}
 use Rattle.ddl_laws.proofs.Computing.{reads}
 use Rattle.ddl_laws.proofs.laws.sequences_meet_the_examples.Goals as goal
 

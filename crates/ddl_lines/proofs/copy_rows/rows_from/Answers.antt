@@ -1,4 +1,4 @@
-use Rattle.std.proofs.Common.{arith}
+use Rattle.ddl_lines.proofs.Common.{arith}
 use Rattle.ddl_lines.proofs.RowLaws.{goes_on, last_row, stops, ends, whole, between}
 use Rattle.ddl_lines.proofs.copy_rows.rows_from.Goals as goal
 

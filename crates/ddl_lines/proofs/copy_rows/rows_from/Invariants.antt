@@ -1,6 +1,4 @@
-use Rattle.std.proofs.Common.{◌≡◌, ◌-◌, ◌≤◌, ◌++◌, length, drop}
-use Rattle.std.specs.Prelude.{slice_range}
-use Rattle.ddl_lines.specs.CopyRows.{rows_in}
+use Rattle.ddl_lines.proofs.Common.{◌≡◌, ◌-◌, ◌≤◌, ◌++◌, length, drop, slice_range, rows_in}
 use Rattle.ddl_lines.proofs.copy_rows.rows_from.Given as goal
 
 -- the lines so far are rows, and those behind are the others

@@ -1,4 +1,4 @@
-use Rattle.std.proofs.Common.{sym, arith}
+use Rattle.ddl_parts.proofs.Lemmas.{sym, arith}
 use Rattle.ddl_numbers.proofs.Places.{token_at, count_is, no_count}
 use Rattle.ddl_numbers.proofs.numbers.count.Goals as goal
 

@@ -1,6 +1,4 @@
-use Rattle.std.proofs.Common.{◌≡◌, true, sym, arith}
-use Rattle.std.specs.List.{list_all}
-use Rattle.sql_lex.specs.Bytes.{is_digit}
+use Rattle.ddl_parts.proofs.Lemmas.{◌≡◌, true, sym, arith, list_all, is_digit}
 use Rattle.ddl_numbers.proofs.DigitParsing.{are_utf8, small, large, unparsed}
 use Rattle.ddl_numbers.proofs.numbers.digits_below.Goals as goal
 

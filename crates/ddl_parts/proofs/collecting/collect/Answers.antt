@@ -1,7 +1,5 @@
-use Rattle.std.proofs.Common.{Ok, sym, ap, ◌∙◌, length, arith}
-use Rattle.ddl_parts.specs.Collecting.{collected}
-use Rattle.ddl_parts.proofs.Collects.{all_left, at_end, at_fault, at_semicolon, at_token, end_of_none, end_of_one_more, joined_none, joined_one_more, joined_whole}
-use Rattle.ddl_parts.proofs.Slices.{sound_none, sound_one_more, token_sound}
+use Rattle.ddl_parts.proofs.Common.{Ok, sym, ap, ◌∙◌, length, arith, collected}
+use Rattle.ddl_parts.proofs.{Collects.all_left, Collects.at_end, Collects.at_fault, Collects.at_semicolon, Collects.at_token, Collects.end_of_none, Collects.end_of_one_more, Collects.joined_none, Collects.joined_one_more, Collects.joined_whole, Slices.sound_none, Slices.sound_one_more, Slices.token_sound}
 use Rattle.ddl_parts.proofs.collecting.collect.Goals as goal
 
 pub tokens-init : goal.tokens-init

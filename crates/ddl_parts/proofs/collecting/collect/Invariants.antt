@@ -1,6 +1,4 @@
-use Rattle.std.proofs.Common.{◌≡◌, ◌-◌, ◌≤◌, ◌<◌, length, true}
-use Rattle.ddl_parts.specs.Pieces.{are_joined_from, are_sound}
-use Rattle.ddl_parts.specs.Collecting.{collected}
+use Rattle.ddl_parts.proofs.Common.{◌≡◌, ◌-◌, ◌≤◌, ◌<◌, length, true, are_joined_from, are_sound, collected}
 use Rattle.ddl_parts.proofs.Collects.{IsLeft, end_of}
 use Rattle.ddl_parts.proofs.collecting.collect.Given as goal
 

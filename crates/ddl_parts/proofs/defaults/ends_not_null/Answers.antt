@@ -1,7 +1,4 @@
-use Rattle.std.proofs.Common.{◌-◌, Bool, ◌&&◌, drop, codes, sym, ap, ◌∙◌, arith}
-use Rattle.std.proofs.lemmas.List.{length-map}
-use Rattle.ddl_parts.specs.Lexemes.{is_word, starts}
-use Rattle.ddl_parts.specs.Pieces.{lexeme_of, lexemes}
+use Rattle.ddl_parts.proofs.Common.{◌-◌, Bool, ◌&&◌, drop, codes, sym, ap, ◌∙◌, arith, length-map, is_word, starts, lexeme_of, lexemes}
 use Rattle.ddl_parts.proofs.Endings.{ends_null}
 use Rattle.ddl_parts.proofs.defaults.ends_not_null.Goals as goal
 

@@ -1,6 +1,4 @@
-use Rattle.ddl_parts.proofs.Leads.{name_laws, literal_laws, qualified_laws}
-use Rattle.ddl_parts.proofs.RunLaws.{expression_laws, default_text_laws, default_and_null_laws, type_laws}
-use Rattle.ddl_parts.proofs.Listing.{names_laws}
+use Rattle.ddl_parts.proofs.{Leads.name_laws, Leads.literal_laws, Leads.qualified_laws, RunLaws.expression_laws, RunLaws.default_text_laws, RunLaws.default_and_null_laws, RunLaws.type_laws, Listing.names_laws}
 use Rattle.ddl_parts.proofs.laws.parts_have_their_laws.Goals as goal
 
 pub returns : goal.returns

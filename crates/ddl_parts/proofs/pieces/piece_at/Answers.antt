@@ -1,4 +1,4 @@
-use Rattle.std.proofs.Common.{length, arith}
+use Rattle.ddl_parts.proofs.Common.{length, arith}
 use Rattle.ddl_parts.proofs.Joined.{read_at, lies_at}
 use Rattle.ddl_parts.proofs.pieces.piece_at.Goals as goal
 

@@ -1,9 +1,4 @@
-use Rattle.std.proofs.Common.{◌≡◌, [], sym, refl, false, Some, None, reverse, drop, arith}
-use Rattle.std.proofs.lemmas.List.{length-map}
-use Rattle.ddl_parts.specs.declared.runs.Spot.TheVariants.{First}
-use Rattle.ddl_parts.specs.Parts.{scan}
-use Rattle.ddl_parts.specs.Pieces.{lexeme_of, lexemes}
-use Rattle.ddl_parts.specs.Expressions.{Nest, nested, nest_step, nest_done}
+use Rattle.ddl_parts.proofs.Common.{◌≡◌, [], sym, refl, false, Some, None, reverse, drop, arith, length-map, First, scan, lexeme_of, lexemes, Nest, nested, nest_step, nest_done}
 use Rattle.ddl_parts.proofs.Scanning.{at_token, at_end, at_stop, none_left}
 use Rattle.ddl_parts.proofs.runs.run_end.Goals as goal
 

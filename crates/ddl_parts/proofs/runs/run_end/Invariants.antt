@@ -1,7 +1,4 @@
-use Rattle.std.proofs.Common.{◌-◌, length, reverse, drop}
-use Rattle.ddl_parts.specs.Parts.{scan}
-use Rattle.ddl_parts.specs.Pieces.{lexemes}
-use Rattle.ddl_parts.specs.Expressions.{nested}
+use Rattle.ddl_parts.proofs.Common.{◌-◌, length, reverse, drop, scan, lexemes, nested}
 use Rattle.ddl_parts.proofs.Scanning.{IsLeft}
 use Rattle.ddl_parts.proofs.runs.run_end.Given as goal
 

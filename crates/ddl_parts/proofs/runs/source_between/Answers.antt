@@ -1,4 +1,4 @@
-use Rattle.std.proofs.Common.{◌∙◌, sym, arith}
+use Rattle.ddl_parts.proofs.Common.{◌∙◌, sym, arith}
 use Rattle.ddl_parts.proofs.Slices.{run_is}
 use Rattle.ddl_parts.proofs.runs.source_between.Goals as goal
 

@@ -1,4 +1,4 @@
-use Rattle.std.proofs.Common.{◌-◌}
+use Rattle.ddl_parts.proofs.Common.{◌-◌}
 use Rattle.ddl_parts.proofs.Slices.{run_utf8}
 use Rattle.ddl_parts.proofs.runs.text_between.Goals as goal
 

@@ -1,14 +1,6 @@
-use Rattle.std.proofs.Common.{◌≡◌, ℕ, ◌+◌, ◌-◌, ◌≤◌, List, drop, take, false, sym, ap, ◌∙◌, arith}
-use Rattle.std.proofs.lemmas.Result.{err_from_is_err_and}
+use Rattle.ddl_parts.proofs.Common.{◌≡◌, ℕ, ◌+◌, ◌-◌, ◌≤◌, List, drop, take, false, sym, ap, ◌∙◌, arith, err_from_is_err_and, is_sign, starts, name_value, one_at, lexemes, type_part}
+use Rattle.ddl_parts.proofs.{Steps.value_is, Slices.drop_twice, TypeRuns.path_between, TypeRuns.words_are, TypeRuns.type_is, TypeRuns.read_fails}
 use Rattle.cat_model.specs.declared.type_name.TypeName.TheVariants as type_name
-use Rattle.ddl_parts.specs.Lexemes.{is_sign, starts}
-use Rattle.ddl_parts.specs.Leaves.{name_value}
-use Rattle.ddl_parts.specs.Parts.{one_at}
-use Rattle.ddl_parts.specs.Pieces.{lexemes}
-use Rattle.ddl_parts.specs.Types.{type_part}
-use Rattle.ddl_parts.proofs.Steps.{value_is}
-use Rattle.ddl_parts.proofs.Slices.{drop_twice}
-use Rattle.ddl_parts.proofs.TypeRuns.{path_between, words_are, type_is, read_fails}
 use Rattle.ddl_parts.proofs.types.type_at.Goals as goal
 
 pub returns-in_err-schema : goal.returns-in_err-schema

@@ -1,11 +1,5 @@
-use Rattle.std.proofs.Common.{◌≡◌, sym, refl, false, drop, arith}
-use Rattle.std.proofs.lemmas.List.{length-map}
-use Rattle.ddl_parts.specs.declared.types.TypeSpot.TheVariants.{Begin}
-use Rattle.ddl_parts.specs.Parts.{scan}
-use Rattle.ddl_parts.specs.Pieces.{lexeme_of, lexemes}
-use Rattle.ddl_parts.specs.Types.{typing, type_step, type_long, type_done}
-use Rattle.ddl_parts.proofs.Scanning.{at_token, at_end, at_stop, none_left}
-use Rattle.ddl_parts.proofs.TypeRuns.{goes, stays}
+use Rattle.ddl_parts.proofs.Common.{◌≡◌, sym, refl, false, drop, arith, length-map, Begin, scan, lexeme_of, lexemes, typing, type_step, type_long, type_done}
+use Rattle.ddl_parts.proofs.{Scanning.at_token, Scanning.at_end, Scanning.at_stop, Scanning.none_left, TypeRuns.goes, TypeRuns.stays}
 use Rattle.ddl_parts.proofs.types.type_end.Goals as goal
 
 start_undone : type_done Begin ≡ false

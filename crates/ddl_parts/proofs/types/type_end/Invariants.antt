@@ -1,7 +1,4 @@
-use Rattle.std.proofs.Common.{◌-◌, length, drop}
-use Rattle.ddl_parts.specs.Parts.{scan}
-use Rattle.ddl_parts.specs.Pieces.{lexemes}
-use Rattle.ddl_parts.specs.Types.{typing}
+use Rattle.ddl_parts.proofs.Common.{◌-◌, length, drop, scan, lexemes, typing}
 use Rattle.ddl_parts.proofs.Scanning.{IsLeft}
 use Rattle.ddl_parts.proofs.types.type_end.Given as goal
 

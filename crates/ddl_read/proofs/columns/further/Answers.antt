@@ -1,9 +1,4 @@
-use Rattle.std.proofs.Common.{◌≡◌, drop, true, false}
-use Rattle.std.proofs.lemmas.Result.{err_from_is_err_and}
-use Rattle.ddl_parts.specs.Lexemes.{starts}
-use Rattle.ddl_parts.specs.Lists.{comma}
-use Rattle.ddl_parts.proofs.Items.{items_from, none_more, no_item, one_more, fewer}
-use Rattle.ddl_read.specs.Columns.{more_names}
+use Rattle.ddl_read.proofs.Common.{◌≡◌, drop, true, false, err_from_is_err_and, starts, comma, items_from, none_more, no_item, one_more, fewer, more_names}
 use Rattle.ddl_read.proofs.ColumnLaws.{names_apart}
 use Rattle.ddl_read.proofs.columns.further.Goals as goal
 

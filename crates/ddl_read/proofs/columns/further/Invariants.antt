@@ -1,6 +1,4 @@
-use Rattle.std.proofs.Common.{◌-◌, drop, length}
-use Rattle.ddl_parts.proofs.Items.{AreLeft, items_from}
-use Rattle.ddl_read.specs.Columns.{more_names}
+use Rattle.ddl_read.proofs.Common.{◌-◌, drop, length, AreLeft, items_from, more_names}
 use Rattle.ddl_read.proofs.columns.further.Given as goal
 
 -- the names so far and those behind the place are the list

@@ -1,8 +1,5 @@
-use Rattle.std.proofs.Common.{◌≡◌, ◌<◌, Some, None, arith, sym}
-use Rattle.std.proofs.lemmas.Result.{err_from_is_err_and}
-use Rattle.ddl_parts.specs.Collecting.{Collected}
-use Rattle.ddl_read.specs.Reading.{statements_of, first_start, line_at}
-use Rattle.ddl_read.proofs.Statements.{IsNext, all_left, at_end, at_fault, at_statement, at_bad_statement, at_line, at_bad_line, some_pieces}
+use Rattle.ddl_read.proofs.Common.{◌≡◌, ◌<◌, Some, None, arith, sym, err_from_is_err_and, Collected, statements_of, first_start, line_at, stray}
+use Rattle.ddl_read.proofs.Statements.{IsNext, all_left, at_end, at_fault, at_stray, at_statement, at_bad_statement, at_line, at_bad_line, some_pieces}
 use Rattle.ddl_read.proofs.reading.read_stmts.Goals as goal
 
 pub statements-init : goal.statements-init
@@ -26,6 +23,13 @@ statements-preserved-in-Some c =
       within = within.2;
       left = rw a.2 (at_line (statements_of text) text c.statements.statements.items c.statements.at t a.0 c.statements.invariant.left line a.1 (omega (arith, within.0, within.1)) within.2);
     }
+
+pub returns-in-Some-stray : goal.returns-in-Some-stray
+returns-in-Some-stray c =
+    let text = c.args.text.now in
+    let no_line : line_at text c.statements.at ≡ None = cc in
+    let found : stray text c.statements.at ≡ Some c.in-Some-stray.start = cc in
+    at_stray (statements_of text) text c.statements.statements.items c.statements.at c.in-Some-stray.start c.statements.invariant.left no_line found
 
 pub returns-in_err-no_more : goal.returns-in_err-no_more
 returns-in_err-no_more c =

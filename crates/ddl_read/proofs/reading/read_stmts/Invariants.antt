@@ -1,5 +1,4 @@
-use Rattle.std.proofs.Common.{◌-◌, ◌≤◌, length}
-use Rattle.ddl_read.specs.Reading.{statements_of}
+use Rattle.ddl_read.proofs.Common.{◌-◌, ◌≤◌, length, statements_of}
 use Rattle.ddl_read.proofs.Statements.{IsLeft}
 use Rattle.ddl_read.proofs.reading.read_stmts.Given as goal
 

@@ -1,8 +1,5 @@
-use Rattle.std.proofs.Common.{drop, sym, refl, arith}
-use Rattle.ddl_parts.specs.Parts.{scan}
-use Rattle.ddl_parts.proofs.Scanning.{all_left, at_token, at_end, at_stop, none_left}
-use Rattle.ddl_read.specs.Rests.{rest_done, resting}
-use Rattle.ddl_numbers.proofs.Places.{token_at, none_behind}
+use Rattle.ddl_read.proofs.Common.{drop, sym, refl, arith, scan, at_token, at_end, at_stop, none_left, rest_done, resting, token_at, none_behind}
+use Rattle.ddl_parts.proofs.Scanning.{all_left}
 use Rattle.ddl_read.proofs.RestScans.{goes, stays}
 use Rattle.ddl_read.proofs.rests.rest_end.Goals as goal
 

@@ -1,7 +1,4 @@
-use Rattle.std.proofs.Common.{◌-◌, length, drop}
-use Rattle.ddl_parts.specs.Parts.{scan}
-use Rattle.ddl_parts.proofs.Scanning.{IsLeft}
-use Rattle.ddl_read.specs.Rests.{resting}
+use Rattle.ddl_read.proofs.Common.{◌-◌, length, drop, scan, IsLeft, resting}
 use Rattle.ddl_read.proofs.rests.rest_end.Given as goal
 
 -- the tokens so far and those behind the place are what follows

@@ -1,6 +1,4 @@
-use Rattle.std.proofs.Common.{drop, sym, refl, ◌∙◌, arith}
-use Rattle.ddl_read.specs.SequenceGrammar.{is_between, sequence_clauses}
-use Rattle.ddl_numbers.proofs.Places.{token_at, none_behind}
+use Rattle.ddl_read.proofs.Common.{drop, sym, refl, ◌∙◌, arith, is_between, sequence_clauses, token_at, none_behind}
 use Rattle.ddl_read.proofs.SequenceScans.{whole, goes, stops, stops_at_end, answers}
 use Rattle.ddl_read.proofs.sequences.sequence_clauses.Goals as goal
 

@@ -1,5 +1,4 @@
-use Rattle.std.proofs.Common.{◌≡◌, ◌-◌, length, drop}
-use Rattle.ddl_read.specs.SequenceGrammar.{sequence_clauses}
+use Rattle.ddl_read.proofs.Common.{◌≡◌, ◌-◌, length, drop, sequence_clauses}
 use Rattle.ddl_read.proofs.SequenceScans.{left}
 use Rattle.ddl_read.proofs.sequences.sequence_clauses.Given as goal
 

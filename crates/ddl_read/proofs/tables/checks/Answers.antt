@@ -1,8 +1,4 @@
-use Rattle.std.proofs.Common.{◌≡◌, drop, true, false, codes}
-use Rattle.std.proofs.lemmas.Result.{err_from_is_err_and}
-use Rattle.ddl_parts.specs.Lexemes.{starts, is_word}
-use Rattle.ddl_parts.proofs.Items.{items_from, none_more, no_item, one_more, fewer}
-use Rattle.ddl_read.specs.TableGrammar.{checking}
+use Rattle.ddl_read.proofs.Common.{◌≡◌, drop, true, false, codes, err_from_is_err_and, starts, is_word, items_from, none_more, no_item, one_more, fewer, checking}
 use Rattle.ddl_read.proofs.TableLaws.{checks_apart}
 use Rattle.ddl_read.proofs.tables.checks.Goals as goal
 

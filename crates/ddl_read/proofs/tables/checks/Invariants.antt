@@ -1,6 +1,4 @@
-use Rattle.std.proofs.Common.{◌-◌, drop, length}
-use Rattle.ddl_parts.proofs.Items.{AreLeft, items_from}
-use Rattle.ddl_read.specs.TableGrammar.{checking}
+use Rattle.ddl_read.proofs.Common.{◌-◌, drop, length, AreLeft, items_from, checking}
 use Rattle.ddl_read.proofs.tables.checks.Given as goal
 
 -- the checks so far and those behind the place are the list

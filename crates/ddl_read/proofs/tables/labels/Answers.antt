@@ -1,9 +1,4 @@
-use Rattle.std.proofs.Common.{◌≡◌, ◌||◌, drop, true, false}
-use Rattle.std.proofs.lemmas.Result.{err_from_is_err_and}
-use Rattle.ddl_parts.specs.Lexemes.{starts}
-use Rattle.ddl_parts.specs.Lists.{comma, item_begins, listing}
-use Rattle.ddl_parts.specs.Leaves.{literal, is_literal}
-use Rattle.ddl_parts.proofs.Items.{items_from, none_more, no_item, one_more}
+use Rattle.ddl_read.proofs.Common.{◌≡◌, ◌||◌, drop, true, false, err_from_is_err_and, starts, comma, item_begins, listing, literal, is_literal, items_from, none_more, no_item, one_more}
 use Rattle.ddl_read.proofs.TableLaws.{labels_apart}
 use Rattle.ddl_read.proofs.tables.labels.Goals as goal
 

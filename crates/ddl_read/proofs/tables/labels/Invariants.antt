@@ -1,7 +1,4 @@
-use Rattle.std.proofs.Common.{◌-◌, drop, length, false}
-use Rattle.ddl_parts.specs.Lists.{listing}
-use Rattle.ddl_parts.specs.Leaves.{literal, is_literal}
-use Rattle.ddl_parts.proofs.Items.{AreLeft, items_from}
+use Rattle.ddl_read.proofs.Common.{◌-◌, drop, length, false, listing, literal, is_literal, AreLeft, items_from}
 use Rattle.ddl_read.proofs.tables.labels.Given as goal
 
 -- the labels so far and those behind the place are the list

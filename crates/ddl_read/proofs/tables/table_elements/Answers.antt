@@ -1,17 +1,4 @@
-use Rattle.std.proofs.Common.{◌≡◌, ◌++◌, ◌∷◌, [], List, drop, true, false, sym, refl, ap, ◌∙◌, Ok}
-use Rattle.std.proofs.lemmas.Result.{err_from_is_err_and}
-use Rattle.ddl_parts.specs.Lexemes.{Lexeme, starts}
-use Rattle.ddl_parts.specs.Parts.{seen_at, many}
-use Rattle.ddl_parts.specs.Pieces.{Fails}
-use Rattle.ddl_parts.specs.declared.fault.ReadError.{ReadError}
-use Rattle.ddl_parts.specs.declared.fault.ReadError.TheVariants.{Halted, Memory}
-use Rattle.ddl_parts.proofs.Items.{items_from, none_more, no_item, one_more, fewer}
-use Rattle.cat_model.specs.declared.table.ColumnDef.{ColumnDef}
-use Rattle.cat_model.specs.declared.table.CheckDef.{CheckDef}
-use Rattle.ddl_read.specs.declared.tables.Spot.TheVariants.{Opening}
-use Rattle.ddl_read.specs.declared.tables.TableElement.{TableElement}
-use Rattle.ddl_read.specs.declared.tables.TableElement.TheVariants.{Column, Check}
-use Rattle.ddl_read.specs.TableGrammar.{elements, element_begins, columns_of, checks_of, parted, more_elements, table_elements}
+use Rattle.ddl_read.proofs.Common.{◌≡◌, ◌++◌, ◌∷◌, [], List, drop, true, false, sym, refl, ap, ◌∙◌, Ok, err_from_is_err_and, Lexeme, starts, seen_at, many, Fails, ReadError, Halted, Memory, items_from, none_more, no_item, one_more, fewer, ColumnDef, CheckDef, Opening, TableElement, Column, Check, elements, element_begins, columns_of, checks_of, parted, more_elements, table_elements}
 use Rattle.ddl_read.proofs.TableLaws.{elements_apart}
 use Rattle.ddl_read.proofs.tables.table_elements.Goals as goal
 

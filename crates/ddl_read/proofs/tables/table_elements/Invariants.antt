@@ -1,8 +1,4 @@
-use Rattle.std.proofs.Common.{◌≡◌, ◌-◌, List, drop, length}
-use Rattle.ddl_parts.proofs.Items.{AreLeft, items_from}
-use Rattle.ddl_read.specs.declared.tables.Spot.TheVariants.{Opening}
-use Rattle.ddl_read.specs.declared.tables.TableElement.{TableElement}
-use Rattle.ddl_read.specs.TableGrammar.{elements, columns_of, checks_of}
+use Rattle.ddl_read.proofs.Common.{◌≡◌, ◌-◌, List, drop, length, AreLeft, items_from, Opening, TableElement, elements, columns_of, checks_of}
 use Rattle.ddl_read.proofs.tables.table_elements.Given as goal
 
 -- the columns and checks so far and those behind the place are the list

@@ -1,6 +1,4 @@
-use Rattle.std.proofs.Common.{ℕ, List, drop, Err, sym, ap, subst, ◌∙◌}
-use Rattle.std.proofs.lemmas.Result.{err_from_is_err_and}
-use Rattle.ddl_read.specs.ValueGrammar.{GivesPath, path_in}
+use Rattle.ddl_read.proofs.Common.{ℕ, List, drop, Err, sym, ap, subst, ◌∙◌, err_from_is_err_and, path_in, GivesPath}
 use Rattle.ddl_read.proofs.ValueLaws.{literal_fails, path_fails, path_is_read}
 use Rattle.ddl_read.proofs.values.literal_path.Goals as goal
 

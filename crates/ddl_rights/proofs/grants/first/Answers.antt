@@ -1,6 +1,4 @@
-use Rattle.std.proofs.Common.{drop, Ok, sym, ap, ◌∙◌}
-use Rattle.ddl_parts.specs.Parts.{seen_at}
-use Rattle.ddl_rights.specs.RightsGrammar.{wanted_first}
+use Rattle.ddl_rights.proofs.Common.{drop, Ok, sym, ap, ◌∙◌, seen_at, wanted_first}
 use Rattle.ddl_rights.proofs.Firsts.{first_read}
 use Rattle.ddl_rights.proofs.grants.first.Goals as goal
 

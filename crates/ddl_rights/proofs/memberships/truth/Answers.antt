@@ -1,8 +1,4 @@
-use Rattle.std.proofs.Common.{◌≡◌, drop, sym, ap, subst, refl, ◌∙◌}
-use Rattle.ddl_parts.specs.Pieces.{GivesPart}
-use Rattle.ddl_rights.specs.Values.{by_first, answered}
-use Rattle.std.specs.Prelude.{Bool}
-use Rattle.ddl_rights.specs.Memberships.{truth_first}
+use Rattle.ddl_rights.proofs.Common.{◌≡◌, drop, sym, ap, subst, refl, ◌∙◌, GivesPart, by_first, answered, Bool, truth_first}
 use Rattle.ddl_rights.proofs.Firsts.{by_first_read}
 use Rattle.ddl_rights.proofs.memberships.truth.Goals as goal
 

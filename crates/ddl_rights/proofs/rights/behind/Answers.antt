@@ -1,4 +1,4 @@
-use Rattle.std.proofs.Common.{refl, arith}
+use Rattle.ddl_rights.proofs.Common.{refl, arith}
 use Rattle.ddl_rights.proofs.Firsts.{token_at}
 use Rattle.ddl_rights.proofs.rights.behind.Goals as goal
 

@@ -1,8 +1,4 @@
-use Rattle.std.proofs.Common.{◌≡◌, drop, sym, ap, subst, refl, ◌∙◌}
-use Rattle.ddl_parts.specs.Pieces.{GivesPart}
-use Rattle.ddl_rights.specs.Values.{by_first, answered}
-use Rattle.ddl_rights.specs.declared.rights.Kind.{Kind}
-use Rattle.ddl_rights.specs.RightsGrammar.{kind_first, having}
+use Rattle.ddl_rights.proofs.Common.{◌≡◌, drop, sym, ap, subst, refl, ◌∙◌, GivesPart, by_first, answered, Kind, kind_first, having}
 use Rattle.ddl_rights.proofs.Firsts.{by_first_read}
 use Rattle.ddl_rights.proofs.rights.kind_with.Goals as goal
 

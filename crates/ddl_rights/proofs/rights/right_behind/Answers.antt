@@ -1,8 +1,4 @@
-use Rattle.std.proofs.Common.{◌≡◌, drop, sym, ap, subst, refl, ◌∙◌}
-use Rattle.ddl_parts.specs.Pieces.{GivesPart}
-use Rattle.ddl_rights.specs.Values.{by_first, answered}
-use Rattle.ddl_rights.specs.declared.rights.Right.{Right}
-use Rattle.ddl_rights.specs.RightsGrammar.{right_first, joining}
+use Rattle.ddl_rights.proofs.Common.{◌≡◌, drop, sym, ap, subst, refl, ◌∙◌, GivesPart, by_first, answered, Right, right_first, joining}
 use Rattle.ddl_rights.proofs.Firsts.{by_first_read}
 use Rattle.ddl_rights.proofs.rights.right_behind.Goals as goal
 

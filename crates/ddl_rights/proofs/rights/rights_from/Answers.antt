@@ -1,15 +1,4 @@
-use Rattle.std.proofs.Common.{◌≡◌, List, [], ◌∷◌, ◌++◌, drop, true, false, Ok, refl, sym, ap, ◌∙◌}
-use Rattle.std.proofs.lemmas.Result.{err_from_is_err_and}
-use Rattle.cat_model.specs.declared.grant.Rights.{Rights}
-use Rattle.ddl_parts.specs.Lexemes.{Lexeme, starts}
-use Rattle.ddl_parts.specs.Lists.{comma}
-use Rattle.ddl_parts.specs.Parts.{seen_at, many}
-use Rattle.ddl_parts.specs.Pieces.{Fails}
-use Rattle.ddl_parts.specs.declared.fault.ReadError.{ReadError}
-use Rattle.ddl_parts.specs.declared.fault.ReadError.TheVariants.{Halted, Memory}
-use Rattle.ddl_parts.proofs.Items.{items_from, all_left, none_more, no_item, one_more, fewer}
-use Rattle.ddl_rights.specs.declared.rights.Right.{Right}
-use Rattle.ddl_rights.specs.RightsGrammar.{with_right, more_rights, all_of, rights_from}
+use Rattle.ddl_rights.proofs.Common.{◌≡◌, List, [], ◌∷◌, ◌++◌, drop, true, false, Ok, refl, sym, ap, ◌∙◌, err_from_is_err_and, Rights, Lexeme, starts, comma, seen_at, many, Fails, ReadError, Halted, Memory, items_from, all_left, none_more, no_item, one_more, fewer, Right, with_right, more_rights, all_of, rights_from}
 use Rattle.ddl_rights.proofs.RightsLaws.{rights_apart}
 use Rattle.ddl_rights.proofs.rights.rights_from.Goals as goal
 

@@ -1,7 +1,4 @@
-use Rattle.std.proofs.Common.{◌≡◌, ◌-◌, List, drop, length}
-use Rattle.ddl_parts.proofs.Items.{AreLeft, items_from}
-use Rattle.ddl_rights.specs.declared.rights.Right.{Right}
-use Rattle.ddl_rights.specs.RightsGrammar.{more_rights, all_of}
+use Rattle.ddl_rights.proofs.Common.{◌≡◌, ◌-◌, List, drop, length, AreLeft, items_from, Right, more_rights, all_of}
 use Rattle.ddl_rights.proofs.rights.rights_from.Given as goal
 
 -- the rights so far and those behind the place are the list

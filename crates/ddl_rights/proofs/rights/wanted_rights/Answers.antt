@@ -1,8 +1,4 @@
-use Rattle.std.proofs.Common.{◌≡◌, drop, sym, ap, subst, refl, ◌∙◌}
-use Rattle.ddl_parts.specs.Pieces.{GivesPart}
-use Rattle.ddl_rights.specs.Values.{by_first, answered}
-use Rattle.ddl_rights.specs.declared.rights.Wanted.{Wanted}
-use Rattle.ddl_rights.specs.RightsGrammar.{right_first, wanted_first}
+use Rattle.ddl_rights.proofs.Common.{◌≡◌, drop, sym, ap, subst, refl, ◌∙◌, GivesPart, by_first, answered, Wanted, right_first, wanted_first}
 use Rattle.ddl_rights.proofs.Firsts.{by_first_read}
 use Rattle.ddl_rights.proofs.rights.wanted_rights.Goals as goal
 

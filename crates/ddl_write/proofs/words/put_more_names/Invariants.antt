@@ -1,6 +1,5 @@
 -- What was appended so far is what the names so far give.
-use Rattle.std.proofs.Common.{◌≡◌, ◌++◌, take}
-use Rattle.std.specs.Prelude.{codes}
+use Rattle.std.proofs.Common.{◌≡◌, ◌++◌, take, codes}
 use Rattle.std.specs.List.{flat_map}
 use Rattle.sql_lex.specs.Written.{written_name}
 use Rattle.ddl_write.proofs.words.put_more_names.Given as goal

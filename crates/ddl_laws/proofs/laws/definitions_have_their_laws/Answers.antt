@@ -1,0 +1,5 @@
+use Rattle.ddl_laws.proofs.GrammarLaws.{constraint_body_laws, index_body_laws}
+use Rattle.ddl_laws.proofs.laws.definitions_have_their_laws.Goals as goal
+
+pub returns : goal.returns
+returns c = record { constraints = constraint_body_laws; indexes = index_body_laws }
