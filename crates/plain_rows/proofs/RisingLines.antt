@@ -9,7 +9,7 @@ use Rattle.line_fields.proofs.Walks.{IsClearLine, clear_line}
 use Rattle.cat_model.specs.declared.value.Column.{Column}
 use Rattle.cat_model.specs.Values.{Bytes, Row}
 use Rattle.cat_model.specs.FieldTypes.{comparable}
-use Rattle.plain_rows.specs.Lines.{FitsFirst, LineFits, TakesPiece, key_read, line_key, line_keys}
+use Rattle.plain_rows.specs.Lines.{FitsFirst, HasFirst, LineFits, TakesPiece, key_read, line_key, line_keys}
 use Rattle.plain_rows.proofs.FieldSteps.{clear_fits}
 use Rattle.plain_rows.proofs.KeySteps.{field_compared}
 
@@ -32,7 +32,7 @@ all_there (part ∷ parts) zero piece there =
 all_there (part ∷ parts) (suc place) piece there = all_there parts place piece there
 
 module _ (columns : List Column) (column : Column) (place : ℕ) (text key behind piece : Bytes) (some : 0 < length text) (is : IsClearText text)
-    (there : slice_get columns place ≡ Some column) (fits : AllZip TakesPiece columns (pieces (first_line text))) (at : slice_get (pieces (first_line text)) place ≡ Some piece)
+    (there : slice_get columns place ≡ Some column) (at : slice_get (pieces (first_line text)) place ≡ Some piece)
     (compared : key ≡ comparable column.resolved piece) (rest : behind ≡ behind_line text) where
   line : IsClearLine text
   line = clear_line text some is
@@ -47,11 +47,17 @@ module _ (columns : List Column) (column : Column) (place : ℕ) (text key behin
   unfolding row
   key_is = ap (key_read columns place) line.reads ∙ field_compared columns column place row piece there (all_there (pieces (first_line text)) place piece at) ∙ ap (λ (k : Bytes). Some k) (sym compared)
 
-  pub first_fits : FitsFirst columns place text key behind
-  first_fits = record {
+  pub first_has : HasFirst columns place text key behind
+  first_has = record {
     keys = ap (map (line_key columns place)) split ∙ ap (λ (k : Option Bytes). k ∷ line_keys columns place behind) key_is;
-    fits = λ primary all. subst (AllByRecursion (LineFits columns primary)) (sym split) (clear_fits primary columns (first_line text) line.reads fits, all);
     rest = subst IsClearText (sym rest) line.rest;
+  }
+
+  pub first_fits : AllZip TakesPiece columns (pieces (first_line text)) → FitsFirst columns place text key behind
+  first_fits fits = record {
+    keys = first_has.keys;
+    fits = λ primary all. subst (AllByRecursion (LineFits columns primary)) (sym split) (clear_fits primary columns (first_line text) line.reads fits, all);
+    rest = first_has.rest;
   }
 
 -- ---- the end

@@ -88,6 +88,11 @@ AreUpTo (Some last) known = (key : Bytes) → list_any (same_text key) known ≡
 
 -- ---- lines without an escape
 
+-- the first line of a text has this key, and what stands behind the line is such a text too
+pub record HasFirst (columns : List Column) (place : ℕ) (text key behind : Bytes) : Type 0 where
+  pub keys : line_keys columns place text ≡ Some key ∷ line_keys columns place behind
+  pub rest : IsClearText behind
+
 -- The first line of a text has this key, and what stands behind the line is such a text too; where its lines fit, all do.
 pub record FitsFirst (columns : List Column) (place : ℕ) (text key behind : Bytes) : Type 0 where
   pub keys : line_keys columns place text ≡ Some key ∷ line_keys columns place behind

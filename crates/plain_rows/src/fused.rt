@@ -8,8 +8,8 @@ ghost use Rattle.line_fields.specs.Clear.{IsClear, IsClearText, behind_line, fir
 ghost use Rattle.plain_rows.specs.Lines.{FitsFirst, LineFits, TakesPiece, line_keys, none_again};
 
 use crate::keys::{column_at, rise_to};
+use field_marks::{TextAhead, is_clear_text};
 use field_values::{ColumnValues, TableColumns};
-use line_fields::{is_clear_text, split_field};
 
 // This piece where it is the one looked for, else what was found.
 fn piece_or<'t>(is_here: bool, piece: &'t [u8], found: Option<&'t [u8]>) -> Option<&'t [u8]>
@@ -22,11 +22,11 @@ fn piece_or<'t>(is_here: bool, piece: &'t [u8], found: Option<&'t [u8]>) -> Opti
 fn found_in<'t>(
     is_whole: bool,
     found: Option<&'t [u8]>,
-    behind: &'t [u8],
-) -> Option<(&'t [u8], &'t [u8])>
+    behind: TextAhead<'t>,
+) -> Option<(&'t [u8], TextAhead<'t>)>
     ensures whole { IfSome result (λ p. is_whole ≡ true) }
     ensures piece { IfSome result (λ p. option_map (λ t. t.now) found.entry ≡ Some p.0.now) }
-    ensures behind { IfSome result (λ p. p.1.now ≡ behind.now) }
+    ensures behind { IfSome result (λ p. p.1 ≡ behind.entry) }
 {
     if !is_whole {
         return None;
@@ -40,17 +40,17 @@ fn found_in<'t>(
 fn fitting_piece<'t>(
     columns: &[ColumnValues],
     place: usize,
-    text: &'t [u8],
-) -> Option<(&'t [u8], &'t [u8])>
-    ensures fits { IfSome result (λ p. IsClear text.now → AllZip TakesPiece columns.now (pieces (first_line text.now))) }
-    ensures piece { IfSome result (λ p. IsClear text.now → slice_get (pieces (first_line text.now)) place ≡ Some p.0.now) }
-    ensures line { IfSome result (λ p. IsClear text.now → p.1.now ≡ behind_line text.now) }
-    ensures shorter { IfSome result (λ p. length p.1.now ≤ length text.now - 1) }
+    text: TextAhead<'t>,
+) -> Option<(&'t [u8], TextAhead<'t>)>
+    ensures fits { IfSome result (λ p. IsClear text.entry → AllZip TakesPiece columns.now (pieces (first_line text.entry))) }
+    ensures piece { IfSome result (λ p. IsClear text.entry → slice_get (pieces (first_line text.entry)) place ≡ Some p.0.now) }
+    ensures line { IfSome result (λ p. IsClear text.entry → p.1 ≡ behind_line text.entry) }
+    ensures shorter { IfSome result (λ p. length p.1 ≤ length text.entry - 1) }
 {
     let mut rest = text;
     let mut found = None;
     for i in 0..columns.len() {
-        let (piece, more, behind) = split_field(rest);
+        let (piece, more, behind) = rest.split();
         if !columns[i].takes(piece) {
             return None;
         }
@@ -67,13 +67,15 @@ fn fitting_piece<'t>(
 fn fitting_key<'t>(
     columns: &TableColumns,
     place: usize,
-    text: &'t [u8],
-) -> Option<(&'t [u8], &'t [u8])>
-    ensures first { IfSome result (λ p. IsClearText text.now → 0 < length text.now → FitsFirst columns.now place text.now p.0.now p.1.now) }
-    ensures shorter { IfSome result (λ p. length p.1.now ≤ length text.now - 1) }
+    text: TextAhead<'t>,
+) -> Option<(&'t [u8], TextAhead<'t>)>
+    ensures first { IfSome result (λ p. IsClearText text.entry → 0 < length text.entry → FitsFirst columns.now place text.entry p.0.now p.1) }
+    ensures shorter { IfSome result (λ p. length p.1 ≤ length text.entry - 1) }
 {
     let column = column_at(columns.as_slice(), place)?;
-    let (piece, behind) = fitting_piece(columns.as_slice(), place, text)?;
+    let Some((piece, behind)) = fitting_piece(columns.as_slice(), place, text) else {
+        return None;
+    };
     Some((column.compared(piece), behind))
 }
 
@@ -83,7 +85,7 @@ fn lines_fit(columns: &TableColumns, place: usize, text: &[u8]) -> bool
     ensures rise { IsTrue result → IsClearText text.now → none_again [] (line_keys columns.now place text.now) ≡ true }
 {
     let mut last = None;
-    let mut rest = text;
+    let mut rest = TextAhead::new(text);
     'lines: while !rest.is_empty() {
         let Some((key, behind)) = fitting_key(columns, place, rest) else {
             return false;

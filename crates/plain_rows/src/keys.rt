@@ -11,7 +11,9 @@ ghost use Rattle.row_keys.specs.ByPlaces.{field_at};
 ghost use Rattle.std.specs.declared.cmp.Ordering.TheVariants.{Less};
 ghost use Rattle.plain_rows.specs.Lines.{HasAtMost, line_key, line_keys, none_again, same_some, AreAmong, AreKnown, all_among, by_length, AreUpTo};
 
+use crate::clear_keys::{clear_key_set, clear_keys_are_among, clear_keys_differ, clear_keys_rise};
 use data_rows::split_line;
+use field_marks::is_clear_text;
 use field_values::{ColumnValues, TableColumns};
 use key_sets::KeySet;
 use line_fields::{has_text_lines, is_clear, line_field};
@@ -97,7 +99,7 @@ fn exact_key<'t>(
 
 // How many numbers have places in the set of a text's keys: as many as it has bytes, which serves a sequence of them whose
 // lines have eleven bytes or more, and at most as many as have seven digits.
-fn number_places(text: &[u8]) -> usize {
+pub(crate) fn number_places(text: &[u8]) -> usize {
     text.len().min(20_000_000)
 }
 
@@ -112,16 +114,15 @@ fn add_new<'t>(seen: &mut KeySet<'t>, key: Option<&'t [u8]>) -> Result<bool, All
     }
 }
 
-fn add_new_key<'t>(seen: &mut KeySet<'t>, key: &'t [u8]) -> Result<bool, AllocError>
+pub(crate) fn add_new_key<'t>(seen: &mut KeySet<'t>, key: &'t [u8]) -> Result<bool, AllocError>
     ensures new { IfOk result (λ new. IsTrue new → (known : List (List ℕ)) → AreKnown known seen.old → list_any (same_text key.now) known ≡ false) }
     ensures added { OnOk result ((known : List (List ℕ)) → AreKnown known seen.old → AreKnown (key.now ∷ known) seen.new) }
 {
     Ok(seen.insert(key)?)
 }
 
-/// Whether no two lines of a text, up to its end mark, have one key in the column at this place; a null is no key. It may
-/// say no of a text that has a line whose fields don't stand in it as they are. The error is that memory ran out.
-pub fn keys_differ(
+// Whether no two lines of a text that has an escape, or none, have one key.
+fn read_keys_differ(
     alloc: Global,
     columns: &TableColumns,
     place: usize,
@@ -142,6 +143,23 @@ pub fn keys_differ(
         rest = behind;
     }
     Ok(true)
+}
+
+/// Whether no two lines of a text, up to its end mark, have one key in the column at this place; a null is no key. It may
+/// say no of a text that has a line whose fields don't stand in it as they are, or that has none at the place. The error is
+/// that memory ran out.
+pub fn keys_differ(
+    alloc: Global,
+    columns: &TableColumns,
+    place: usize,
+    text: &[u8],
+) -> Result<bool, AllocError>
+    ensures { IfOk result (λ differ. IsTrue differ → none_again [] (line_keys columns.now place text.now) ≡ true) }
+{
+    if is_clear_text(text) {
+        return clear_keys_differ(alloc, columns, place, text);
+    }
+    read_keys_differ(alloc, columns, place, text)
 }
 
 // How two keys stand by their lengths, and of one length by their bytes.
@@ -187,11 +205,8 @@ fn rise<'t>(last: &mut Option<&'t [u8]>, key: Option<&'t [u8]>) -> bool
     }
 }
 
-/// Whether the keys of the lines of a text, up to its end mark, rise in the column at this place, so that no two lines have one
-/// key: each is longer than those before it, or as long and greater byte by byte, as numbers of a sequence are. A null is no
-/// key. It may say no of a text that has a line whose fields don't stand in it as they are. It takes no memory for the keys; the
-/// error is that there was none for a line's fields.
-pub fn keys_rise(
+// Whether the keys of the lines of a text that has an escape, or none, rise, so that no two lines have one key.
+fn read_keys_rise(
     alloc: Global,
     columns: &TableColumns,
     place: usize,
@@ -214,8 +229,26 @@ pub fn keys_rise(
     Ok(true)
 }
 
+/// Whether the keys of the lines of a text, up to its end mark, rise in the column at this place, so that no two lines have one
+/// key: each is longer than those before it, or as long and greater byte by byte, as numbers of a sequence are. A null is no
+/// key. It may say no of a text that has a line whose fields don't stand in it as they are, or that has none at the place. It
+/// takes no memory for the keys; the error is that there was none for a line's fields.
+pub fn keys_rise(
+    alloc: Global,
+    columns: &TableColumns,
+    place: usize,
+    text: &[u8],
+) -> Result<bool, AllocError>
+    ensures { IfOk result (λ rise. IsTrue rise → none_again [] (line_keys columns.now place text.now) ≡ true) }
+{
+    if is_clear_text(text) {
+        return Ok(clear_keys_rise(columns, place, text));
+    }
+    read_keys_rise(alloc, columns, place, text)
+}
+
 // Adds a key that isn't null.
-fn add_key<'t>(keys: &mut KeySet<'t>, key: Option<&'t [u8]>) -> Result<(), AllocError>
+pub(crate) fn add_key<'t>(keys: &mut KeySet<'t>, key: Option<&'t [u8]>) -> Result<(), AllocError>
     ensures { OnOk result ((all : List (Option (List ℕ))) → AreAmong all keys.old → ((q : List ℕ) → same_some q (option_map (λ t. t.now) key.entry) ≡ true → list_any (same_some q) all ≡ true) → AreAmong all keys.new) }
 {
     if let Some(key) = key {
@@ -224,9 +257,8 @@ fn add_key<'t>(keys: &mut KeySet<'t>, key: Option<&'t [u8]>) -> Result<(), Alloc
     Ok(())
 }
 
-/// The keys of the lines of a text, up to its end mark, in the column at this place; `None` for a text that isn't UTF-8 or has
-/// a line whose fields don't stand in it as they are. The error is that memory ran out.
-pub fn key_set<'t>(
+// The keys of the lines of a text that has an escape, or none; `None` where a line's fields don't stand in it as they are.
+fn read_key_set<'t>(
     alloc: Global,
     columns: &TableColumns,
     place: usize,
@@ -250,8 +282,24 @@ pub fn key_set<'t>(
     Ok(Some(keys))
 }
 
+/// The keys of the lines of a text, up to its end mark, in the column at this place; `None` for a text that isn't UTF-8 or has
+/// a line whose fields don't stand in it as they are. The error is that memory ran out.
+pub fn key_set<'t>(
+    alloc: Global,
+    columns: &TableColumns,
+    place: usize,
+    text: &'t [u8],
+) -> Result<Option<KeySet<'t>>, AllocError>
+    ensures { IfOk result (λ found. IfSome found (λ set. AreAmong (line_keys columns.now place text.now) set)) }
+{
+    if is_clear_text(text) {
+        return clear_key_set(alloc, columns, place, text);
+    }
+    read_key_set(alloc, columns, place, text)
+}
+
 // Whether a key is one of the parents', or null.
-fn is_among(parents: &KeySet<'_>, key: Option<&[u8]>) -> bool
+pub(crate) fn is_among(parents: &KeySet<'_>, key: Option<&[u8]>) -> bool
     ensures { IsTrue result → (all more : List (Option (List ℕ))) → AreAmong all parents.now → all_among all more ≡ true → all_among all (option_map (λ t. t.now) key.entry ∷ more) ≡ true }
 {
     match key {
@@ -260,9 +308,8 @@ fn is_among(parents: &KeySet<'_>, key: Option<&[u8]>) -> bool
     }
 }
 
-/// Whether the key of each line of a text, up to its end mark, in the column at this place is one of these, or null. It may
-/// say no of a text that has a line whose fields don't stand in it as they are. The error is that memory ran out.
-pub fn keys_are_among(
+// Whether the key of each line of a text that has an escape, or none, is one of these, or null.
+fn read_keys_are_among(
     alloc: Global,
     columns: &TableColumns,
     place: usize,
@@ -283,4 +330,22 @@ pub fn keys_are_among(
         rest = behind;
     }
     Ok(true)
+}
+
+/// Whether the key of each line of a text, up to its end mark, in the column at this place is one of these, or null. It may
+/// say no of a text that has a line whose fields don't stand in it as they are, or that has none at the place. The error is
+/// that memory ran out.
+pub fn keys_are_among(
+    alloc: Global,
+    columns: &TableColumns,
+    place: usize,
+    text: &[u8],
+    parents: &KeySet<'_>,
+) -> Result<bool, AllocError>
+    ensures { IfOk result (λ among. IsTrue among → (all : List (Option (List ℕ))) → AreAmong all parents.now → all_among all (line_keys columns.now place text.now) ≡ true) }
+{
+    if is_clear_text(text) {
+        return Ok(clear_keys_are_among(columns, place, text, parents));
+    }
+    read_keys_are_among(alloc, columns, place, text, parents)
 }

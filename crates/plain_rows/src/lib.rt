@@ -4,6 +4,7 @@
 //! no of a line whose fields don't stand in it as they are, so that a no says nothing.
 #![tactic(auto)]
 
+mod clear_keys;
 mod fitting;
 mod fused;
 mod keys;

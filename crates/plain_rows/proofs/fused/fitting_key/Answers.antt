@@ -11,8 +11,8 @@ pub returns-clause-first : goal.returns-clause-first
 returns-clause-first c = λ is some.
     let columns = c.args.columns.now in
     let place = c.args.place in
-    let text = c.args.text.now in
-    let line = c.in_ok-piece.ensures in
+    let text = c.args.text in
+    let line = c.in-Some.ensures in
     let there = ap (λ (cs : List Column). slice_get cs place) (sym c.as_slice.ensures) ∙ sym c.in_ok-column.ensures in
     let fits = subst (λ (cs : List Column). AllZip TakesPiece cs (pieces (first_line text))) c.as_slice-2.ensures (line.fits is.clear) in
-    first_fits columns c.in_ok-column.column.now place text c.compared.result.now c.in_ok-piece.behind.now c.in_ok-piece.piece.now some is there fits (line.piece is.clear) c.compared.ensures (line.line is.clear)
+    first_fits columns c.in_ok-column.column.now place text c.compared.result.now c.in-Some.behind c.in-Some.piece.now some is there (line.piece is.clear) c.compared.ensures (line.line is.clear) fits

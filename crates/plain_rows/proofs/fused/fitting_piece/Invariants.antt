@@ -10,8 +10,8 @@ use Rattle.plain_rows.proofs.fused.fitting_piece.Given as goal
 
 abbrev pub invariant-loop-i : goal.invariant-loop-i
 invariant-loop-i l = record {
-  reached : IsClear l.text → IsReached l.text l.i l.rest;
-  taken : IsClear l.text → AllZip TakesPiece (drop l.i l.columns) (pieces (first_line l.rest)) → AllZip TakesPiece l.columns (pieces (first_line l.text));
-  there : IsClear l.text → (p : List ℕ) → option_map (λ t. t.now) l.found ≡ Some p → slice_get (pieces (first_line l.text)) l.place ≡ Some p;
-  short : length l.rest ≤ length l.text;
+  reached : IsClear l.fn.text → IsReached l.fn.text l.i l.rest;
+  taken : IsClear l.fn.text → AllZip TakesPiece (drop l.i l.columns) (pieces (first_line l.rest)) → AllZip TakesPiece l.columns (pieces (first_line l.fn.text));
+  there : IsClear l.fn.text → (p : List ℕ) → option_map (λ t. t.now) l.found ≡ Some p → slice_get (pieces (first_line l.fn.text)) l.place ≡ Some p;
+  short : length l.rest ≤ length l.fn.text;
 }

@@ -1,0 +1,4 @@
+pub mod Ends
+pub mod Following
+pub mod Lanes
+pub mod Plain
