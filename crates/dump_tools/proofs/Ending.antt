@@ -17,7 +17,7 @@ use Rattle.tool_words.specs.declared.outcome.Outcome.{Outcome}
 use Rattle.tool_words.specs.declared.outcome.Outcome.TheVariants.{Done, Usage, ReadFault, WriteFault, Missing, BadExport, BadScript, OutOfProfile, TooLarge, Differs, ScriptStopped, BadArchive, BadList, BadDefn, WithErrors, RestoreStopped, Loop, NoMatch, Memory}
 use Rattle.tool_words.specs.Answers.{IsDue}
 use Rattle.dump_tools.specs.Runs.{IsEarly}
-use Rattle.dump_tools.specs.Due.{Application, Comes, Applied, Running, Runs, Leaves, IsAnswerDue}
+use Rattle.dump_tools.specs.Due.{Application, Comes, Applied, Running, Runs, left_by_run, Leaves, IsAnswerDue}
 use Rattle.schema_folders.proofs.Named.{named-IsPermutation}
 use Rattle.schema_folders.proofs.Standing.{folder_holds}
 
@@ -50,7 +50,7 @@ applied plan schemas text before after g same n save = record {
 -- ---- a script that runs on an opening
 
 -- what it leaves isn't written
-pub unmade_due : (outcome : Outcome) (plan : Running) → IsUnwritten outcome → IsAnswerDue outcome (Ok (Runs plan))
+pub unmade_due : (outcome : Outcome) (plan : Running) → IsUnwritten plan.opening.cat (left_by_run plan) outcome → IsAnswerDue outcome (Ok (Runs plan))
 unmade_due Done plan h = elim h [ ]
 unmade_due (Usage word kind) plan h = elim h [ ]
 unmade_due ReadFault plan h = elim h [ ]
@@ -58,8 +58,8 @@ unmade_due WriteFault plan h = elim h [ ]
 unmade_due (Missing name) plan h = elim h [ ]
 unmade_due (BadExport file line kind) plan h = elim h [ ]
 unmade_due (BadScript fault) plan h = elim h [ ]
-unmade_due (OutOfProfile what) plan h = inr (inr (h, inl (plan, refl)))
-unmade_due (TooLarge what most) plan h = inr (inr (inl (plan, refl)))
+unmade_due (OutOfProfile what) plan h = inr (inr (h.0, inl (plan, refl, h.1)))
+unmade_due (TooLarge what most) plan h = inr (inr (inl (plan, refl, h)))
 unmade_due (Differs key) plan h = elim h [ ]
 unmade_due (ScriptStopped stop) plan h = elim h [ ]
 unmade_due (BadArchive fault) plan h = elim h [ ]
@@ -72,8 +72,8 @@ unmade_due (NoMatch pattern) plan h = elim h [ ]
 unmade_due Memory plan h = inl tt
 
 -- texts of a folder that stands for what the statements make
-pub leaves : (plan : Running) (made : WithTexts) → StandFor (ending plan.stop plan.boot plan.statements (export_named plan.opening)).left made → Leaves plan made.texts
-leaves plan made stands = record { export = made.export; same = stands.same; reads = stands.reads }
+pub leaves : (plan : Running) (made : WithTexts) → StandFor plan.opening.cat (left_by_run plan) made → Leaves plan made.texts
+leaves plan made stands = record { export = made.export; same = stands.same; reads = stands.reads; made_of = stands.made_of }
 
 -- ---- an answer of which two things are known
 

@@ -154,5 +154,5 @@ pub may_run : (teller : Teller) (plan : Running) (texts : Texts) → Leaves plan
 may_run teller plan texts leaves = inl (record { texts = texts; leaves = leaves; is = refl })
 
 -- the run of a restore into a folder
-pub may_restore : (teller : Teller) (plan : Restoring) (texts : Option WithTexts) → LeavesEnding plan.how (ending plan) texts → MayCome teller (Ok (Restores plan)) (stored_run (files_restored plan.folder texts) (report_of_restore plan) (answer_due plan))
+pub may_restore : (teller : Teller) (plan : Restoring) (texts : Option WithTexts) → LeavesEnding plan.work.opening.cat plan.how (ending plan) texts → MayCome teller (Ok (Restores plan)) (stored_run (files_restored plan.folder texts) (report_of_restore plan) (answer_due plan))
 may_restore teller plan texts leaves = inl (record { texts = texts; leaves = leaves; is = refl })

@@ -3,7 +3,10 @@ use Rattle.std.proofs.Common.{◌≡◌, ℕ, List, [], ◌∷◌, Option, Resul
 use Rattle.dump_ports.specs.Tree.{Tree}
 use Rattle.dump_ports.specs.Faults.{HasRisen}
 use Rattle.dump_ports.specs.declared.moment.Moment.{Moment}
+use Rattle.cat_model.specs.declared.words.What.{What}
+use Rattle.cat_model.specs.declared.words.What.TheVariants.{Unbuilt}
 use Rattle.cat_model.specs.Values.{Bytes}
+use Rattle.tool_words.specs.declared.outcome.Limit.{Limit}
 use Rattle.tool_words.specs.declared.outcome.Outcome.{Outcome}
 use Rattle.tool_words.specs.declared.outcome.Outcome.TheVariants.{Done, Usage, ReadFault, WriteFault, Missing, BadExport, BadScript, OutOfProfile, TooLarge, Differs, ScriptStopped, BadArchive, BadList, BadDefn, WithErrors, RestoreStopped, Loop, NoMatch, Memory}
 use Rattle.tool_words.specs.declared.words.Teller.{Teller}
@@ -11,9 +14,9 @@ use Rattle.tool_words.specs.Words.{teller_of}
 use Rattle.tool_words.specs.Answers.{IsRefusal, IsTold}
 use Rattle.tool_words.specs.Lines.{Appends, AppendsPart}
 use Rattle.tool_words.specs.Messages.{outcome_line}
-use Rattle.dump_tools.specs.Due.{Plan, IsFinal, IsAnswerDue, IsDifference, IsToRun, IsUnmade, Counts, NoneRose, Counted, due}
+use Rattle.dump_tools.specs.Due.{Plan, IsFinal, IsAnswerDue, IsDifference, IsTooLarge, LacksOids, IsUnmade, Counts, NoneRose, Counted, due}
 use Rattle.dump_tools.specs.Outputs.{World, world, Tells}
-use Rattle.dump_tools.specs.Runs.{told_run, IsUnmadeAnswer, MayCome, HasCut, IsEarly, HasEndedEarly, read_by, Ended, Answered}
+use Rattle.dump_tools.specs.Runs.{told_run, MayCome, HasCut, IsEarly, HasEndedEarly, read_by, Ended, Answered}
 use Rattle.dump_tools.proofs.Taking.{Begun, alone, behind_ended, behind_cut}
 use Rattle.dump_tools.proofs.Putting.{told_part, told_whole}
 use Rattle.dump_tools.proofs.Counting.{none_early}
@@ -45,9 +48,13 @@ may_differ teller d (NoMatch pattern, h) = elim h [ ]
 may_differ teller d (Memory, h) = elim h [ ]
 
 -- the line of what a script or a restore leaves and isn't written
-may_be_unmade : (teller : Teller) (d : Result Plan Outcome) (answer : Outcome) → IsUnmadeAnswer answer → IsToRun d → MayCome teller d (told_run teller answer)
-may_be_unmade teller d answer unmade (inl run) = subst (λ r. MayCome teller r (told_run teller answer)) (sym run.1) (inr (answer, unmade, refl))
-may_be_unmade teller d answer unmade (inr restore) = subst (λ r. MayCome teller r (told_run teller answer)) (sym restore.1) (inr (answer, unmade, refl))
+may_be_large : (teller : Teller) (d : Result Plan Outcome) (what : Limit) (most : ℕ) → IsTooLarge (TooLarge what most) d → MayCome teller d (told_run teller (TooLarge what most))
+may_be_large teller d what most (inl run) = subst (λ r. MayCome teller r (told_run teller (TooLarge what most))) (sym run.1) (inr (TooLarge what most, run.2, refl))
+may_be_large teller d what most (inr restore) = subst (λ r. MayCome teller r (told_run teller (TooLarge what most))) (sym restore.1) (inr (TooLarge what most, restore.2, refl))
+
+may_lack_oids : (teller : Teller) (d : Result Plan Outcome) (what : What) → what ≡ Unbuilt → LacksOids d → MayCome teller d (told_run teller (OutOfProfile what))
+may_lack_oids teller d what is (inl run) = subst (λ r. MayCome teller r (told_run teller (OutOfProfile what))) (sym run.1) (inr (OutOfProfile what, (is, run.2), refl))
+may_lack_oids teller d what is (inr restore) = subst (λ r. MayCome teller r (told_run teller (OutOfProfile what))) (sym restore.1) (inr (OutOfProfile what, (is, restore.2), refl))
 
 may_stop : (teller : Teller) (d : Result Plan Outcome) (h : (a : Outcome) × IsUnmade a d) → MayCome teller d (told_run teller h.0)
 may_stop teller d (Done, h) = elim h [ ]
@@ -57,8 +64,8 @@ may_stop teller d (WriteFault, h) = elim h [ ]
 may_stop teller d (Missing name, h) = elim h [ ]
 may_stop teller d (BadExport file line kind, h) = elim h [ ]
 may_stop teller d (BadScript fault, h) = elim h [ ]
-may_stop teller d (OutOfProfile what, h) = may_be_unmade teller d (OutOfProfile what) h.0 h.1
-may_stop teller d (TooLarge what most, h) = may_be_unmade teller d (TooLarge what most) tt h
+may_stop teller d (OutOfProfile what, h) = may_lack_oids teller d what h.0 h.1
+may_stop teller d (TooLarge what most, h) = may_be_large teller d what most h
 may_stop teller d (Differs key, h) = elim h [ ]
 may_stop teller d (ScriptStopped stop, h) = elim h [ ]
 may_stop teller d (BadArchive fault, h) = elim h [ ]

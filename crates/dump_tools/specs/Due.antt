@@ -1,7 +1,7 @@
 -- What is due for the words of a command line, the files and standard input: the first refusal of its steps in their
 -- order, or a plan that is carried out. And what the files hold once it is.
 use Rattle.std.specs.Prelude.{◌≡◌, Bool, true, ℕ, ◌+◌, ◌≤◌, List, [], ◌∷◌, ◌++◌, length, map, Option, Some, None, option_map, Result, Ok, Err, ◌⊎◌, codes, nat_le, not, ◌&&◌, unwrap_or, if◌then◌else◌}
-use Rattle.std.specs.List.{All, IsDistinct}
+use Rattle.std.specs.List.{All, AllByRecursion, IsDistinct}
 use Rattle.std.specs.List.Sorted.{IsPermutation}
 use Rattle.cat_rows.specs.declared.table.SysTable.TheVariants.{PgNamespace}
 use Rattle.cat_rows.specs.Writing.{IsWritten}
@@ -13,6 +13,9 @@ use Rattle.cat_model.specs.declared.key.Key.{Key}
 use Rattle.std.specs.Result.{result_ok}
 use Rattle.cat_rows.specs.declared.catalogue.Catalogue.{Catalogue}
 use Rattle.cat_names.specs.Naming.{boot as boot_role}
+use Rattle.cat_sound.specs.Fit.{IsFit}
+use Rattle.ddl_laws.specs.Respelling.{said as statements_in}
+use Rattle.sound_texts.specs.Grammar.{grammar}
 use Rattle.cat_model.specs.declared.words.What.TheVariants.{Unbuilt}
 use Rattle.ddl_read.specs.declared.fault.DdlFault.{DdlFault}
 use Rattle.ddl_read.specs.Reading.{statements_of}
@@ -36,11 +39,12 @@ use Rattle.tool_words.specs.declared.words.ArchiveAsked.{ArchiveAsked}
 use Rattle.tool_words.specs.declared.words.RestoreAsked.{RestoreAsked}
 use Rattle.command_line.specs.declared.command.RestoreWords.{RestoreWords}
 use Rattle.restore_outcomes.specs.Texts.{path_text, input_text}
-use Rattle.restore_tools.specs.Due.{Restoring, answer_due, restore_due as restoring_due}
+use Rattle.restore_tools.specs.Due.{Restoring, ending as restored, answer_due, restore_due as restoring_due}
 use Rattle.restore_tools.specs.Standing.{IsCarriedOut as HasRestored}
 use Rattle.dump_tools.specs.Outputs.{Output, Tells, world, all_performed, puts}
 use Rattle.tool_words.specs.Words.{words_asked}
 use Rattle.script_runs.specs.Stopping.{ending, told}
+use Rattle.script_runs.specs.Writing.{NoOidIsLeft, IsPastLimit, IsMadeOf}
 use Rattle.dump_ports.specs.declared.moment.Moment.{Moment}
 use Rattle.schema_folders.specs.Texts.{file_of}
 use Rattle.exports.specs.Exports.{Exported, formed_of, export_of}
@@ -257,10 +261,15 @@ abbrev pub plan_of : Bytes → Work → Plan
 plan_of folder (work.Schemas schemas) = Applies (application_of folder schemas)
 plan_of folder (work.Script script) = Runs (running_of folder script)
 
--- the statements of work on schemas are all of kinds that are carried out on schemas alone
+-- statements that leave a catalogue in order, as those that are read do
+abbrev pub AreFit : List Located → Type 0
+AreFit statements = AllByRecursion (IsFit grammar) (statements_in statements)
+
+-- The statements of work on schemas are all of kinds that are carried out on schemas alone. Those of any other script are such
+-- as are read, and its role is the opening's.
 abbrev pub IsTaken : Work → Type 0
 IsTaken (work.Schemas schemas) = are_taken schemas.statements.items ≡ true
-IsTaken (work.Script script) = Unit {0}
+IsTaken (work.Script script) = (boot_role script.opening.cat ≡ Some script.boot) × AreFit script.statements.items
 
 -- ---- what stands once a plan is carried out
 
@@ -288,12 +297,17 @@ pub record Applied (plan : Application) (before after : Option Tree) : Type 0 wh
 abbrev pub report_of : Application → List ℕ
 report_of plan = report (refusals boot plan.statements (named plan.rows))
 
--- What the statements leave of the opening, by names: these files are of a folder that is read as an export which stands
--- for it, whatever was there before.
+-- what the statements leave of the opening, by names
+abbrev pub left_by_run : Running → Named
+left_by_run plan = (ending plan.stop plan.boot plan.statements (export_named plan.opening)).left
+
+-- These files are of a folder that is read as an export which stands for that, whatever was there before; and its tables were
+-- made of the opening's, so that what had an oid has the same.
 pub record Leaves (plan : Running) (texts : Texts) : Type 0 where
   pub export : Exported
-  pub same : export_named export ≡ (ending plan.stop plan.boot plan.statements (export_named plan.opening)).left
+  pub same : export_named export ≡ left_by_run plan
   pub reads : ReadsAs texts export
+  pub made_of : IsMadeOf plan.opening.cat (left_by_run plan) export
 
 -- The folder was written: each of its files holds its whole text.
 pub record Ran (plan : Running) (before after : Option Tree) : Type 0 where
@@ -386,15 +400,19 @@ abbrev pub IsDifference : Outcome → Result Plan Outcome → Type 0
 IsDifference (Differs key) due = DiffersAt due key
 IsDifference outcome due = ⊥
 
--- a script is to run on an opening, or an archive is to be restored into one
-abbrev pub IsToRun : Result Plan Outcome → Type 0
-IsToRun due = ((plan : Running) × (due ≡ Ok (Runs plan))) ⊎ ((plan : Restoring) × (due ≡ Ok (Restores plan)))
+-- a script is to run, or a restore, and a folder of what it leaves is past a limit
+abbrev pub IsTooLarge : Outcome → Result Plan Outcome → Type 0
+IsTooLarge refusal due = ((plan : Running) × (due ≡ Ok (Runs plan)) × IsPastLimit plan.opening.cat (left_by_run plan) refusal) ⊎ ((plan : Restoring) × (due ≡ Ok (Restores plan)) × IsPastLimit plan.work.opening.cat (restored plan).left refusal)
 
--- A script is to run, or a restore, and what it leaves isn't written: its files would be over a limit of reading, or rows
--- that stand for it weren't found.
+-- a script is to run, or a restore, and no oid is left for what it makes of its opening
+abbrev pub LacksOids : Result Plan Outcome → Type 0
+LacksOids due = ((plan : Running) × (due ≡ Ok (Runs plan)) × NoOidIsLeft plan.opening.cat) ⊎ ((plan : Restoring) × (due ≡ Ok (Restores plan)) × NoOidIsLeft plan.work.opening.cat)
+
+-- A script is to run, or a restore, and what it leaves isn't written: its files would be over a limit of reading, or no oid is
+-- left for what is new.
 abbrev pub IsUnmade : Outcome → Result Plan Outcome → Type 0
-IsUnmade (TooLarge limit most) due = IsToRun due
-IsUnmade (OutOfProfile what) due = (what ≡ Unbuilt) × IsToRun due
+IsUnmade (TooLarge limit most) due = IsTooLarge (TooLarge limit most) due
+IsUnmade (OutOfProfile what) due = (what ≡ Unbuilt) × LacksOids due
 IsUnmade outcome due = ⊥
 
 -- an answer other than Done: the refusal that is due, the difference to which the plan that is due comes, or that what a

@@ -4,6 +4,7 @@ use Rattle.std.specs.Prelude.{◌≡◌, ℕ, ◌++◌, List, [], ◌∷◌, map
 use Rattle.dump_ports.specs.Tree.{Tree}
 use Rattle.dump_ports.specs.Faults.{HasRisen}
 use Rattle.dump_ports.specs.declared.moment.Moment.{Moment}
+use Rattle.cat_rows.specs.declared.catalogue.Catalogue.{Catalogue}
 use Rattle.cat_model.specs.Values.{Bytes, Named}
 use Rattle.cat_model.specs.declared.key.Key.{Key}
 use Rattle.cat_same.specs.Verdicts.{IsLeastDifference}
@@ -18,9 +19,10 @@ use Rattle.restore_folders.specs.Written.{LeavesEnding, files_written as files_r
 use Rattle.restore_tools.specs.Due.{Restoring, ending, answer_due, report_of as report_of_restore}
 use Rattle.saved_folders.specs.Exports.{WithTexts}
 use Rattle.saved_folders.specs.Folders.{Texts, files_of}
+use Rattle.script_runs.specs.Writing.{NoOidIsLeft, IsPastLimit}
 use Rattle.dump_plain.specs.Dumps.{BadRow}
 use Rattle.dump_plans.specs.Outcomes.{bad_row_outcome}
-use Rattle.dump_tools.specs.Due.{Application, Running, Plan, Applies, Runs, Puts, Restores, Compares, dump_line, Comes, Leaves, report_of, report_of_run, answer_of_run, due}
+use Rattle.dump_tools.specs.Due.{Application, Running, Plan, Applies, Runs, Puts, Restores, Compares, dump_line, Comes, left_by_run, Leaves, report_of, report_of_run, answer_of_run, due}
 use Rattle.dump_tools.specs.Inputs.{where_read, IsTaken, HasTaken}
 use Rattle.dump_tools.specs.Outputs.{World, Output, Tells, Takes, all_performed, IsPart, CutShort, stores, puts}
 use Rattle.dump_outputs.specs.Forms.{Putting}
@@ -53,26 +55,26 @@ pub record IsRan (plan : Running) (run : Run) : Type 0 where
   pub leaves : Leaves plan texts
   pub is : run ≡ run_of (map stores (files_of plan.folder texts) ++ Tells (report_of_run plan) ∷ []) (answer_of_run plan)
 
--- what a script or a restore leaves isn't written
-abbrev pub IsUnmadeAnswer : Outcome → Type 0
-IsUnmadeAnswer (TooLarge limit most) = Unit {0}
-IsUnmadeAnswer (OutOfProfile what) = what ≡ Unbuilt
-IsUnmadeAnswer answer = ⊥
+-- what a script or a restore makes of this opening isn't written
+abbrev pub IsUnmadeAnswer : Catalogue → Named → Outcome → Type 0
+IsUnmadeAnswer opening named (TooLarge limit most) = IsPastLimit opening named (TooLarge limit most)
+IsUnmadeAnswer opening named (OutOfProfile what) = (what ≡ Unbuilt) × NoOidIsLeft opening
+IsUnmadeAnswer opening named answer = ⊥
 
 -- A script is run, or what it leaves isn't written.
 abbrev pub MayBeRun : Teller → Running → Run → Type 0
-MayBeRun teller plan run = IsRan plan run ⊎ ((answer : Outcome) × IsUnmadeAnswer answer × (run ≡ told_run teller answer))
+MayBeRun teller plan run = IsRan plan run ⊎ ((answer : Outcome) × IsUnmadeAnswer plan.opening.cat (left_by_run plan) answer × (run ≡ told_run teller answer))
 
 -- An archive is restored: the files of the folder that stands for what the restore leaves are stored one after another, the
 -- marker last, or none where it stopped and is undone; and then its report is told.
 pub record IsRestored (plan : Restoring) (run : Run) : Type 0 where
   pub texts : Option WithTexts
-  pub leaves : LeavesEnding plan.how (ending plan) texts
+  pub leaves : LeavesEnding plan.work.opening.cat plan.how (ending plan) texts
   pub is : run ≡ run_of (map stores (files_restored plan.folder texts) ++ Tells (report_of_restore plan) ∷ []) (answer_due plan)
 
 -- An archive is restored, or what the restore leaves isn't written.
 abbrev pub MayBeRestored : Teller → Restoring → Run → Type 0
-MayBeRestored teller plan run = IsRestored plan run ⊎ ((answer : Outcome) × IsUnmadeAnswer answer × (run ≡ told_run teller answer))
+MayBeRestored teller plan run = IsRestored plan run ⊎ ((answer : Outcome) × IsUnmadeAnswer plan.work.opening.cat (ending plan).left answer × (run ≡ told_run teller answer))
 
 -- Texts are put out; where a row fails some first part of them, and its line is told.
 abbrev pub put_by : List Piece → Option BadRow → Run → Type 0

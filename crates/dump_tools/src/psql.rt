@@ -9,7 +9,7 @@ ghost use Rattle.tool_words.specs.Answers.{Gives, CountsRead, IsDue, IsLate, IsR
 ghost use Rattle.tool_words.specs.Words.{is_input};
 ghost use Rattle.schema_folders.specs.Statements.{are_taken};
 ghost use Rattle.openings.specs.Openings.{opened};
-ghost use Rattle.dump_tools.specs.Due.{Applies, Runs, application_of, running_of, plan_of, IsTaken, schemas_for, IsFinal, answer_of, answer_of_run, stop_answer, script_read, running, runs_as, plan_with, plan_for, text_due, psql_due, IsAnswerDue, IsUnread, IsCarriedOut, WasDue, counts, CountsStep, CountsWrites};
+ghost use Rattle.dump_tools.specs.Due.{AreFit, Applies, Runs, application_of, running_of, plan_of, IsTaken, schemas_for, IsFinal, answer_of, answer_of_run, stop_answer, script_read, running, runs_as, plan_with, plan_for, text_due, psql_due, IsAnswerDue, IsUnread, IsCarriedOut, WasDue, counts, CountsStep, CountsWrites};
 ghost use Rattle.tool_words.specs.Lines.{Appends, AppendsPart};
 ghost use Rattle.dump_ports.specs.Faults.{CountsFault};
 ghost use Rattle.dump_tools.specs.Inputs.{where_read, TellsLeft};
@@ -60,6 +60,7 @@ enum Work {
 #[tactic(auto, unfolding(crate::specs::Due::script_read))]
 fn read_statements(alloc: Global, text: &[u8]) -> Result<Vec<Located>, Outcome>
     ensures exact { Gives (λ statements. statements.items) result (script_read text.now) }
+    ensures fit { IfOk result (λ statements. AreFit statements.items) }
     ensures count { (n : ℕ) → CountsRead result n n }
 {
     Ok(read_stmts(alloc, text)?)
@@ -96,6 +97,8 @@ fn work_with(
     opening: Opening,
     boot: Option<Name>,
 ) -> Result<Work, Outcome>
+    requires role { boot ≡ boot_role opening.cat }
+    requires fit { AreFit statements.items }
     ensures due { (folder : Bytes) → Gives (plan_of folder) result (runs_as folder stop statements.items opening boot) }
     ensures taken { IfOk result IsTaken }
     ensures count { (n : ℕ) → CountsRead result n n }
@@ -113,6 +116,7 @@ fn work_with(
 
 /// The work of a script on an opening.
 fn opening_work(statements: Vec<Located>, stop: bool, opening: Opening) -> Result<Work, Outcome>
+    requires { AreFit statements.items }
     ensures due { (folder : Bytes) → Gives (plan_of folder) result (runs_as folder stop statements.items opening (boot_role opening.cat)) }
     ensures taken { IfOk result IsTaken }
     ensures count { (n : ℕ) → CountsRead result n n }
@@ -128,6 +132,7 @@ fn export_work(
     stop: bool,
     export: Export,
 ) -> Result<Work, Outcome>
+    requires { AreFit statements.items }
     ensures due { (folder : Bytes) → Gives (plan_of folder) result (running folder stop statements.items export) }
     ensures taken { IfOk result IsTaken }
     ensures count { (n : ℕ) → CountsRead result n n }
@@ -144,7 +149,8 @@ fn work_of(
     export: Export,
     schemas: Option<Schemas>,
 ) -> Result<Work, Outcome>
-    requires { IfSome schemas (λ _. are_taken statements.items ≡ true) }
+    requires taken { IfSome schemas (λ _. are_taken statements.items ≡ true) }
+    requires fit { AreFit statements.items }
     ensures due { (folder : Bytes) → Gives (plan_of folder) result (plan_with folder stop statements.items export schemas) }
     ensures taken { IfOk result IsTaken }
     ensures count { (n : ℕ) → CountsRead result n n }
@@ -166,6 +172,7 @@ fn plan_work(
     stop: bool,
     export: Export,
 ) -> Result<Work, Outcome>
+    requires { AreFit statements.items }
     ensures due { (folder : Bytes) → Gives (plan_of folder) result (plan_for folder stop statements.items export) }
     ensures taken { IfOk result IsTaken }
     ensures count { (n : ℕ) → CountsRead result n n }
@@ -261,6 +268,8 @@ fn run_script_work<F: Files, E: Sink>(
     folder: &Text,
     work: ScriptWork,
 ) -> Result<Outcome, Outcome>
+    requires role { boot_role work.opening.cat ≡ Some work.boot }
+    requires fit { AreFit work.statements.items }
     ensures answers { IfOk result (λ answer. answer ≡ answer_of_run (running_of folder.now work)) }
     ensures ends { IfOk result IsFinal }
     ensures ok { OnOk result ((printed : Option (List ℕ)) → IsCarriedOut (Runs (running_of folder.now work)) (F.tree files.old) (F.tree files.new) printed printed (E.written err.old) (E.written err.new)) }

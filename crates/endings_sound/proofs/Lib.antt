@@ -1,3 +1,1 @@
-pub mod Scripts
-pub mod Entries
 pub mod Openings

@@ -21,8 +21,8 @@ use Rattle.sound_folders.proofs.Opened.{is_loaded, folder_sound}
 use Rattle.sound_texts.proofs.Writable.{all_fit}
 use Rattle.toc_entry.specs.declared.entry.Entry.{Entry}
 use Rattle.well_formed.proofs.Formed.{well_formed}
-use Rattle.endings_sound.proofs.Scripts.{script_left}
-use Rattle.endings_sound.proofs.Entries.{entries_fit, restore_left}
+use Rattle.script_runs.proofs.Kept.{script_left}
+use Rattle.restore_folders.proofs.Ready.{entries_fit, restore_left}
 
 module _ (folder : Bytes) (tree : Tree) (opening : Exported) (role : Bytes) (taken : opened_folder folder tree ≡ Ok opening) (is_role : boot opening.cat ≡ Some role) where
   started : IsLeft opening.cat opening.rows role (export_named opening)

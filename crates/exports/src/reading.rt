@@ -2,6 +2,7 @@
 ghost use Rattle.std.specs.Prelude.{◌≡◌, ℕ, Some, None};
 ghost use Rattle.dump_ports.specs.Tree.{Tree};
 ghost use Rattle.table_rows.specs.Values.{values_fault};
+ghost use Rattle.well_formed.specs.Catalogues.{catalogue_fault};
 ghost use Rattle.folder_io.specs.Folders.{bytes_of};
 ghost use Rattle.tool_words.specs.Answers.{Gives, CountsRead};
 ghost use Rattle.exports.specs.Exports.{formed_with, formed_of, texts_with, texts_of, held, export_of};
@@ -36,10 +37,11 @@ impl Model for Export {
 
     ghost use Rattle.std.specs.Prelude.{◌≡◌, None};
     ghost use Rattle.table_rows.specs.Values.{values_fault};
+    ghost use Rattle.well_formed.specs.Catalogues.{catalogue_fault};
 
     ghost view = { λ e. record { cat = e.cat; rows = e.rows } };
 
-    ghost invariant = { λ e. values_fault e.cat e.rows ≡ None };
+    ghost invariant = { λ e. (catalogue_fault e.cat ≡ None) × (values_fault e.cat e.rows ≡ None) };
 }
 
 impl Export {
@@ -50,9 +52,10 @@ impl Export {
         &self.cat
     }
 
-    /// The texts of its tables' rows. Each table has one, and it holds rows of the table.
+    /// The texts of its tables' rows. Each table has one, and it holds rows of the table, whose catalogue is well-formed.
     pub fn rows(&self) -> &DataSet
         ensures rows { result.now ≡ self.now.rows }
+        ensures formed { catalogue_fault self.now.cat ≡ None }
         ensures hold { values_fault self.now.cat self.now.rows ≡ None }
     {
         &self.rows

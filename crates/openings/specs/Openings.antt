@@ -13,6 +13,7 @@ use Rattle.tool_words.specs.declared.outcome.ExportFault.TheVariants.{Values}
 use Rattle.tool_words.specs.declared.outcome.Outcome.{Outcome}
 use Rattle.tool_words.specs.declared.outcome.Outcome.TheVariants.{BadExport}
 use Rattle.tool_words.specs.Answers.{◌>>=◌}
+use Rattle.well_formed.specs.Catalogues.{catalogue_fault}
 use Rattle.exports.specs.Exports.{Exported, export_of}
 
 -- the row at which a table fails, counted from 1: of two with one key the second
@@ -46,7 +47,8 @@ opened_folder folder tree = export_of folder tree >>= opened
 unfoldable pub export_named : Exported → Named
 export_named export = catalogue_named export.cat (rows_by_oid export.rows)
 
--- the map is what the export stands for, and its rows meet their tables
+-- the map is what the export stands for, which is well-formed, and its rows meet their tables
 pub record IsMap (export : Exported) (map : Named) : Type 0 where
   pub stands : map ≡ export_named export
+  pub formed : catalogue_fault export.cat ≡ None
   pub meets : rows_fault export.cat export.rows ≡ None

@@ -1,7 +1,8 @@
 //! A folder read as an opening.
-ghost use Rattle.std.specs.Prelude.{◌≡◌, ◌≢◌, ℕ, Option, Some, None, Ok, Err, IfErr, IfOk, Result};
+ghost use Rattle.std.specs.Prelude.{◌≡◌, ◌≢◌, ℕ, Option, Some, None, Ok, Err, IfErr, IfOk, OnOk, Result};
 ghost use Rattle.dump_ports.specs.Tree.{Tree};
 ghost use Rattle.table_rows.specs.Values.{values_fault};
+ghost use Rattle.well_formed.specs.Catalogues.{catalogue_fault};
 ghost use Rattle.cat_load.specs.Loads.{rows_fault};
 ghost use Rattle.tool_words.specs.Answers.{Gives, CountsRead};
 ghost use Rattle.exports.specs.Exports.{Exported};
@@ -46,6 +47,7 @@ impl Opening {
     /// The catalogue and the texts of its tables' rows.
     pub fn export(&self) -> &Export
         ensures export { result.now ≡ self.now }
+        ensures formed { catalogue_fault self.now.cat ≡ None }
         ensures meets { rows_fault self.now.cat self.now.rows ≡ None }
     {
         &self.export
@@ -62,6 +64,8 @@ impl Opening {
     pub fn into_parts(self) -> (Export, NamedMap)
         ensures export { result.0 ≡ self }
         ensures named { result.1 ≡ export_named self }
+        ensures formed { catalogue_fault self.cat ≡ None }
+        ensures meets { rows_fault self.cat self.rows ≡ None }
     {
         let Opening { export, named } = self;
         (export, named)
@@ -101,6 +105,7 @@ fn load_outcome(fault: LoadFault) -> Outcome
 fn load_export(alloc: Global, export: &Export) -> Result<NamedMap, Outcome>
     ensures due { Gives (λ _. tt) result (meet (rows_fault export.now.cat export.now.rows)) }
     ensures named { IfOk result (λ map. map ≡ export_named export.now) }
+    ensures formed { OnOk result (catalogue_fault export.now.cat ≡ None) }
     ensures count { (n : ℕ) → CountsRead result n n }
 {
     match load(alloc, export.catalogue(), export.rows()) {

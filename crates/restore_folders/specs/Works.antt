@@ -1,6 +1,6 @@
 -- A restore into a folder: what it works on once all is read, or the first refusal of the steps. What is taken of the archive
 -- was read before; the folder is read as an opening, and then each entry as statements.
-use Rattle.std.specs.Prelude.{ℕ, ◌==◌, Bool, true, false, List, Option, Some, None, Result, Ok, Err, if◌then◌else◌}
+use Rattle.std.specs.Prelude.{◌≡◌, ℕ, ◌==◌, Bool, true, false, List, Option, Some, None, Result, Ok, Err, if◌then◌else◌}
 use Rattle.dump_ports.specs.Tree.{Tree}
 use Rattle.toc_entry.specs.declared.entry.Entry.{Entry}
 use Rattle.cat_model.specs.declared.words.What.TheVariants.{Unbuilt}
@@ -8,6 +8,7 @@ use Rattle.cat_model.specs.Values.{Bytes}
 use Rattle.cat_names.specs.Naming.{boot as boot_role}
 use Rattle.exports.specs.Exports.{Exported}
 use Rattle.openings.specs.Openings.{export_named, opened_folder}
+use Rattle.restores_sound.specs.Fit.{AreFitEntries}
 use Rattle.restore_plan.specs.declared.entry.Entry as planned
 use Rattle.restore_steps.specs.declared.fault.PlanFault.{PlanFault}
 use Rattle.restore_steps.specs.declared.fault.PlanFault.TheVariants as plan
@@ -28,6 +29,11 @@ pub record Work : Type 0 where
   pub opening : Exported
   pub entries : List Entry
   pub wanted : List planned.Entry
+
+-- the role is the opening's, and the statements are such as are read
+pub record IsReady (work : Work) : Type 0 where
+  pub role : boot_role work.opening.cat ≡ Some work.boot
+  pub fit : AreFitEntries work.wanted
 
 -- ---- the steps
 

@@ -2,6 +2,7 @@
 -- stops writes nothing then.
 use Rattle.std.specs.Prelude.{◌≡◌, Bool, true, false, List, [], Option, Some, None}
 use Rattle.dump_ports.specs.Tree.{Tree}
+use Rattle.cat_rows.specs.declared.catalogue.Catalogue.{Catalogue}
 use Rattle.cat_model.specs.Values.{Bytes, Named}
 use Rattle.saved_folders.specs.Exports.{WithTexts}
 use Rattle.saved_folders.specs.Files.{File, saved}
@@ -17,14 +18,14 @@ abbrev pub is_written : OnRefusal → Option Stopping → Bool
 is_written Undo (Some stop) = false
 is_written how stopped = true
 
--- the texts of a folder that stands for a catalogue by names, where it is written
-abbrev pub Leaves : Bool → Named → Option WithTexts → Type 0
-Leaves written named (Some made) = (written ≡ true) × StandFor named made
-Leaves written named None = written ≡ false
+-- the texts of a folder that stands for what an opening became, where it is written
+abbrev pub Leaves : Catalogue → Bool → Named → Option WithTexts → Type 0
+Leaves opening written named (Some made) = (written ≡ true) × StandFor opening named made
+Leaves opening written named None = written ≡ false
 
--- the texts that a restore writes
-abbrev pub LeavesEnding : OnRefusal → Ending → Option WithTexts → Type 0
-LeavesEnding how ending texts = Leaves (is_written how ending.stopped) ending.left texts
+-- the texts that a restore on an opening writes
+abbrev pub LeavesEnding : Catalogue → OnRefusal → Ending → Option WithTexts → Type 0
+LeavesEnding opening how ending texts = Leaves opening (is_written how ending.stopped) ending.left texts
 
 -- the files that are written, in order
 abbrev pub files_written : Bytes → Option WithTexts → List File

@@ -7,7 +7,8 @@ ghost use Rattle.restore_runs.specs.Wanted.{wanted_due};
 ghost use Rattle.tool_words.specs.Answers.{Gives, CountsRead};
 ghost use Rattle.restore_input.specs.Answers.{texts_seen};
 ghost use Rattle.restore_folders.specs.Seen.{work_seen};
-ghost use Rattle.restore_folders.specs.Works.{plan_outcome, in_entries, with_boot, with_role, work_due};
+ghost use Rattle.restores_sound.specs.Fit.{AreFitEntries};
+ghost use Rattle.restore_folders.specs.Works.{plan_outcome, in_entries, with_boot, with_role, work_due, IsReady};
 
 use crate::work::RestoreWork;
 use cat_model::What;
@@ -41,6 +42,7 @@ fn wanted_of(
     owners: bool,
 ) -> Result<Vec<Entry>, Outcome>
     ensures due { Gives (λ v. v.items) result (in_entries (wanted_due owners entries.now (texts_seen texts.items))) }
+    ensures fit { IfOk result (λ v. AreFitEntries v.items) }
     ensures count { (n : ℕ) → CountsRead result n n }
 {
     match wanted_entries(alloc, entries, texts, owners) {
@@ -65,7 +67,9 @@ fn with_boot(
     opening: Opening,
     boot: Name,
 ) -> Result<RestoreWork, Outcome>
+    requires { boot_role opening.cat ≡ Some boot }
     ensures due { Gives work_seen result (with_boot owners (input_seen input) opening boot) }
+    ensures ready { IfOk result (λ work. IsReady (work_seen work)) }
     ensures count { (n : ℕ) → CountsRead result n n }
 {
     let RestoreInput { entries, texts } = input;
@@ -93,7 +97,9 @@ fn with_role(
     opening: Opening,
     boot: Option<Name>,
 ) -> Result<RestoreWork, Outcome>
+    requires { boot ≡ boot_role opening.cat }
     ensures due { Gives work_seen result (with_role owners (input_seen input) opening boot) }
+    ensures ready { IfOk result (λ work. IsReady (work_seen work)) }
     ensures count { (n : ℕ) → CountsRead result n n }
 {
     match boot {
@@ -110,6 +116,7 @@ fn with_opening(
     opening: Opening,
 ) -> Result<RestoreWork, Outcome>
     ensures due { Gives work_seen result (with_role owners (input_seen input) opening (boot_role opening.cat)) }
+    ensures ready { IfOk result (λ work. IsReady (work_seen work)) }
     ensures count { (n : ℕ) → CountsRead result n n }
 {
     match boot_of(&opening) {
@@ -137,6 +144,7 @@ pub fn read_work<F: Files>(
     owners: bool,
 ) -> Result<RestoreWork, Outcome>
     ensures due { (tree : Tree) → F.tree files.old ≡ Some tree → Gives work_seen result (work_due owners folder.now (input_seen input) tree) }
+    ensures ready { IfOk result (λ work. IsReady (work_seen work)) }
     ensures kept { F.tree files.new ≡ F.tree files.old }
     ensures read_count { CountsRead result (F.read_faults files.old) (F.read_faults files.new) }
     ensures write_count { F.write_faults files.new ≡ F.write_faults files.old }

@@ -4,7 +4,8 @@ ghost use Rattle.openings.specs.Openings.{export_named};
 ghost use Rattle.script_runs.specs.Writing.{IsUnwritten};
 ghost use Rattle.restore_runs.specs.Endings.{ending};
 ghost use Rattle.restore_folders.specs.Seen.{work_seen};
-ghost use Rattle.restore_folders.specs.Works.{stops, ending_of};
+ghost use Rattle.opening_sound.specs.Export.{CanBeExported};
+ghost use Rattle.restore_folders.specs.Works.{stops, ending_of, IsReady};
 ghost use Rattle.restore_folders.specs.Written.{is_written, Leaves, LeavesEnding};
 
 use crate::refusal::OnRefusal;
@@ -42,8 +43,9 @@ fn texts_for(
     how: OnRefusal,
     stopped: &Option<RestoreStop>,
 ) -> Result<Option<ExportTexts>, Outcome>
-    ensures leaves { IfOk result (Leaves (is_written how stopped.now) named.now) }
-    ensures unwritten { IfErr result IsUnwritten }
+    requires { CanBeExported opening.now named.now }
+    ensures leaves { IfOk result (Leaves opening.now (is_written how stopped.now) named.now) }
+    ensures unwritten { IfErr result (IsUnwritten opening.now named.now) }
 {
     if how.writes(stopped) {
         Ok(Some(named_texts(alloc, named, opening)?))
@@ -60,11 +62,12 @@ fn with_texts(
     how: OnRefusal,
     told: RestoreTold,
 ) -> Result<RestoreRun, Outcome>
-    ensures leaves { IfOk result (λ run. Leaves (is_written how told.stopped) named.now run.texts) }
+    requires { CanBeExported opening.now named.now }
+    ensures leaves { IfOk result (λ run. Leaves opening.now (is_written how told.stopped) named.now run.texts) }
     ensures report { IfOk result (λ run. run.report.items ≡ told.report.items) }
     ensures errors { IfOk result (λ run. run.errors ≡ told.errors) }
     ensures stopped { IfOk result (λ run. run.stopped ≡ told.stopped) }
-    ensures unwritten { IfErr result IsUnwritten }
+    ensures unwritten { IfErr result (IsUnwritten opening.now named.now) }
 {
     match texts_for(alloc, named, opening, how, &told.stopped) {
         Ok(texts) => Ok(RestoreRun {
@@ -90,11 +93,12 @@ fn run_on(
     how: OnRefusal,
     teller: &[u8],
 ) -> Result<RestoreRun, Outcome>
-    ensures leaves { IfOk result (λ run. LeavesEnding how (ending (stops how) teller.now engine.old.boot entries.now wanted.items engine.old.named) run.texts) }
+    requires { CanBeExported opening.now (ending (stops how) teller.now engine.old.boot entries.now wanted.items engine.old.named).left }
+    ensures leaves { IfOk result (λ run. LeavesEnding opening.now how (ending (stops how) teller.now engine.old.boot entries.now wanted.items engine.old.named) run.texts) }
     ensures report { IfOk result (λ run. run.report.items ≡ (ending (stops how) teller.now engine.old.boot entries.now wanted.items engine.old.named).told) }
     ensures errors { IfOk result (λ run. run.errors ≡ (ending (stops how) teller.now engine.old.boot entries.now wanted.items engine.old.named).errors) }
     ensures stopped { IfOk result (λ run. run.stopped ≡ (ending (stops how) teller.now engine.old.boot entries.now wanted.items engine.old.named).stopped) }
-    ensures unwritten { IfErr result IsUnwritten }
+    ensures unwritten { IfErr result (IsUnwritten opening.now (ending (stops how) teller.now engine.old.boot entries.now wanted.items engine.old.named).left) }
 {
     let told = run_entries(alloc, engine, teller, entries, wanted, how.stops())?;
     with_texts(alloc, engine.named(), opening, how, told)
@@ -102,23 +106,24 @@ fn run_on(
 
 /// Carries out a restore on its opening, with one worker: its entries one after another, in their order. What they leave
 /// becomes the texts of a folder, but where the restore stopped and is undone. `teller` is the name of the tool, with which
-/// each line of the report begins.
+/// each line of the report begins. The work's role is the opening's of oid 10, and its statements are such as are read.
 ///
 /// # Errors
 ///
-/// `TooLarge` where the files of what they leave would be over a limit of reading, `Memory`, or `OutOfProfile(Unbuilt)`
-/// where the rows that were made for it don't stand for it, which no case shows.
+/// `TooLarge` where the files of what they leave would be over a limit of reading, `OutOfProfile(Unbuilt)` where no oid is left
+/// for what is new, or `Memory`.
 pub fn run_work(
     alloc: Global,
     work: RestoreWork,
     how: OnRefusal,
     teller: &[u8],
 ) -> Result<RestoreRun, Outcome>
-    ensures leaves { IfOk result (λ run. LeavesEnding how (ending_of how teller.now (work_seen work)) run.texts) }
+    requires { IsReady (work_seen work) }
+    ensures leaves { IfOk result (λ run. LeavesEnding work.opening.cat how (ending_of how teller.now (work_seen work)) run.texts) }
     ensures report { IfOk result (λ run. run.report.items ≡ (ending_of how teller.now (work_seen work)).told) }
     ensures errors { IfOk result (λ run. run.errors ≡ (ending_of how teller.now (work_seen work)).errors) }
     ensures stopped { IfOk result (λ run. run.stopped ≡ (ending_of how teller.now (work_seen work)).stopped) }
-    ensures unwritten { IfErr result IsUnwritten }
+    ensures unwritten { IfErr result (IsUnwritten work.opening.cat (ending_of how teller.now (work_seen work)).left) }
 {
     let RestoreWork {
         opening,

@@ -5,7 +5,7 @@ use Rattle.restore_runs.specs.Reports.{Stopping}
 use Rattle.script_runs.specs.Writing.{IsUnwritten}
 use Rattle.tool_words.specs.declared.outcome.Outcome.{Outcome}
 use Rattle.tool_words.specs.declared.outcome.Outcome.TheVariants.{Done, Usage, ReadFault, WriteFault, Missing, BadExport, BadScript, OutOfProfile, TooLarge, Differs, ScriptStopped, BadArchive, BadList, BadDefn, WithErrors, RestoreStopped, Loop, NoMatch, Memory}
-use Rattle.restore_tools.specs.Due.{Restoring}
+use Rattle.restore_tools.specs.Due.{Restoring, ending}
 use Rattle.restore_tools.specs.Standing.{IsAnswer, IsAnswerDue}
 
 by_count : (errors : ℕ) (b : Bool) → IsAnswer (if b then Done else WithErrors errors)
@@ -18,7 +18,7 @@ answers_end errors (Some stop) = tt
 answers_end errors None = by_count errors (errors == 0)
 
 -- what it leaves isn't written
-pub unmade_due : (outcome : Outcome) (plan : Restoring) → IsUnwritten outcome → IsAnswerDue outcome (Ok plan)
+pub unmade_due : (outcome : Outcome) (plan : Restoring) → IsUnwritten plan.work.opening.cat (ending plan).left outcome → IsAnswerDue outcome (Ok plan)
 unmade_due Done plan h = elim h [ ]
 unmade_due (Usage word kind) plan h = elim h [ ]
 unmade_due ReadFault plan h = elim h [ ]
@@ -26,8 +26,8 @@ unmade_due WriteFault plan h = elim h [ ]
 unmade_due (Missing name) plan h = elim h [ ]
 unmade_due (BadExport file line kind) plan h = elim h [ ]
 unmade_due (BadScript fault) plan h = elim h [ ]
-unmade_due (OutOfProfile what) plan h = inr (h, (plan, refl))
-unmade_due (TooLarge what most) plan h = inr (plan, refl)
+unmade_due (OutOfProfile what) plan h = inr (h.0, (plan, refl, h.1))
+unmade_due (TooLarge what most) plan h = inr (plan, refl, h)
 unmade_due (Differs key) plan h = elim h [ ]
 unmade_due (ScriptStopped stop) plan h = elim h [ ]
 unmade_due (BadArchive fault) plan h = elim h [ ]

@@ -7,7 +7,7 @@ use Rattle.saved_folders.specs.Folders.{folder_saved}
 use Rattle.restore_tools.specs.Due.{Restoring, ending}
 use Rattle.restore_tools.specs.Standing.{Restored, ReadsBack}
 
-with_texts : (plan : Restoring) (before after : Option Tree) (tree : Tree) (texts : Option WithTexts) → LeavesEnding plan.how (ending plan) texts → after ≡ option_map (tree_after plan.folder texts) before → before ≡ Some tree
+with_texts : (plan : Restoring) (before after : Option Tree) (tree : Tree) (texts : Option WithTexts) → LeavesEnding plan.work.opening.cat plan.how (ending plan) texts → after ≡ option_map (tree_after plan.folder texts) before → before ≡ Some tree
     → is_written plan.how (ending plan).stopped ≡ true → ReadsBack plan after
 with_texts plan before after tree None leaves saved known written = let never : false ≡ true = sym leaves ∙ written in cc
 with_texts plan before after tree (Some made) leaves saved known written = record {
@@ -25,7 +25,7 @@ kept : (plan : Restoring) (before : Option Tree) → option_map (tree_after plan
 kept plan None = refl
 kept plan (Some tree) = refl
 
-without_texts : (plan : Restoring) (before after : Option Tree) (texts : Option WithTexts) → LeavesEnding plan.how (ending plan) texts → after ≡ option_map (tree_after plan.folder texts) before
+without_texts : (plan : Restoring) (before after : Option Tree) (texts : Option WithTexts) → LeavesEnding plan.work.opening.cat plan.how (ending plan) texts → after ≡ option_map (tree_after plan.folder texts) before
     → is_written plan.how (ending plan).stopped ≡ false → after ≡ before
 without_texts plan before after None leaves saved written = saved ∙ kept plan before
 without_texts plan before after (Some made) leaves saved written = let never : false ≡ true = sym written ∙ leaves.0 in cc

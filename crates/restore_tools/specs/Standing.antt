@@ -8,6 +8,7 @@ use Rattle.openings.specs.Openings.{export_named}
 use Rattle.restore_folders.specs.Written.{LeavesEnding, files_written, tree_after}
 use Rattle.saved_folders.specs.Exports.{WithTexts}
 use Rattle.saved_folders.specs.Files.{PartSaved}
+use Rattle.script_runs.specs.Writing.{NoOidIsLeft, IsPastLimit}
 use Rattle.tool_words.specs.declared.outcome.Outcome.{Outcome}
 use Rattle.tool_words.specs.declared.outcome.Outcome.TheVariants.{Done, ReadFault, WriteFault, OutOfProfile, TooLarge, WithErrors, RestoreStopped}
 use Rattle.tool_words.specs.Answers.{IsDue}
@@ -27,7 +28,7 @@ IsAnswer outcome = ⊥
 -- was undone.
 pub record Restored (plan : Restoring) (before after : Option Tree) : Type 0 where
   pub texts : Option WithTexts
-  pub leaves : LeavesEnding plan.how (ending plan) texts
+  pub leaves : LeavesEnding plan.work.opening.cat plan.how (ending plan) texts
   pub saved : after ≡ option_map (tree_after plan.folder texts) before
 
 -- and then its report was told
@@ -52,15 +53,19 @@ pub record ReadsBack (plan : Restoring) (after : Option Tree) : Type 0 where
 
 -- ---- another answer
 
--- a restore is to run
-abbrev pub IsToRestore : Result Restoring Outcome → Type 0
-IsToRestore due = (plan : Restoring) × (due ≡ Ok plan)
+-- a restore is to run, and a folder of what it leaves is past a limit
+abbrev pub IsTooLarge : Outcome → Result Restoring Outcome → Type 0
+IsTooLarge refusal due = (plan : Restoring) × (due ≡ Ok plan) × IsPastLimit plan.work.opening.cat (ending plan).left refusal
 
--- A restore is to run, and what it leaves isn't written: its files would be over a limit of reading, or rows that stand
--- for it weren't found.
+-- a restore is to run, and no oid is left for what it makes of its opening
+abbrev pub LacksOids : Result Restoring Outcome → Type 0
+LacksOids due = (plan : Restoring) × (due ≡ Ok plan) × NoOidIsLeft plan.work.opening.cat
+
+-- A restore is to run, and what it leaves isn't written: its files would be over a limit of reading, or no oid is left for what
+-- is new.
 abbrev pub IsUnmade : Outcome → Result Restoring Outcome → Type 0
-IsUnmade (TooLarge limit most) due = IsToRestore due
-IsUnmade (OutOfProfile what) due = (what ≡ Unbuilt) × IsToRestore due
+IsUnmade (TooLarge limit most) due = IsTooLarge (TooLarge limit most) due
+IsUnmade (OutOfProfile what) due = (what ≡ Unbuilt) × LacksOids due
 IsUnmade outcome due = ⊥
 
 -- the refusal that is due, or that what the restore leaves isn't written
@@ -77,7 +82,7 @@ IsUnread outcome = Unit {0}
 -- the writing of the folder ended on its way, and nothing was told
 pub record CutInFiles (plan : Restoring) (before after : Option Tree) (told_before told_after : Option (List ℕ)) : Type 0 where
   pub texts : Option WithTexts
-  pub leaves : LeavesEnding plan.how (ending plan) texts
+  pub leaves : LeavesEnding plan.work.opening.cat plan.how (ending plan) texts
   pub saved : PartSaved (files_written plan.folder texts) before after
   pub silent : told_after ≡ told_before
 

@@ -1,7 +1,8 @@
 //! What is read before anything is restored.
-ghost use Rattle.std.specs.Prelude.{◌≡◌, not, Some};
+ghost use Rattle.std.specs.Prelude.{◌≡◌, not, Some, IfOk};
 ghost use Rattle.dump_ports.specs.Tree.{Tree};
 ghost use Rattle.restore_folders.specs.Seen.{work_seen};
+ghost use Rattle.restore_folders.specs.Works.{IsReady};
 ghost use Rattle.restore_input.specs.Answers.{input_seen};
 ghost use Rattle.restore_outcomes.specs.Told.{told};
 ghost use Rattle.tool_words.specs.Answers.{Gives, CountsRead};
@@ -100,6 +101,7 @@ pub(crate) fn read_all<F: Files>(
     words: &RestoreWords,
 ) -> Result<RestoreWork, Outcome>
     ensures due { (tree : Tree) → F.tree files.old ≡ Some tree → Gives work_seen result (work_of folder.now archive.now words.now input.now tree) }
+    ensures ready { IfOk result (λ work. IsReady (work_seen work)) }
     ensures kept { F.tree files.new ≡ F.tree files.old }
     ensures read_count { CountsRead result (F.read_faults files.old) (F.read_faults files.new) }
     ensures write_count { F.write_faults files.new ≡ F.write_faults files.old }

@@ -2,6 +2,7 @@
 ghost use Rattle.std.specs.Prelude.{◌≡◌, Ok, Some, IfErr, IfOk, OnErr, OnOk};
 ghost use Rattle.dump_ports.specs.Tree.{Tree};
 ghost use Rattle.restore_folders.specs.Seen.{work_seen};
+ghost use Rattle.restore_folders.specs.Works.{IsReady};
 ghost use Rattle.tool_words.specs.Answers.{IsRefusal, IsTold};
 ghost use Rattle.restore_tools.specs.Due.{restoring, restore_due, answer_due};
 ghost use Rattle.restore_tools.specs.Standing.{IsAnswer, IsCarriedOut, WasRestored, IsAnswerDue, IsUnread, IsCutOff, HasCut, CountsReads, CountsWrites};
@@ -25,6 +26,7 @@ fn carry_out<F: Files, E: Sink>(
     work: RestoreWork,
     how: OnRefusal,
 ) -> Result<Outcome, Outcome>
+    requires { IsReady (work_seen work) }
     ensures answers { IfOk result (λ answer. answer ≡ answer_due (restoring folder.now how (work_seen work))) }
     ensures ok { OnOk result (IsCarriedOut (restoring folder.now how (work_seen work)) (F.tree files.old) (F.tree files.new) (E.written err.old) (E.written err.new)) }
     ensures unread { IfErr result IsUnread }
@@ -57,7 +59,7 @@ fn carry_out<F: Files, E: Sink>(
 ///
 /// It answers `Done`, `WithErrors` with the number of errors, or `RestoreStopped`, which was told. Any other answer is the
 /// caller's to tell: `Missing`, `TooLarge`, `BadArchive`, `BadList`, `BadExport`, `BadDefn` or `OutOfProfile` of the step
-/// that refused; `TooLarge` or `OutOfProfile(Unbuilt)` where what was restored isn't written; and `ReadFault`, `WriteFault`
+/// that refused; `TooLarge` or, where no oid is left, `OutOfProfile(Unbuilt)`, where what was restored isn't written; and `ReadFault`, `WriteFault`
 /// and `Memory`. But for `WriteFault` and `Memory` nothing was written.
 /// <https://www.postgresql.org/docs/16/app-pgrestore.html>
 #[tactic(auto, unfolding(crate::specs::Due::restore_due))]

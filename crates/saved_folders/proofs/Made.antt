@@ -1,5 +1,5 @@
 -- What is known of the texts that were made, once they were read in memory.
-use Rattle.std.proofs.Common.{◌≡◌, ℕ, List, [], map, Result, Ok, ap, sym, subst, ◌∙◌}
+use Rattle.std.proofs.Common.{◌≡◌, ◌⊎◌, inl, inr, ℕ, List, [], map, Result, Ok, Err, refl, ap, sym, subst, ◌∙◌}
 use Rattle.std.specs.List.{AllByRecursion}
 use Rattle.std.specs.FinMap.{empty}
 use Rattle.dump_ports.specs.Tree.{Tree}
@@ -10,9 +10,10 @@ use Rattle.table_rows.specs.Tables.{table_oids}
 use Rattle.folder_io.specs.Folders.{TextOfTable, all_tables}
 use Rattle.exports.specs.Exports.{Exported, export_of}
 use Rattle.tool_words.specs.declared.outcome.Outcome.{Outcome}
+use Rattle.tool_words.specs.declared.outcome.Outcome.TheVariants.{Done, Usage, ReadFault, WriteFault, Missing, BadExport, BadScript, OutOfProfile, TooLarge, Differs, ScriptStopped, BadArchive, BadList, BadDefn, WithErrors, RestoreStopped, Loop, NoMatch, Memory}
 use Rattle.tool_words.specs.Answers.{IsDue}
 use Rattle.saved_folders.specs.Folders.{Texts, DataText, data_text, texts_with, folder_saved, IsTextOf, AreTexts}
-use Rattle.saved_folders.specs.Exports.{rows_kept, ReadsAs, IsReordered}
+use Rattle.saved_folders.specs.Exports.{rows_kept, ReadsAs, IsReordered, IsCallFree, HasNoTexts}
 use Rattle.saved_folders.proofs.Kept.{texts_kept}
 
 -- the two laws
@@ -42,6 +43,28 @@ module _ (alike : ReadAlike) (cat : Catalogue) (rows : TextsByOid) (oids : List 
   pub due_of : (export : Exported) → export_of [] (folder_saved [] (texts_with rows oids tables) empty) ≡ Ok export
       → (texts : Texts) → AreTexts cat rows texts → (folder : Bytes) (tree : Tree) → export_of folder (folder_saved folder texts tree) ≡ Ok export
   due_of export read texts others folder tree = alike cat rows texts (texts_with rows oids tables) others are folder [] tree empty ∙ read
+
+  -- a refusal for which there are no texts
+  pub has_no_texts : (outcome : Outcome) → IsDue outcome (export_of [] (folder_saved [] (texts_with rows oids tables) empty)) → IsCallFree outcome → HasNoTexts cat rows outcome
+  has_no_texts Done due free = inr (texts_with rows oids tables, are, due)
+  has_no_texts (Usage word kind) due free = inr (texts_with rows oids tables, are, due)
+  has_no_texts ReadFault due free = elim free [ ]
+  has_no_texts WriteFault due free = elim free [ ]
+  has_no_texts (Missing name) due free = inr (texts_with rows oids tables, are, due)
+  has_no_texts (BadExport file line kind) due free = inr (texts_with rows oids tables, are, due)
+  has_no_texts (BadScript fault) due free = inr (texts_with rows oids tables, are, due)
+  has_no_texts (OutOfProfile what) due free = inr (texts_with rows oids tables, are, due)
+  has_no_texts (TooLarge limit most) due free = inr (texts_with rows oids tables, are, due)
+  has_no_texts (Differs key) due free = inr (texts_with rows oids tables, are, due)
+  has_no_texts (ScriptStopped stop) due free = inr (texts_with rows oids tables, are, due)
+  has_no_texts (BadArchive fault) due free = inr (texts_with rows oids tables, are, due)
+  has_no_texts (BadList fault) due free = inr (texts_with rows oids tables, are, due)
+  has_no_texts (BadDefn entry fault) due free = inr (texts_with rows oids tables, are, due)
+  has_no_texts (WithErrors errors) due free = inr (texts_with rows oids tables, are, due)
+  has_no_texts (RestoreStopped stop) due free = inr (texts_with rows oids tables, are, due)
+  has_no_texts (Loop path) due free = inr (texts_with rows oids tables, are, due)
+  has_no_texts (NoMatch pattern) due free = inr (texts_with rows oids tables, are, due)
+  has_no_texts Memory due free = inl refl
 
 module _ (alike : ReadAlike) (keep : KeepRows) (cat : Catalogue) (rows : TextsByOid) (oids : List ℕ) (tables : List TextOfTable) (made : IsMade cat rows oids tables) (export : Exported) (read : export_of [] (folder_saved [] (texts_with rows oids tables) empty) ≡ Ok export) where
   pub is_kept : IsReordered cat rows export

@@ -1,6 +1,6 @@
 -- What a folder that was written is read as.
-use Rattle.std.specs.Prelude.{◌≡◌, map, Result, Ok, Err}
-use Rattle.std.specs.FinMap.{from_entries}
+use Rattle.std.specs.Prelude.{◌≡◌, ◌⊎◌, [], map, Result, Ok, Err}
+use Rattle.std.specs.FinMap.{empty, from_entries}
 use Rattle.dump_ports.specs.Tree.{Tree}
 use Rattle.cat_rows.specs.declared.table.SysTable.{SysTable}
 use Rattle.cat_rows.specs.declared.catalogue.Catalogue.{Catalogue}
@@ -12,8 +12,8 @@ use Rattle.table_rows.specs.Tables.{table_oids}
 use Rattle.table_rows.specs.Values.{text_of}
 use Rattle.exports.specs.Exports.{Exported, export_of}
 use Rattle.tool_words.specs.declared.outcome.Outcome.{Outcome}
-use Rattle.tool_words.specs.declared.outcome.Outcome.TheVariants.{ReadFault, WriteFault, TooLarge}
-use Rattle.saved_folders.specs.Folders.{Texts, folder_saved}
+use Rattle.tool_words.specs.declared.outcome.Outcome.TheVariants.{ReadFault, WriteFault, TooLarge, Memory}
+use Rattle.saved_folders.specs.Folders.{Texts, AreTexts, folder_saved}
 
 -- an export, and the texts of its folder
 pub record WithTexts : Type 0 where
@@ -32,6 +32,10 @@ rows_kept cat rows = from_entries (map (λ oid. (oid, text_of rows oid)) (table_
 pub record IsReordered (cat : Catalogue) (rows : TextsByOid) (export : Exported) : Type 0 where
   pub order : (table : SysTable) → IsInOrder table (rows_in table cat) (rows_in table export.cat)
   pub texts : export.rows ≡ rows_kept cat rows
+
+-- why there are no texts: memory ran out, or a folder to which they are written is read as no export
+abbrev pub HasNoTexts : Catalogue → TextsByOid → Outcome → Type 0
+HasNoTexts cat rows outcome = (outcome ≡ Memory) ⊎ ((texts : Texts) × AreTexts cat rows texts × (export_of [] (folder_saved [] texts empty) ≡ Err outcome))
 
 -- an answer that comes without a call on the outside
 abbrev pub IsCallFree : Outcome → Type 0

@@ -7,7 +7,7 @@ ghost use Rattle.exports.specs.Exports.{export_of};
 ghost use Rattle.tool_words.specs.Answers.{Gives, CountsWrite, IsLate};
 ghost use Rattle.saved_folders.specs.Files.{PartSaved};
 ghost use Rattle.saved_folders.specs.Folders.{Texts, AreTexts, files_of, folder_saved};
-ghost use Rattle.saved_folders.specs.Exports.{ReadsAs, IsReordered, IsCallFree};
+ghost use Rattle.saved_folders.specs.Exports.{ReadsAs, IsReordered, IsCallFree, HasNoTexts};
 
 use crate::laws::{written_folders_keep_their_rows, written_folders_read_alike};
 use crate::reading::read_back;
@@ -74,13 +74,14 @@ impl ExportTexts {
 /// The texts are read once, in memory. So the answer is what reading the folder would give: `TooLarge` where the text of
 /// a system table or of a table's rows has more than 134,217,728 bytes, or all texts together have more than 268,435,456,
 /// and `BadExport` or `OutOfProfile` where the catalogue isn't well-formed or a text doesn't hold rows of its table.
-/// `Memory` may come for any texts.
+/// `Memory` may come for any texts, and no other answer comes.
 pub fn make_texts(alloc: Global, cat: &Catalogue, rows: &DataSet) -> Result<ExportTexts, Outcome>
     ensures texts { IfOk result (λ made. AreTexts cat.now rows.now made.texts) }
     ensures reads { IfOk result (λ made. ReadsAs made.texts made.export) }
     ensures kept { IfOk result (λ made. IsReordered cat.now rows.now made.export) }
     ensures due { (texts : Texts) → AreTexts cat.now rows.now texts → (folder : Bytes) (tree : Tree) → Gives (λ made. made.export) result (export_of folder (folder_saved folder texts tree)) }
     ensures call_free { IfErr result IsCallFree }
+    ensures unread { IfErr result (HasNoTexts cat.now rows.now) }
 {
     written_folders_read_alike();
     written_folders_keep_their_rows();

@@ -3,7 +3,12 @@ ghost use Rattle.std.specs.Prelude.{◌≡◌, ◌++◌, [], ◌∷◌, true, fa
 ghost use Rattle.cat_model.specs.declared.cause.Cause.{Cause as TheCause};
 ghost use Rattle.cat_model.specs.Values.{Named};
 ghost use Rattle.eng_steps.specs.Outcomes.{IsRefusal};
-ghost use Rattle.cat_names.specs.Naming.{boot};
+ghost use Rattle.cat_names.specs.Naming.{boot as boot_role};
+ghost use Rattle.std.specs.List.{AllByRecursion};
+ghost use Rattle.cat_sound.specs.Fit.{IsFit};
+ghost use Rattle.ddl_laws.specs.Respelling.{said as statements_in};
+ghost use Rattle.opening_sound.specs.Export.{CanBeExported};
+ghost use Rattle.sound_texts.specs.Grammar.{grammar};
 ghost use Rattle.tool_words.specs.Messages.{Refusal, report};
 ghost use Rattle.schema_folders.specs.Run.{said, next, noted, catalogue_after, refusals};
 ghost use Rattle.openings.specs.Openings.{export_named};
@@ -205,10 +210,11 @@ fn with_texts(
     opening: &Catalogue,
     told: Told,
 ) -> Result<ScriptRun, Outcome>
-    ensures stands { IfOk result (λ run. StandFor named.now run.texts) }
+    requires { CanBeExported opening.now named.now }
+    ensures stands { IfOk result (λ run. StandFor opening.now named.now run.texts) }
     ensures reported { IfOk result (λ run. run.report.items ≡ told.report.items) }
     ensures stopped { IfOk result (λ run. run.stopped ≡ told.stopped) }
-    ensures unwritten { IfErr result IsUnwritten }
+    ensures unwritten { IfErr result (IsUnwritten opening.now named.now) }
 {
     match named_texts(alloc, named, opening) {
         Ok(texts) => Ok(ScriptRun {
@@ -231,23 +237,24 @@ fn run_on(
     statements: &[Located],
     stop: bool,
 ) -> Result<ScriptRun, Outcome>
-    ensures stands { IfOk result (λ run. StandFor (ending stop engine.old.boot statements.now engine.old.named).left run.texts) }
+    requires { CanBeExported opening.now (ending stop engine.old.boot statements.now engine.old.named).left }
+    ensures stands { IfOk result (λ run. StandFor opening.now (ending stop engine.old.boot statements.now engine.old.named).left run.texts) }
     ensures reported { IfOk result (λ run. run.report.items ≡ told stop engine.old.boot statements.now engine.old.named) }
     ensures stopped { IfOk result (λ run. run.stopped ≡ (ending stop engine.old.boot statements.now engine.old.named).stopped) }
-    ensures unwritten { IfErr result IsUnwritten }
+    ensures unwritten { IfErr result (IsUnwritten opening.now (ending stop engine.old.boot statements.now engine.old.named).left) }
 {
     let told = run_script(alloc, engine, statements, stop)?;
     with_texts(alloc, engine.named(), opening, told)
 }
 
 /// Runs the statements of a script on an opening, in order. A statement that is refused changes nothing; then the script
-/// stops, where it is to, or the next one is tried. What they leave becomes the texts of a folder. `boot` owns what is
-/// created.
+/// stops, where it is to, or the next one is tried. What they leave becomes the texts of a folder. `boot`, the opening's role of
+/// oid 10, owns what is created; the statements are such as are read.
 ///
 /// # Errors
 ///
-/// `TooLarge` where the files of what they leave would be over a limit of reading, `Memory`, or `OutOfProfile(Unbuilt)`
-/// where the rows that were made for it don't stand for it, which no case shows.
+/// `TooLarge` where the files of what they leave would be over a limit of reading, `OutOfProfile(Unbuilt)` where no oid is left
+/// for what is new, or `Memory`.
 pub fn run_opening(
     alloc: Global,
     opening: Opening,
@@ -255,10 +262,12 @@ pub fn run_opening(
     statements: &[Located],
     stop: bool,
 ) -> Result<ScriptRun, Outcome>
-    ensures stands { IfOk result (λ run. StandFor (ending stop boot statements.now (export_named opening)).left run.texts) }
+    requires role { boot_role opening.cat ≡ Some boot }
+    requires fit { AllByRecursion (IsFit grammar) (statements_in statements.now) }
+    ensures stands { IfOk result (λ run. StandFor opening.cat (ending stop boot statements.now (export_named opening)).left run.texts) }
     ensures reported { IfOk result (λ run. run.report.items ≡ told stop boot statements.now (export_named opening)) }
     ensures stopped { IfOk result (λ run. run.stopped ≡ (ending stop boot statements.now (export_named opening)).stopped) }
-    ensures unwritten { IfErr result IsUnwritten }
+    ensures unwritten { IfErr result (IsUnwritten opening.cat (ending stop boot statements.now (export_named opening)).left) }
 {
     let (export, named) = opening.into_parts();
     let mut engine = Engine::new(alloc, named, boot);

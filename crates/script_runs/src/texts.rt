@@ -1,116 +1,129 @@
-//! The texts of a folder that stands for a catalogue by names.
-ghost use Rattle.std.specs.Prelude.{◌≡◌, None, IfErr, IfOk, IsTrue, OnOk};
-ghost use Rattle.table_rows.specs.Values.{values_fault};
-ghost use Rattle.openings.specs.Openings.{export_named};
-ghost use Rattle.saved_folders.specs.Exports.{ReadsAs};
-ghost use Rattle.script_runs.specs.Writing.{IsUnwritten, StandFor};
+//! The texts of a folder that stands for what an opening became.
+ghost use Rattle.std.specs.Prelude.{◌≡◌, None, Some, IfErr, IfOk, IfSome};
+ghost use Rattle.opening_sound.specs.Export.{CanBeExported, IsExported};
+ghost use Rattle.script_runs.specs.Writing.{current_name, IsUnwritten, NoOidIsLeft, StandFor};
 
-use cat_export::export_named;
+use cat_lookups::Lookups;
 use cat_model::What;
-use cat_names::DataSet;
-use cat_naming::catalogue_map;
-use cat_rows::Catalogue;
+use cat_rows::{Catalogue, DatabaseRow};
+use column_numbers::Numbers;
+use copy_text::Name;
 use eng_map::NamedMap;
-use same_maps::same_maps;
+use opening_ids::{opening_ids, opening_numbers};
+use opening_written::laws::{exports_are_read, what_is_read_is_what_was_left};
 use saved_folders::{ExportTexts, make_texts};
 use std::alloc::{AllocError, Global};
 use tool_words::Outcome;
+use whole_export::{Exported, export};
 
-// The answer where making the texts answered this.
-fn unwritten(outcome: &Outcome) -> Outcome
-    ensures { IsUnwritten result }
+// The name of the current database.
+fn current_name(databases: &[DatabaseRow]) -> Result<Option<Name>, AllocError>
+    ensures { IfOk result (λ name. name ≡ current_name databases.now) }
 {
-    match outcome {
-        Outcome::TooLarge(limit, most) => Outcome::TooLarge(*limit, *most),
-        Outcome::Memory => Outcome::Memory,
-        _ => Outcome::OutOfProfile(What::Unbuilt),
-    }
-}
-
-// The texts of a catalogue and the rows of its tables.
-fn texts_of(alloc: Global, cat: &Catalogue, rows: &DataSet) -> Result<ExportTexts, Outcome>
-    ensures reads { IfOk result (λ made. ReadsAs made.texts made.export) }
-    ensures unwritten { IfErr result IsUnwritten }
-{
-    match make_texts(alloc, cat, rows) {
-        Ok(texts) => Ok(texts),
-        Err(outcome) => {
-            let answer = unwritten(&outcome);
-            drop(outcome);
-            Err(answer)
+    for database in databases {
+        if database.datcurrent {
+            return Ok(Some(database.datname.clone()?));
         }
     }
+    Ok(None)
 }
 
-// Whether the export of the texts stands for the catalogue.
-#[tactic(auto, unfolding(openings::specs::Openings::export_named))]
-fn stands(alloc: Global, texts: &ExportTexts, named: &NamedMap) -> Result<bool, AllocError>
-    ensures { IfOk result (λ same. IsTrue same → export_named texts.now.export ≡ named.now) }
+// The tables and texts of rows of what an opening became, by numbers of its columns; `None` where no oid is left.
+fn numbered_export(
+    alloc: Global,
+    named: &NamedMap,
+    current: &Name,
+    opening: &Lookups<'_>,
+    numbers: &Numbers,
+) -> Result<Option<Exported>, AllocError>
+    ensures made { IfOk result (λ made. IfSome made (λ out. CanBeExported opening.now named.now → IsExported opening.now named.now current.now out.catalogue out.rows)) }
+    ensures left { IfOk result (λ made. made ≡ None → NoOidIsLeft opening.now) }
 {
-    let read_back = catalogue_map(alloc, texts.catalogue().rows(), texts.rows())?;
-    Ok(same_maps(&read_back, named))
+    let mut ids = opening_ids(alloc, opening)?;
+    export(alloc, named, &mut ids, numbers, current, opening.tables())
 }
 
-// Goes on where the export of the texts stands for the catalogue.
-fn check_standing(alloc: Global, texts: &ExportTexts, named: &NamedMap) -> Result<(), Outcome>
-    ensures same { OnOk result (export_named texts.now.export ≡ named.now) }
-    ensures unwritten { IfErr result IsUnwritten }
+// The same, once its columns' numbers are looked up.
+fn looked_up_export(
+    alloc: Global,
+    named: &NamedMap,
+    current: &Name,
+    opening: &Lookups<'_>,
+) -> Result<Option<Exported>, AllocError>
+    ensures made { IfOk result (λ made. IfSome made (λ out. CanBeExported opening.now named.now → IsExported opening.now named.now current.now out.catalogue out.rows)) }
+    ensures left { IfOk result (λ made. made ≡ None → NoOidIsLeft opening.now) }
 {
-    if stands(alloc, texts, named)? {
-        Ok(())
-    } else {
-        Err(Outcome::OutOfProfile(What::Unbuilt))
+    let numbers = opening_numbers(alloc, opening.book())?;
+    numbered_export(alloc, named, current, opening, &numbers)
+}
+
+// The tables and texts of rows of what an opening became; `None` where no oid is left.
+fn exported(
+    alloc: Global,
+    named: &NamedMap,
+    current: &Name,
+    opening: &Catalogue,
+) -> Result<Option<Exported>, AllocError>
+    ensures made { IfOk result (λ made. IfSome made (λ out. CanBeExported opening.now named.now → IsExported opening.now named.now current.now out.catalogue out.rows)) }
+    ensures left { IfOk result (λ made. made ≡ None → NoOidIsLeft opening.now) }
+{
+    let opening = Lookups::of(alloc, opening)?;
+    looked_up_export(alloc, named, current, &opening)
+}
+
+// The texts of these tables.
+fn texts_of(
+    alloc: Global,
+    named: &NamedMap,
+    current: &Name,
+    opening: &Catalogue,
+    export: &Exported,
+) -> Result<ExportTexts, Outcome>
+    requires current { current_name opening.now.pg_database ≡ Some current.now }
+    requires made { CanBeExported opening.now named.now → IsExported opening.now named.now current.now export.now.catalogue export.now.rows }
+    ensures stand { IfOk result (λ made. CanBeExported opening.now named.now → StandFor opening.now named.now made) }
+    ensures unwritten { IfErr result (λ outcome. CanBeExported opening.now named.now → IsUnwritten opening.now named.now outcome) }
+{
+    exports_are_read();
+    what_is_read_is_what_was_left();
+    make_texts(alloc, &export.catalogue, &export.rows)
+}
+
+// The same, once the tables are made.
+fn current_texts(
+    alloc: Global,
+    named: &NamedMap,
+    current: &Name,
+    opening: &Catalogue,
+) -> Result<ExportTexts, Outcome>
+    requires current { current_name opening.now.pg_database ≡ Some current.now }
+    ensures stand { IfOk result (λ made. CanBeExported opening.now named.now → StandFor opening.now named.now made) }
+    ensures unwritten { IfErr result (λ outcome. CanBeExported opening.now named.now → IsUnwritten opening.now named.now outcome) }
+{
+    let made = exported(alloc, named, current, opening)?;
+    match &made {
+        Some(export) => texts_of(alloc, named, current, opening, export),
+        None => Err(Outcome::OutOfProfile(What::Unbuilt)),
     }
 }
 
-// The texts, where their export stands for the catalogue.
-fn standing_texts(
-    alloc: Global,
-    texts: ExportTexts,
-    named: &NamedMap,
-) -> Result<ExportTexts, Outcome>
-    requires { ReadsAs texts.texts texts.export }
-    ensures stand { IfOk result (StandFor named.now) }
-    ensures unwritten { IfErr result IsUnwritten }
-{
-    match check_standing(alloc, &texts, named) {
-        Ok(()) => Ok(texts),
-        Err(outcome) => {
-            drop(texts);
-            Err(outcome)
-        }
-    }
-}
-
-// The texts of a catalogue and the rows of its tables, where their export stands for the catalogue by names.
-fn checked_texts(
-    alloc: Global,
-    cat: &Catalogue,
-    rows: &DataSet,
-    named: &NamedMap,
-) -> Result<ExportTexts, Outcome>
-    ensures stand { IfOk result (StandFor named.now) }
-    ensures unwritten { IfErr result IsUnwritten }
-{
-    let texts = texts_of(alloc, cat, rows)?;
-    standing_texts(alloc, texts, named)
-}
-
-/// The texts of a folder that is read as an export which stands for a catalogue by names, where the catalogue began as
-/// this opening.
+/// The texts of a folder that is read as an export which stands for a catalogue by names, where this opening became that. What was
+/// there keeps its oid.
 ///
 /// # Errors
 ///
-/// `TooLarge` where the folder's files would be over a limit of reading; `Memory`; and `OutOfProfile(Unbuilt)` where the
-/// rows that were made for the catalogue don't stand for it, which no case shows.
+/// `TooLarge` where the folder's files would be over a limit of reading, `OutOfProfile(Unbuilt)` where no oid is left for what is
+/// new, or `Memory`.
 pub fn named_texts(
     alloc: Global,
     named: &NamedMap,
     opening: &Catalogue,
 ) -> Result<ExportTexts, Outcome>
-    ensures stand { IfOk result (StandFor named.now) }
-    ensures unwritten { IfErr result IsUnwritten }
+    ensures stand { IfOk result (λ made. CanBeExported opening.now named.now → StandFor opening.now named.now made) }
+    ensures unwritten { IfErr result (λ outcome. CanBeExported opening.now named.now → IsUnwritten opening.now named.now outcome) }
 {
-    let export = export_named(alloc, named, opening)?;
-    checked_texts(alloc, &export.catalogue, &export.rows, named)
+    match current_name(opening.pg_database.as_slice())? {
+        Some(current) => current_texts(alloc, named, &current, opening),
+        None => Err(Outcome::OutOfProfile(What::Unbuilt)),
+    }
 }

@@ -10,7 +10,7 @@ use Rattle.dump_tools.proofs.psql.run_script_work.Goals as goal
 pub returns-in_err-run-clause-refused : goal.returns-in_err-run-clause-refused
 returns-in_err-run-clause-refused g c =
     let p = err_from_is_err_and c.from_residual.result c.from_residual.ensures.1 in
-    rw (p.1, p.2) (unmade_due _ (running_of c.args.folder.now c.args.work) c.in_err-run.ensures.unwritten)
+    rw (p.1, p.2) (unmade_due _ (running_of c.args.folder.now c.args.work) (rw c.deref.ensures.value at c.in_err-run.ensures.unwritten))
 
 -- the writing of the folder ended on its way
 pub returns-clause-cut : goal.returns-clause-cut

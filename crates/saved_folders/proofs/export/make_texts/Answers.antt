@@ -1,5 +1,5 @@
 use Rattle.std.proofs.lemmas.Result.{err_from_is_err_and}
-use Rattle.saved_folders.proofs.Made.{refuses_due, is_kept, reads_as, are_texts, due_of}
+use Rattle.saved_folders.proofs.Made.{refuses_due, is_kept, reads_as, are_texts, due_of, has_no_texts}
 use Rattle.saved_folders.proofs.export.make_texts.Goals as goal
 
 pub returns-in_err-export-clause-due : goal.returns-in_err-export-clause-due
@@ -39,3 +39,11 @@ returns-clause-due c = λ texts are folder tree.
     due_of c.written_folders_read_alike.ensures c.args.cat.now c.args.rows.now c.in_ok-oids.oids.items c.in_ok-tables.tables.items
     (record { oids_are = c.in_ok-oids.ensures; tables_are = c.in_ok-tables.ensures.tables; written = c.in_ok-tables.ensures.written })
     c.in_ok-export.export (rw (c.deref.ensures.value, c.deref-2.ensures.value) at c.in_ok-export.ensures.due) texts are folder tree
+
+pub returns-in_err-export-clause-unread : goal.returns-in_err-export-clause-unread
+returns-in_err-export-clause-unread c =
+    let p = err_from_is_err_and c.from_residual-in_err-export.result c.from_residual-in_err-export.ensures.1 in
+    rw (p.1, p.2)
+    (has_no_texts c.written_folders_read_alike.ensures c.args.cat.now c.args.rows.now c.in_ok-oids.oids.items c.in_ok-tables.tables.items
+    (record { oids_are = c.in_ok-oids.ensures; tables_are = c.in_ok-tables.ensures.tables; written = c.in_ok-tables.ensures.written })
+    _ (rw (c.deref.ensures.value, c.deref-2.ensures.value) at c.in_err-export.ensures.due) c.in_err-export.ensures.call_free)

@@ -1,8 +1,17 @@
 -- The statements of entries that a restore takes are fit, and so a restore leaves an opening in order.
-use Rattle.std.proofs.Common.{◌≡◌, ℕ, Bool, true, false, List, [], ◌∷◌, drop, Option, Result, Ok, Err, refl, subst}
+use Rattle.std.proofs.Common.{◌≡◌, ℕ, Bool, true, false, List, [], ◌∷◌, drop, Option, Some, None, Result, Ok, Err, refl, subst}
 use Rattle.cat_rows.specs.declared.catalogue.Catalogue.{Catalogue}
 use Rattle.cat_model.specs.Values.{Bytes, Named}
 use Rattle.cat_names.specs.DataSets.{TextsByOid}
+use Rattle.cat_names.specs.Naming.{boot}
+use Rattle.cat_load.specs.Loads.{rows_fault}
+use Rattle.exports.specs.Exports.{Exported}
+use Rattle.openings.specs.Openings.{export_named}
+use Rattle.opening_sound.specs.Export.{CanBeExported}
+use Rattle.opening_sound.proofs.Made.{left_exported}
+use Rattle.script_runs.proofs.Kept.{opened_left}
+use Rattle.well_formed.specs.Catalogues.{catalogue_fault}
+use Rattle.well_formed.proofs.Formed.{well_formed}
 use Rattle.restores_sound.specs.Fit.{AreFitEntries}
 use Rattle.opening_sound.specs.Left.{IsLeft}
 use Rattle.restores_sound.proofs.Entries.{entry_fit}
@@ -34,3 +43,10 @@ pub restore_left : (opening : Catalogue) (texts : TextsByOid) (role teller : Byt
 unfolding ending
 restore_left opening texts role teller true entries wanted named is fit = stopped opening texts role (plan named wanted) named is (planned_fit (foreign_keys named) [] wanted fit)
 restore_left opening texts role teller false entries wanted named is fit = gone_on opening texts role (plan named wanted) named is (planned_fit (foreign_keys named) [] wanted fit)
+
+-- what a restore leaves of an opening that was taken in can be exported
+pub restore_exported : (opening : Exported) (role teller : Bytes) (stop : Bool) (entries : List Entry) (wanted : List planned.Entry) → catalogue_fault opening.cat ≡ None → rows_fault opening.cat opening.rows ≡ None → boot opening.cat ≡ Some role → AreFitEntries wanted
+    → CanBeExported opening.cat (ending stop teller role entries wanted (export_named opening)).left
+restore_exported opening role teller stop entries wanted formed meets is fit =
+    left_exported opening.cat opening.rows role (ending stop teller role entries wanted (export_named opening)).left (well_formed opening.cat formed)
+    (restore_left opening.cat opening.rows role teller stop entries wanted (export_named opening) (opened_left opening role formed meets is) fit)

@@ -1,6 +1,0 @@
-//! Values that are let go by a call, since the drop of a large enum is written out where it stands.
-use cat_model::{Key, Object};
-
-pub(crate) fn let_go_key(_key: Key) {}
-
-pub(crate) fn let_go_object(_object: Object) {}

@@ -1,0 +1,7 @@
+use Rattle.ddl_laws.specs.Respelling.{said}
+use Rattle.ddl_laws.proofs.Respelled.{read_is_writable}
+use Rattle.sound_texts.proofs.Writable.{all_fit}
+use Rattle.dump_tools.proofs.psql.read_statements.Goals as goal
+
+pub returns-clause-fit : goal.returns-clause-fit
+returns-clause-fit c = all_fit (said c.in_ok-read_stmts.field-0.items) (read_is_writable c.args.text.now c.in_ok-read_stmts.field-0.items c.in_ok-read_stmts.ensures)
