@@ -1,3 +1,4 @@
 pub mod Behind
 pub mod Growing
 pub mod Lengths
+mod Rows

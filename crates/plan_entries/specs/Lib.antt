@@ -1,2 +1,4 @@
 pub mod Earlier
 pub mod Plans
+pub mod Texts
+pub mod Examples

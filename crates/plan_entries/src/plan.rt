@@ -1,11 +1,13 @@
 //! Plans.
-ghost use Rattle.std.specs.Prelude.{◌≡◌, ◌<◌, ◌≤◌, Some, None, length, unwrap_or, IfOk, OnOk};
+ghost use Rattle.std.specs.Prelude.{◌≡◌, ◌<◌, ◌≤◌, Some, None, length, option_map, unwrap_or, IfOk, OnOk};
 ghost use Rattle.std.specs.List.{slice_get};
 ghost use Rattle.restore_plan.specs.Order.{before_at, clash_at};
 ghost use Rattle.restore_steps.specs.Faults.{Gives};
 ghost use Rattle.plan_entries.specs.Plans.{plan_due};
+ghost use Rattle.plan_entries.specs.Texts.{text_at};
 
 use crate::places::placed_entries;
+use crate::texts::rows_behind;
 use cat_model::FkSet;
 use restore_plan::Planned;
 use restore_steps::{PlanError, restored_entries};
@@ -19,17 +21,20 @@ use toc_entry::Entry;
 pub struct Plan {
     entries: Vec<Entry>,
     planned: Vec<Planned>,
+    // How many statements each entry's definition reads as.
+    defined: Vec<usize>,
 }
 
 impl Model for Plan {
-    ghost use Rattle.std.specs.Prelude.{◌≡◌, length};
+    ghost use Rattle.std.specs.Prelude.{◌≡◌, length, map};
     ghost use Rattle.plan_entries.specs.Plans.{Made};
+    ghost use Rattle.restore_steps.specs.Statements.{definition_count};
 
     ghost Value = { Made };
 
     ghost view = { λ p. record { entries = p.entries.items; planned = p.planned.items } };
 
-    ghost invariant = { λ p. length p.entries.items ≡ length p.planned.items };
+    ghost invariant = { λ p. (length p.entries.items ≡ length p.planned.items) × (p.defined.items ≡ map definition_count p.entries.items) };
 }
 
 impl Plan {
@@ -52,8 +57,12 @@ impl Plan {
         ensures { Gives (λ p. p) result (plan_due parents owners entries.items texts.items) }
     {
         let restored = restored_entries(alloc, &entries, texts, owners)?;
-        let planned = placed_entries(alloc, parents, restored)?;
-        Ok(Plan { entries, planned })
+        let planned = placed_entries(alloc, parents, restored.entries)?;
+        Ok(Plan {
+            entries,
+            planned,
+            defined: restored.defined,
+        })
     }
 
     /// How many entries there are.
@@ -70,6 +79,15 @@ impl Plan {
         ensures { slice_get self.now.entries i ≡ Some result.now }
     {
         &self.entries[i]
+    }
+
+    /// The rows of an entry: those of the last COPY that its COPY statement followed by its rows reads as, or None where
+    /// there is none. It takes no memory.
+    pub fn text(&self, i: usize) -> Option<&[u8]>
+        requires { i < length self.now.entries }
+        ensures { option_map (λ rows. rows.now) result ≡ text_at self.now i }
+    {
+        rows_behind(self.planned[i].steps.as_slice(), self.defined[i])
     }
 
     /// The entries in their places.

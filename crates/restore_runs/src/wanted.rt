@@ -23,5 +23,5 @@ pub fn wanted_entries(
 ) -> Result<Vec<Entry>, PlanError>
     ensures { Gives (λ v. v.items) result (wanted_due owners entries.now (map (option_map (λ rows. rows.items)) texts.items)) }
 {
-    restored_entries(alloc, entries, texts, owners)
+    Ok(restored_entries(alloc, entries, texts, owners)?.entries)
 }

@@ -1,6 +1,6 @@
 -- The statements of an archive's entry, as a restore runs them: those that its definition reads as, then its owner
 -- statement, then those that its COPY statement followed by its rows reads as.
-use Rattle.std.specs.Prelude.{ℕ, Bool, true, false, List, [], ◌∷◌, ◌++◌, map, Option, Some, None, unwrap_or, option_and_then, Result, Ok, Err, if◌then◌else◌, codes}
+use Rattle.std.specs.Prelude.{ℕ, Bool, true, false, List, [], ◌∷◌, ◌++◌, map, length, Option, Some, None, unwrap_or, option_and_then, Result, Ok, Err, if◌then◌else◌, codes}
 use Rattle.std.specs.Str.{bytes_eq}
 use Rattle.cat_model.specs.declared.grant.Owned.{Owned}
 use Rattle.cat_model.specs.declared.stmt.Stmt.{Stmt}
@@ -76,3 +76,13 @@ abbrev pub ◌>>=◌ : {A B F : Type 0} → Result A F → (A → Result B F) �
 unfoldable pub statements : Bool → Entry → Option (List ℕ) → Result (List Step) DdlFault
 statements owners e rows =
     steps_in (text_of e.defn) >>= λ made. rows_steps e rows >>= λ put. Ok (made ++ owner_steps (owner_statement owners e) ++ put)
+
+-- ---- how many there are
+
+abbrev pub count_of : Result (List Step) DdlFault → ℕ
+count_of (Ok steps) = length steps
+count_of (Err fault) = 0
+
+-- how many statements an entry's definition reads as
+unfoldable pub definition_count : Entry → ℕ
+definition_count e = count_of (steps_in (text_of e.defn))

@@ -9,4 +9,4 @@ mod statements;
 
 pub use fault::{PlanError, PlanFault};
 pub use laws::{kinds_by_desc, owner_statements, what_is_left_out};
-pub use list::{restored_entries, restored_entry};
+pub use list::{RestoredEntries, restored_entries};

@@ -1,12 +1,12 @@
 //! Entries with their rows, as a restore sees them.
-ghost use Rattle.std.specs.Prelude.{◌≡◌, drop, option_map, IfOk};
+ghost use Rattle.std.specs.Prelude.{◌≡◌, drop, map, option_map, IfOk};
 ghost use Rattle.std.specs.Vec.Iter.{into_iter_items};
-ghost use Rattle.restore_steps.specs.Statements.{statements};
+ghost use Rattle.restore_steps.specs.Statements.{definition_count, statements};
 ghost use Rattle.restore_steps.specs.Faults.{Gives, entries_due, entry_due, entry_of, first_text, left_out, told, unless_left_out};
 
 use crate::fault::{PlanError, PlanFault};
 use crate::kinds::{kind_of, left_out};
-use crate::statements::statements;
+use crate::statements::{EntrySteps, statements};
 use cat_model::{Items, What};
 use ddl_read::ReadStmtsError;
 use restore_plan::{Entry, Step};
@@ -23,11 +23,12 @@ fn statements_told(
     entry: &Archived,
     rows: Option<Vec<u8>>,
     owners: bool,
-) -> Result<Vec<Step>, PlanError>
-    ensures { Gives (λ v. v.items) result (told entry.now.dump_id (statements owners entry.now (option_map (λ r. r.items) rows))) }
+) -> Result<EntrySteps, PlanError>
+    ensures steps { Gives (λ s. s.steps.items) result (told entry.now.dump_id (statements owners entry.now (option_map (λ r. r.items) rows))) }
+    ensures defined { IfOk result (λ s. s.defined ≡ definition_count entry.now) }
 {
     match statements(alloc, entry, rows, owners) {
-        Ok(steps) => Ok(steps),
+        Ok(statements) => Ok(statements),
         Err(ReadStmtsError::Fault(fault)) => {
             Err(PlanError::Fault(PlanFault::BadDefn(entry.dump_id, fault)))
         }
@@ -60,24 +61,32 @@ fn entry_of(alloc: Global, entry: &Archived, steps: Vec<Step>) -> Result<Entry, 
     })
 }
 
-/// An entry and its rows as a restore sees them, with its owner statement or without.
-///
-/// # Errors
-///
-/// `BadDefn` where its definition doesn't read, else where its COPY statement followed by its rows doesn't;
-/// `OutOfProfile` where all of them read and the entry is left out; or `Memory`.
+// An entry as a restore sees it, and how many statements its definition reads as.
+#[derive(Drop)]
+struct Restored {
+    entry: Entry,
+    defined: usize,
+}
+
+// An entry and its rows as a restore sees them, with its owner statement or without. `BadDefn` where its definition doesn't
+// read, else where its COPY statement followed by its rows doesn't; `OutOfProfile` where all of them read and the entry is
+// left out; or `Memory`.
 #[tactic(auto, unfolding(crate::specs::Faults::entry_due))]
-pub fn restored_entry(
+fn restored_entry(
     alloc: Global,
     entry: &Archived,
     rows: Option<Vec<u8>>,
     owners: bool,
-) -> Result<Entry, PlanError>
-    ensures { Gives (λ e. e) result (entry_due owners entry.now (option_map (λ r. r.items) rows)) }
+) -> Result<Restored, PlanError>
+    ensures entry { Gives (λ r. r.entry) result (entry_due owners entry.now (option_map (λ r. r.items) rows)) }
+    ensures defined { IfOk result (λ r. r.defined ≡ definition_count entry.now) }
 {
-    let steps = statements_told(alloc, entry, rows, owners)?;
+    let EntrySteps { steps, defined } = statements_told(alloc, entry, rows, owners)?;
     unless_left_out(entry)?;
-    Ok(entry_of(alloc, entry, steps)?)
+    Ok(Restored {
+        entry: entry_of(alloc, entry, steps)?,
+        defined,
+    })
 }
 
 // The rows of the next entry, which has none where no text is left.
@@ -91,24 +100,45 @@ fn next_text(texts: &mut IntoIter<Option<Vec<u8>>>) -> Option<Vec<u8>>
     }
 }
 
-/// Entries with their rows as a restore sees them. An entry for which no text is left has no rows.
+/// Entries as a restore sees them.
+#[derive(Drop)]
+pub struct RestoredEntries {
+    /// Each entry with its statements.
+    pub entries: Vec<Entry>,
+    /// How many statements each entry's definition reads as; they stand before those of its rows.
+    pub defined: Vec<usize>,
+}
+
+/// Entries with their rows as a restore sees them, with their owner statements or without. An entry for which no text is
+/// left has no rows.
 ///
 /// # Errors
 ///
-/// That of the first entry that has one, as `restored_entry` tells it.
+/// That of the first entry that has one: `BadDefn` where its definition doesn't read, else where its COPY statement
+/// followed by its rows doesn't, else `OutOfProfile` where it is left out. Or `Memory`.
 pub fn restored_entries(
     alloc: Global,
     entries: &[Archived],
     texts: Vec<Option<Vec<u8>>>,
     owners: bool,
-) -> Result<Vec<Entry>, PlanError>
-    ensures { Gives (λ v. v.items) result (entries_due owners entries.now texts.items) }
+) -> Result<RestoredEntries, PlanError>
+    ensures entries { Gives (λ r. r.entries.items) result (entries_due owners entries.now texts.items) }
+    ensures defined { IfOk result (λ r. r.defined.items ≡ map definition_count entries.now) }
 {
     let mut restored = Vec::new(alloc);
+    let mut counts = Vec::new(alloc);
     let mut texts = texts.into_iter();
     for entry in entries {
         let rows = next_text(&mut texts);
-        restored.push(restored_entry(alloc, entry, rows, owners)?)?;
+        let Restored {
+            entry: made,
+            defined: count,
+        } = restored_entry(alloc, entry, rows, owners)?;
+        restored.push(made)?;
+        counts.push(count)?;
     }
-    Ok(restored)
+    Ok(RestoredEntries {
+        entries: restored,
+        defined: counts,
+    })
 }

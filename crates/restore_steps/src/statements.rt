@@ -1,7 +1,7 @@
 //! The statements of an entry.
 ghost use Rattle.std.specs.Prelude.{◌≡◌, ◌++◌, [], ◌∷◌, List, map, option_map, IfOk, OnOk};
 ghost use Rattle.ddl_read.specs.Reading.{Gives};
-ghost use Rattle.restore_steps.specs.Statements.{owner_statement, owner_step, owner_steps, rows_steps, rows_text, statements, step_of, steps_in, text_of};
+ghost use Rattle.restore_steps.specs.Statements.{definition_count, owner_statement, owner_step, owner_steps, rows_steps, rows_text, statements, step_of, steps_in, text_of};
 
 use cat_model::Stmt;
 use copy_text::Text;
@@ -112,23 +112,34 @@ fn push_owner(
     push_owner_to(steps, Stmt::OwnerTo { object, role })
 }
 
+/// The statements of an entry.
+#[derive(Drop)]
+pub(crate) struct EntrySteps {
+    /// All of them, in order.
+    pub(crate) steps: Vec<Step>,
+    /// How many of them its definition reads as; they come first.
+    pub(crate) defined: usize,
+}
+
 /// The statements of an entry and its rows, with its owner statement or without.
 ///
 /// # Errors
 ///
 /// The fault of its definition, else that of its COPY statement followed by its rows; or that memory ran out.
-#[tactic(auto, unfolding(crate::specs::Statements::statements))]
+#[tactic(auto, unfolding(crate::specs::Statements::statements, crate::specs::Statements::definition_count))]
 pub(crate) fn statements(
     alloc: Global,
     entry: &Entry,
     rows: Option<Vec<u8>>,
     owners: bool,
-) -> Result<Vec<Step>, ReadStmtsError>
-    ensures { Gives (λ v. v.items) result (statements owners entry.now (option_map (λ r. r.items) rows)) }
+) -> Result<EntrySteps, ReadStmtsError>
+    ensures steps { Gives (λ s. s.steps.items) result (statements owners entry.now (option_map (λ r. r.items) rows)) }
+    ensures defined { IfOk result (λ s. s.defined ≡ definition_count entry.now) }
 {
     let mut steps = steps_in(alloc, text_of(&entry.defn))?;
+    let defined = steps.len();
     push_owner(alloc, entry, owners, &mut steps)?;
     let mut put = rows_steps(alloc, entry, rows)?;
     steps.append(&mut put)?;
-    Ok(steps)
+    Ok(EntrySteps { steps, defined })
 }

@@ -11,5 +11,4 @@ mod until;
 
 pub use laws::foreign_keys_change_nothing;
 pub use serial::{Report, restore_serial};
-pub use statement::run_statement;
 pub use until::restore_until;

@@ -49,7 +49,7 @@ fn refuse(
 ///
 /// The only error is want of memory; it may come before or behind what the statement does.
 #[tactic(auto, using(crate::proofs::Runs::taken_next, crate::proofs::Runs::taken_noted, crate::proofs::Runs::taken_ending, crate::proofs::Runs::refused_is))]
-pub fn run_statement(
+pub(crate) fn run_statement(
     engine: &mut Engine,
     id: u32,
     step: &Step,
