@@ -7,3 +7,6 @@ pub mod Turns
 pub mod Runs
 pub mod Moves
 pub mod Begun
+pub mod Listing
+pub mod Same
+pub mod Indexing

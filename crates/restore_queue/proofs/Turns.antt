@@ -20,7 +20,7 @@ use Rattle.restore_queue.specs.declared.choice.Choice.TheVariants.{Stay}
 use Rattle.restore_queue.specs.Choosing.{choice_at, choice_in, chosen, first_place, goes, goes_at, next_turn, skips, skips_at, turn_by, turn_of}
 use Rattle.restore_queue.specs.Indexed.{AllMet, IsMet, Kept}
 use Rattle.restore_queue.specs.Lined.{AreGoing}
-use Rattle.restore_queue.specs.Ready.{AllWaited, ended_in, has_met, is_ready_at}
+use Rattle.restore_queue.specs.Ready.{AllWaited, ended_in, first_in, has_met, is_ready_at}
 use Rattle.restore_queue.specs.Workers.{clash_in, entry_in, is_any}
 use Rattle.restore_queue.proofs.Lists.{get-there}
 use Rattle.restore_queue.proofs.Ready.{alike, all-at, all-by, all-ended, any-in, Member, phase-of, plan-of, same-first}
@@ -189,3 +189,12 @@ turn-is plan phases waits met marks running s worker are q small = by (entry_in 
         ∙ ap (turn_by skipping (list_any is_any running)) first
         ∙ at (first_to_go worker s) refl free
         ∙ sym (ap (λ (b : Bool). cond b (turn_at s (first_to_go worker s)) (turns.Run (place_of worker s.entries))) free)
+
+-- what skips an entry
+pub blocker-is : (plan : List Planned) (phases : List Phase) (waits : List (Vec ℕ)) (met : List ℕ) (marks : List Bool) (running : List (Option ℕ)) (entries : List Going) (i : ℕ) (x : Going) → AreGoing plan phases entries → Kept plan phases waits met marks running → slice_get entries i ≡ Some x → option_map_or (λ v. option_map_or (λ p. first_in plan phases v.items p.deps) (slice_get plan i) None) (slice_get waits i) None ≡ blocked_by (take i entries) x
+blocker-is plan phases waits met marks running entries i x are q e =
+    let at = plan-of plan phases entries are i x e in
+    let p = place-at plan waits met i x.plan q.many_waits q.many_met at in
+    ap (λ (o : Option (Vec ℕ)). option_map_or (λ v. option_map_or (λ y. first_in plan phases v.items y.deps) (slice_get plan i) None) o None) p.waits_at
+    ∙ ap (λ (o : Option Planned). option_map_or (λ y. first_in plan phases p.places.items y.deps) o None) at
+    ∙ same-first plan phases entries i x p.places.items are (q.waited i p.places p.waits_at) e

@@ -4,6 +4,7 @@ ghost use Rattle.std.specs.Global.{Vec as TheVec};
 ghost use Rattle.std.specs.List.{slice_get};
 ghost use Rattle.restore_plan.specs.Entries.{is_among};
 ghost use Rattle.restore_queue.specs.Indexed.{AllMet, AllNearly, AllPartly, AreMarked, IsMet, block};
+ghost use Rattle.restore_queue.specs.Queues.{AreBehind};
 
 use crate::waiting::{BLOCK, advance};
 use restore_core::Phase;
@@ -58,4 +59,28 @@ pub fn meet_all(
     for i in behind {
         meet(phases, waits, met, marks, *i);
     }
+}
+
+/// Goes on with the entries that wait for one that has ended.
+pub(crate) fn meet_behind(
+    phases: &[Phase],
+    waits: &[Vec<usize>],
+    behind: &[Vec<usize>],
+    met: &mut Vec<usize>,
+    marks: &mut Vec<bool>,
+    ended: usize,
+)
+    requires many_waits { length waits.now ≡ length phases.now }
+    requires many_met { length met.old.items ≡ length phases.now }
+    requires many_marks { length phases.now ≤ length marks.old.items * block }
+    requires nearly { AllNearly phases.now waits.now met.old.items ended }
+    requires behind { AreBehind waits.now behind.now }
+    requires there { ended < length behind.now }
+    requires marked { AreMarked phases.now waits.now met.old.items marks.old.items }
+    ensures met { AllMet phases.now waits.now met.new.items }
+    ensures marked { AreMarked phases.now waits.now met.new.items marks.new.items }
+    ensures len_met { length met.new.items ≡ length met.old.items }
+    ensures len_marks { length marks.new.items ≡ length marks.old.items }
+{
+    meet_all(phases, waits, behind[ended].as_slice(), met, marks, ended);
 }

@@ -1,5 +1,5 @@
 //! Whether an entry was refused or skipped, and what skips it.
-ghost use Rattle.std.specs.Prelude.{◌≡◌, ◌==◌, false};
+ghost use Rattle.std.specs.Prelude.{◌≡◌, ◌==◌, false, None};
 ghost use Rattle.std.specs.List.{list_any, slice_get};
 ghost use Rattle.std.specs.Option.{option_map_or};
 ghost use Rattle.restore_queue.specs.Ready.{blocking_in, blocks_in, ended_in, first_in, is_blocking};
@@ -69,4 +69,28 @@ pub(crate) fn first_in(
     ids.iter()
         .copied()
         .find(|id| is_blocked(plan, phases, places, *id))
+}
+
+fn blocker_in(plan: &[Planned], phases: &[Phase], places: &[usize], entry: usize) -> Option<u32>
+    ensures { result ≡ option_map_or (λ p. first_in plan.now phases.now places.now p.deps) (slice_get plan.now entry) None }
+{
+    match plan.get(entry) {
+        Some(planned) => first_in(plan, phases, places, planned.deps.as_slice()),
+        None => None,
+    }
+}
+
+/// The first dependency of an entry that was refused or skipped.
+pub(crate) fn blocker_at(
+    plan: &[Planned],
+    phases: &[Phase],
+    waits: &[Vec<usize>],
+    entry: usize,
+) -> Option<u32>
+    ensures { result ≡ option_map_or (λ v. option_map_or (λ p. first_in plan.now phases.now v.items p.deps) (slice_get plan.now entry) None) (slice_get waits.now entry) None }
+{
+    match waits.get(entry) {
+        Some(places) => blocker_in(plan, phases, places.as_slice(), entry),
+        None => None,
+    }
 }

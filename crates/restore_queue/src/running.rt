@@ -1,5 +1,5 @@
 //! What each worker runs.
-ghost use Rattle.std.specs.Prelude.{◌≡◌, ◌<◌, ◌&&◌, ℕ, Bool, false, true, List, None, not};
+ghost use Rattle.std.specs.Prelude.{◌≡◌, ◌<◌, ℕ, false, None, is_none, IfNone, IfSome};
 ghost use Rattle.std.specs.List.{list_any, slice_get};
 ghost use Rattle.std.specs.Option.{option_map_or};
 ghost use Rattle.restore_plan.specs.Order.{clash};
@@ -54,4 +54,21 @@ pub(crate) fn any_clashes(plan: &[Planned], running: &[Option<usize>], planned: 
     ensures { result ≡ list_any (clash_in plan.now planned.now) running.now }
 {
     running.iter().any(|entry| clash_in(plan, planned, entry))
+}
+
+/// How many workers there are at most.
+pub(crate) const WORKERS: usize = 64;
+
+/// The first worker that runs an entry.
+pub(crate) fn first_worker(running: &[Option<usize>]) -> Option<u32>
+    ensures some { IfSome result (λ worker. (worker < 64) × (is_none (entry_in running.now worker) ≡ false)) }
+    ensures first { IfSome result (λ worker. (k : ℕ) → k < worker → entry_in running.now k ≡ None) }
+    ensures none { IfNone result ((worker : ℕ) → worker < 64 → entry_in running.now worker ≡ None) }
+{
+    for worker in 0..WORKERS as u32 {
+        if entry_in(running, worker).is_some() {
+            return Some(worker);
+        }
+    }
+    None
 }

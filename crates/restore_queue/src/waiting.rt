@@ -85,3 +85,18 @@ pub fn mark(phases: &[Phase], waits: &[Vec<usize>], met: &[usize], marks: &mut [
         marks[at] = any_ready(phases, waits, met, from, to);
     }
 }
+
+/// The same for the marks of a queue.
+pub(crate) fn mark_anew(
+    phases: &[Phase],
+    waits: &[Vec<usize>],
+    met: &[usize],
+    marks: &mut Vec<bool>,
+    i: usize,
+)
+    requires { AreMarked phases.now waits.now met.now marks.old.items }
+    ensures marked { AreMarked phases.now waits.now met.now marks.new.items }
+    ensures len { length marks.new.items ≡ length marks.old.items }
+{
+    mark(phases, waits, met, marks, i);
+}

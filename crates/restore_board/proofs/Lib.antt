@@ -1,0 +1,13 @@
+pub mod Noting
+pub mod Stepped
+pub mod Going
+pub mod Moves
+pub mod Keeping
+pub mod Told
+pub mod Gone
+pub mod Taken
+pub mod Answering
+pub mod Later
+pub mod Counting
+pub mod Resulting
+pub mod Waiting

@@ -1,0 +1,6 @@
+-- The entries so far are the same.
+use Rattle.std.proofs.Common.{◌≡◌, take}
+use Rattle.restore_board.proofs.same.same_plans.Given as goal
+
+abbrev pub invariant-loop-i : goal.invariant-loop-i
+invariant-loop-i l = take l.i l.a ≡ take l.i l.b

@@ -1,0 +1,5 @@
+use Rattle.same_statements.proofs.Lists.{same_lists}
+use Rattle.same_statements.proofs.fields.same_texts.Goals as goal
+
+pub returns : goal.returns
+returns c = same_lists c.args.a.now c.args.b.now c.eq.result c.eq.ensures

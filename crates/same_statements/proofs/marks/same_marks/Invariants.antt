@@ -1,0 +1,6 @@
+-- The marks so far are the same.
+use Rattle.std.proofs.Common.{◌≡◌, take}
+use Rattle.same_statements.proofs.marks.same_marks.Given as goal
+
+abbrev pub invariant-loop-i : goal.invariant-loop-i
+invariant-loop-i l = take l.i l.a ≡ take l.i l.b
