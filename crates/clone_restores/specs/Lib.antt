@@ -1,0 +1,4 @@
+pub mod Lines
+pub mod Due
+pub mod Seen
+pub mod Standing
