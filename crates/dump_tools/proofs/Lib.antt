@@ -8,7 +8,7 @@ pub mod Staying
 pub mod Taking
 pub mod Scripting
 mod Carried
-mod Printed
+pub mod Printed
 pub mod Pieces
 pub mod Archives
 pub mod Restored

@@ -83,7 +83,7 @@ part_cut (piece ∷ later) last between after (inr h) e = inr (record {
   put = e ∙ ap (λ ps. all_performed (map puts ps) between) h.3 ∙ ap (λ o. performed o between) (sym (other_put piece.place piece.text h.0));
 })
 
-front_cut : (pieces : List Piece) (before after : Option Tree) (left out out' told told' : Option Bytes) → PutFront pieces before after out out' told told' → CutShort (map puts pieces) (world before left out told) (world after left out' told')
+pub front_cut : (pieces : List Piece) (before after : Option Tree) (left out out' told told' : Option Bytes) → PutFront pieces before after out out' told told' → CutShort (map puts pieces) (world before left out told) (world after left out' told')
 front_cut pieces before after left out out' told told' p = record {
   whole = map puts p.is.whole;
   later = map puts p.is.later;

@@ -40,7 +40,7 @@ all_put [] more (Some t) left printed told = refl
 all_put (file ∷ files) more None left printed told = all_put files more None left printed told
 all_put (file ∷ files) more (Some t) left printed told = all_put files more (Some (insert t file.name file.text)) left printed told
 
-whole_put : (files : List File) (tree : Option Tree) (left printed told : Option Bytes) → all_performed (map stores files) (world tree left printed told) ≡ world (option_map (saved files) tree) left printed told
+pub whole_put : (files : List File) (tree : Option Tree) (left printed told : Option Bytes) → all_performed (map stores files) (world tree left printed told) ≡ world (option_map (saved files) tree) left printed told
 whole_put [] None left printed told = refl
 whole_put [] (Some t) left printed told = refl
 whole_put (file ∷ files) None left printed told = whole_put files None left printed told
@@ -72,7 +72,7 @@ split_files files whole later more e =
     ∙ append_assoc (map stores whole) (map stores later) more
 
 -- the storing of these files ended on its way
-folder_cut : (files : List File) (more : List Output) (before after : Option Tree) (left printed told : Option Bytes) → PartSaved files before after → CutShort (map stores files ++ more) (world before left printed told) (world after left printed told)
+pub folder_cut : (files : List File) (more : List Output) (before after : Option Tree) (left printed told : Option Bytes) → PartSaved files before after → CutShort (map stores files ++ more) (world before left printed told) (world after left printed told)
 folder_cut files more before after left printed told s = record {
   whole = map stores s.whole;
   later = map stores s.later ++ more;

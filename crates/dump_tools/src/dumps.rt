@@ -27,13 +27,13 @@ use well_formed::WellFormed;
 
 /// A dump that is to be put out.
 #[derive(Drop)]
-pub(crate) struct DumpWork {
+pub struct DumpWork {
     /// Its entries, and the data files whose rows are read while it is written.
-    pub(crate) plan: DumpPlan,
+    pub plan: DumpPlan,
     /// How it is written, and where.
-    pub(crate) form: DumpForm,
+    pub form: DumpForm,
     /// Its head.
-    pub(crate) head: Head,
+    pub head: Head,
 }
 
 /// The version that a dump tells.
@@ -191,9 +191,15 @@ fn chosen_work<F: Files>(
     }
 }
 
-/// What is to be put out of a dump that is asked for.
+/// What is to be put out of a dump that is asked for: the folder's catalogue is read, and what is chosen of it; each data file
+/// that is needed is there, none is too large, and none is one that is written.
+///
+/// # Errors
+///
+/// `Missing`, `TooLarge`, `BadExport`, `OutOfProfile`, `Loop` or `NoMatch` of the first step that refuses, `ReadFault`, or
+/// `Memory`.
 #[tactic(auto, unfolding(crate::specs::Due::dump_due))]
-pub(crate) fn dump_work<F: Files>(
+pub fn dump_work<F: Files>(
     alloc: Global,
     files: &mut F,
     asked: DumpAsked,

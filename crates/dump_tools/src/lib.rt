@@ -10,4 +10,5 @@ mod restoring;
 mod scripts;
 mod tools;
 
+pub use dumps::{DumpWork, dump_work};
 pub use tools::run_tools;
