@@ -3,16 +3,45 @@
 ghost use Rattle.std.specs.Prelude.{◌≡◌, ◌⊎◌};
 ghost use Rattle.dump_ports.specs.Faults.{CountsFault, HasNotRisen};
 
+use clone_words::{CloneAsked, clone_asked};
 use copy_text::Text;
 use dump_ports::{Failed, Sink};
 use os_ports::{FileFault, Hold, Holdable, OsFiles};
-use std::alloc::Global;
+use std::alloc::{AllocError, Global};
 use std::rt;
 use tool_words::{Asked, Outcome, Teller, read_asked, tell, write_bytes};
 
 /// Holds the folders that the words name: alone the one that is written, beside others those that are only read. An archive
 /// that is listed or written as a script is held by none.
 pub(crate) fn hold_folders<R: rt::Files>(
+    alloc: Global,
+    files: &mut OsFiles<R>,
+    words: &[Text],
+) -> Result<(), Failed>
+where
+    R::File: Holdable,
+    ensures read_count { CountsFault result files.old.read files.new.read }
+    ensures write_count { files.new.write ≡ files.old.write }
+{
+    match clone_asked(alloc, words) {
+        Ok(Some(asked)) => hold_cloned(files, &asked),
+        Ok(None) => hold_read(alloc, files, words),
+        Err(AllocError) => Ok(()),
+    }
+}
+
+/// The folder that a clone writes comes first, so that one that is cloned into itself is held once.
+fn hold_cloned<R: rt::Files>(files: &mut OsFiles<R>, asked: &CloneAsked) -> Result<(), Failed>
+where
+    R::File: Holdable,
+    ensures read_count { CountsFault result files.old.read files.new.read }
+    ensures write_count { files.new.write ≡ files.old.write }
+{
+    files.hold(asked.target.as_str(), Hold::Alone)?;
+    files.hold(asked.source.as_str(), Hold::Shared)
+}
+
+fn hold_read<R: rt::Files>(
     alloc: Global,
     files: &mut OsFiles<R>,
     words: &[Text],

@@ -16,7 +16,8 @@ Tools:
   pg_dump     writes a folder as a script or an archive
   pg_restore  restores an archive into a folder, or shows it
   pg_catcmp   compares two folders
-  pg_dumpall, pg_clone, pg_gen
+  pg_clone    dumps a folder and restores the archive into another
+  pg_dumpall, pg_gen
               read their words, and are not built yet
 
 pgtools TOOL --help tells the options of a tool.
@@ -98,10 +99,11 @@ const PG_CLONE: &str = "pg_clone dumps a folder and restores the archive into an
 Usage: pgtools pg_clone [OPTION]... FOLDER FOLDER
 
   -f, --file=FILE   the archive that is written and restored
-  -F, --format=p|c|d   -j, --jobs=N
+  -F, --format=p|c|d   a script where it is absent
+  -j, --jobs=N      workers, 1 to 64; more than one are not built yet
   and the options of pg_dump that choose objects
 
-Not built yet.
+The first half ends as pg_dump does, the second as pg_restore, or as psql for a script.
 ";
 
 const PG_GEN: &str = "pg_gen makes a large folder, dumps it and restores it

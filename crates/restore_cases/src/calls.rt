@@ -1,7 +1,7 @@
 //! Calls of the program.
+use clone_tools::run_tools;
 use copy_text::Text;
 use dump_ports::{MemFiles, MemSink, MemSource, Moment, OpenGate};
-use dump_tools::run_tools;
 use std::alloc::{AllocError, Global};
 use tool_words::Outcome;
 
