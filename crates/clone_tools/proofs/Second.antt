@@ -13,7 +13,7 @@ use Rattle.dump_tools.proofs.Putting.{same_world, all_put, whole_put, folder_cut
 use Rattle.saved_folders.specs.Exports.{WithTexts}
 use Rattle.saved_folders.specs.Files.{saved}
 use Rattle.saved_folders.specs.Folders.{files_of}
-use Rattle.script_runs.specs.Writing.{IsUnwritten, StandFor}
+use Rattle.clone_restores.specs.Writing.{IsUnwritten, StandFor}
 use Rattle.tool_words.specs.declared.outcome.Outcome.{Outcome}
 use Rattle.tool_words.specs.declared.outcome.Outcome.TheVariants.{Done, Usage, ReadFault, WriteFault, Missing, BadExport, BadScript, OutOfProfile, TooLarge, Differs, ScriptStopped, BadArchive, BadList, BadDefn, WithErrors, RestoreStopped, Loop, NoMatch, Memory}
 use Rattle.tool_words.specs.declared.words.Teller.{Teller}

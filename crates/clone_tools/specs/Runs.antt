@@ -16,7 +16,7 @@ use Rattle.exports.specs.Exports.{Exported, export_of}
 use Rattle.openings.specs.Openings.{export_named}
 use Rattle.saved_folders.specs.Exports.{WithTexts}
 use Rattle.saved_folders.specs.Folders.{files_of}
-use Rattle.script_runs.specs.Writing.{StandFor}
+use Rattle.clone_restores.specs.Writing.{StandFor}
 use Rattle.tool_words.specs.declared.outcome.Outcome.{Outcome}
 use Rattle.tool_words.specs.declared.words.Teller.{Teller}
 use Rattle.tool_words.specs.Messages.{outcome_line}

@@ -3,7 +3,7 @@ use Rattle.std.proofs.Common.{[], Option, Result, Ok, refl, sym, subst, inl}
 use Rattle.dump_ports.specs.Tree.{Tree}
 use Rattle.cat_model.specs.Values.{Bytes}
 use Rattle.schema_folders.specs.Folder.{files_written}
-use Rattle.restore_folders.specs.Written.{files_written as files_restored}
+use Rattle.restore_tools.specs.Written.{files_written as files_restored}
 use Rattle.restore_tools.specs.Due.{answer_due, report_of as report_of_restore}
 use Rattle.saved_folders.specs.Folders.{files_of}
 use Rattle.tool_words.specs.declared.outcome.Outcome.{Outcome}

@@ -18,7 +18,7 @@ use Rattle.dump_ports.specs.declared.moment.Moment.{Moment}
 use Rattle.tool_words.specs.declared.words.Asked.{Asked}
 use Rattle.tool_words.specs.Answers.{◌>>=◌}
 use Rattle.tool_words.specs.Words.{words_asked}
-use Rattle.restore_folders.specs.Written.{LeavesEnding, files_written as files_restored}
+use Rattle.restore_tools.specs.Written.{LeavesEnding, files_written as files_restored}
 use Rattle.restore_tools.specs.Due.{Restoring, ending, answer_due, report_of as report_of_restore}
 use Rattle.saved_folders.specs.Exports.{WithTexts}
 use Rattle.saved_folders.specs.Folders.{Texts, files_of}

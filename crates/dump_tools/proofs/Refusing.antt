@@ -42,7 +42,7 @@ use Rattle.restore_plan.specs.declared.entry.Entry as planned
 use Rattle.restore_steps.specs.declared.fault.PlanFault.{PlanFault}
 use Rattle.restore_steps.specs.declared.fault.PlanFault.TheVariants as plans
 use Rattle.restore_runs.specs.Wanted.{wanted_due}
-use Rattle.restore_folders.specs.Works.{in_entries, with_role, work_due}
+use Rattle.restore_tools.specs.Works.{in_entries, with_role, work_due}
 use Rattle.restore_tools.specs.Due.{path_taken, bytes_taken, taken_of, work_of, restore_due as restoring_due}
 use Rattle.tool_words.specs.Words.{asked_of, built, asked_by, words_asked}
 use Rattle.dump_ports.specs.declared.moment.Moment.{Moment}

@@ -3,7 +3,7 @@ use Rattle.std.proofs.Common.{◌≡◌, ℕ, ◌≤◌, ◌⊎◌, Option, Some
 use Rattle.dump_ports.specs.Tree.{Tree}
 use Rattle.dump_ports.specs.Faults.{HasRisen}
 use Rattle.cat_model.specs.Values.{Bytes}
-use Rattle.restore_folders.specs.Written.{files_written as files_restored}
+use Rattle.restore_tools.specs.Written.{files_written as files_restored}
 use Rattle.restore_tools.specs.Due.{Restoring, answer_due, report_of as report_of_restore, restore_due as restoring_due}
 use Rattle.restore_tools.specs.Standing.{IsAnswer, WasRestored, IsUntouched, CutInFiles, CutInReport, CountsReads}
 use Rattle.restore_tools.specs.Standing.{IsUnmade as IsUnwritten, IsAnswerDue as IsRestoreDue, HasCut as HasRestoreCut, CountsWrites as CountsPuts}

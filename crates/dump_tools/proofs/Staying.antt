@@ -16,7 +16,7 @@ use Rattle.schema_folders.specs.Folder.{IsElsewhere, all_tables, table_written, 
 use Rattle.saved_folders.specs.Files.{File}
 use Rattle.dump_tools.specs.Outputs.{World, Output, Stores, Patches, Writes, Tells, Takes, with_text, performed, all_performed, IsPart, IsCut, CutShort, stores}
 use Rattle.std.specs.List.{AllByRecursion}
-use Rattle.restore_folders.specs.Written.{files_written as files_restored}
+use Rattle.restore_tools.specs.Written.{files_written as files_restored}
 use Rattle.restore_tools.specs.Due.{Restoring, report_of as report_of_restore}
 use Rattle.saved_folders.specs.Folders.{files_of}
 use Rattle.dump_tools.specs.Runs.{Run, IsCompared, put_by, MayBeRun, MayBeRestored, MayCome, MayRun}

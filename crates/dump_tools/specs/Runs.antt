@@ -15,7 +15,7 @@ use Rattle.tool_words.specs.declared.words.Teller.{Teller}
 use Rattle.tool_words.specs.Words.{teller_of, reads_input}
 use Rattle.tool_words.specs.Messages.{outcome_line}
 use Rattle.cat_model.specs.declared.words.What.TheVariants.{Unbuilt}
-use Rattle.restore_folders.specs.Written.{LeavesEnding, files_written as files_restored}
+use Rattle.restore_tools.specs.Written.{LeavesEnding, files_written as files_restored}
 use Rattle.restore_tools.specs.Due.{Restoring, ending, answer_due, report_of as report_of_restore}
 use Rattle.saved_folders.specs.Exports.{WithTexts}
 use Rattle.saved_folders.specs.Folders.{Texts, files_of}

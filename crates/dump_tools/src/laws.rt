@@ -1,6 +1,6 @@
 //! Laws of the definitions, each the contract of a function that does nothing.
 ghost use Rattle.std.specs.List.{AllByRecursion};
-ghost use Rattle.restore_folders.specs.Written.{tree_after, files_written as files_restored};
+ghost use Rattle.restore_tools.specs.Written.{tree_after, files_written as files_restored};
 ghost use Rattle.restore_tools.specs.Due.{Restoring, report_of as report_of_restore};
 ghost use Rattle.saved_folders.specs.Exports.{WithTexts};
 ghost use Rattle.saved_folders.specs.Folders.{Texts, files_of};

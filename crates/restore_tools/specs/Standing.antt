@@ -8,7 +8,7 @@ use Rattle.openings.specs.Openings.{export_named}
 use Rattle.restore_folders.specs.Written.{LeavesEnding, files_written, tree_after}
 use Rattle.saved_folders.specs.Exports.{WithTexts}
 use Rattle.saved_folders.specs.Files.{PartSaved}
-use Rattle.script_runs.specs.Writing.{NoOidIsLeft, IsPastLimit}
+use Rattle.restore_folders.specs.Writing.{NoOidIsLeft, IsPastLimit}
 use Rattle.tool_words.specs.declared.outcome.Outcome.{Outcome}
 use Rattle.tool_words.specs.declared.outcome.Outcome.TheVariants.{Done, ReadFault, WriteFault, OutOfProfile, TooLarge, WithErrors, RestoreStopped}
 use Rattle.tool_words.specs.Answers.{IsDue}

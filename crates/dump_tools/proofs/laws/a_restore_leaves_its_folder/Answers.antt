@@ -1,5 +1,5 @@
 use Rattle.std.proofs.Common.{[], ◌∷◌, ap, ◌∙◌}
-use Rattle.restore_folders.specs.Written.{files_written as files_restored}
+use Rattle.restore_tools.specs.Written.{files_written as files_restored}
 use Rattle.restore_tools.specs.Due.{report_of as report_of_restore}
 use Rattle.dump_tools.specs.Outputs.{Tells, all_performed}
 use Rattle.dump_tools.proofs.Putting.{all_put}

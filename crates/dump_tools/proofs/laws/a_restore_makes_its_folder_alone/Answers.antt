@@ -1,4 +1,4 @@
-use Rattle.restore_folders.specs.Written.{files_written as files_restored}
+use Rattle.restore_tools.specs.Written.{files_written as files_restored}
 use Rattle.dump_tools.proofs.Staying.{stored_alone, stored_silent}
 use Rattle.dump_tools.proofs.laws.a_restore_makes_its_folder_alone.Goals as goal
 
