@@ -55,7 +55,7 @@ impl Calls {
 }
 
 /// The files of a system, with a count of its calls.
-#[derive(Clone, Copy)]
+#[derive(Drop)]
 pub struct CutFiles<'a, R> {
     /// The system.
     pub rt: &'a R,
