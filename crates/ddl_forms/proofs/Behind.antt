@@ -69,22 +69,13 @@ opens_of [] = Anything
 opens_of (b ∷ rest) = cond (is_safe_byte b) Safe (cond (parts_words b) Words Anything)
 
 pub opened : (g text : List ℕ) → Opens false (opens_of g) (g ++ text)
-opened [] text Anything c rest e = refl
-opened [] text m c rest e = absurd cc
-opened (b ∷ g) text m c rest e = by (is_safe_byte b) (parts_words b) refl refl m c
-  where
-    by : (s w : Bool) → is_safe_byte b ≡ s → parts_words b ≡ w → (m : Behind) → covers m (cond s Safe (cond w Words Anything)) ≡ true → admits m (b ∷ ((g ++ text) ++ rest)) ≡ true
-    by s w is parts m c = grind arith
+opened g text = grind arith
 
 pub then_opens : (la lb : Bool) (oa ob : Behind) (a b : List ℕ) → Opens la oa a → Opens lb ob b → Opens (cond la lb false) (cond la (looser oa ob) oa) (a ++ b)
-then_opens true lb oa ob a b f g m c rest h = let k = loose m oa ob c in ap (admits m) (append_assoc a b rest) ∙ f m k.0 (b ++ rest) (g m k.1 rest h)
-then_opens false lb oa ob a b f g m c rest h = ap (admits m) (append_assoc a b rest) ∙ f m c (b ++ rest) refl
+then_opens la lb oa ob a b f g = grind (arith, loose, append_assoc)
 
 pub one_opens : (la lb : Bool) (oa ob : Behind) (a : List ℕ) → Opens la oa a → Opens (la || lb) (looser oa ob) a
-one_opens true lb oa ob a f m c rest h = f m (loose m oa ob c).0 rest h
-one_opens false lb oa ob a f m c rest h = f m (loose m oa ob c).0 rest refl
+one_opens la lb oa ob a f = grind (arith, loose)
 
 pub other_opens : (la lb : Bool) (oa ob : Behind) (b : List ℕ) → Opens lb ob b → Opens (la || lb) (looser oa ob) b
-other_opens true true oa ob b f m c rest h = f m (loose m oa ob c).1 rest h
-other_opens true false oa ob b f m c rest h = f m (loose m oa ob c).1 rest refl
-other_opens false lb oa ob b f m c rest h = f m (loose m oa ob c).1 rest h
+other_opens la lb oa ob b f = grind (arith, loose)

@@ -30,11 +30,7 @@ outside_more spot kind ends is_not is_null x e = grind arith
 
 step_more : (s x : Nest) (t : Lexeme) → nest_step true false s t ≡ Some x → nest_step true true s t ≡ Some x
 unfolding nest_step
-step_more s x t e = by s.brackets e
-  where
-    by : (bs : List Bracket) → step_by true false s.spot t bs ≡ Some x → step_by true true s.spot t bs ≡ Some x
-    by [] f = outside_more s.spot t.kind (ends_run true t) (is_word (codes "not") t) (is_word (codes "null") t) x f
-    by (b ∷ bs) f = f
+step_more s x t e = grind arith
 
 -- what a step is: one of the machine that doesn't take NOT NULL, which is never behind it, and behind a later NOT by that
 -- word alone; or where it is taken, NULL behind a later NOT
@@ -46,16 +42,7 @@ Ends takes is_null spot x = (takes ≡ true) × (is_null ≡ true) × (spot ≡ 
 
 outside_goes : (takes : Bool) (spot : Spot) (kind : TokenKind) (ends is_not is_null : Bool) (x : Nest) → outside takes spot kind ends is_not is_null ≡ Some x
     → Goes (λ y. outside false spot kind ends is_not is_null ≡ Some y) is_not (is_inside spot []) (is_shut spot) x ⊎ Ends takes is_null spot x
-outside_goes takes spot kind true is_not is_null x e = absurd cc
-outside_goes takes First kind false true is_null x e = inl (passed (Goes (λ y. outside false First kind false true is_null ≡ Some y) true false false) (nest [] FirstNot) x e (refl, refl, λ f. absurd cc))
-outside_goes takes Shut kind false true is_null x e = absurd cc
-outside_goes takes spot kind false true is_null x e = inl (passed (Goes (λ y. outside false spot kind false true is_null ≡ Some y) true (is_inside spot []) (is_shut spot)) (nest [] LaterNot) x e (refl, refl, λ f. (refl, refl, refl)))
-outside_goes takes FirstNot kind false false true x e = absurd cc
-outside_goes takes Shut kind false false true x e = absurd cc
-outside_goes true LaterNot kind false false true x e = inr (passed (Ends true true LaterNot) (nest [] Shut) x e (refl, refl, refl, refl))
-outside_goes false LaterNot kind false false true x e = absurd cc
-outside_goes takes spot kind false false true x e = inl (passed (Goes (λ y. outside false spot kind false false true ≡ Some y) false (is_inside spot []) (is_shut spot)) (nest [] Inside) x e (refl, refl, λ f. absurd cc))
-outside_goes takes spot kind false false false x e = let inside = other_inside kind spot x e in inl (e, ap is_shut inside, λ f. absurd (cc (inside, f)))
+outside_goes takes spot kind ends is_not is_null x e = grind arith
 
 step_goes : (takes : Bool) (s x : Nest) (t : Lexeme) → nest_step true takes s t ≡ Some x → Goes (λ y. nest_step true false s t ≡ Some y) (is_word (codes "not") t) (nest_done s) (is_shut s.spot) x ⊎ Ends takes (is_word (codes "null") t) s.spot x
 unfolding nest_step nest_done
@@ -83,13 +70,7 @@ run_more s last (t ∷ ts) free e = by (nest_step true false s t) refl (λ x is 
 -- a word changes no bracket
 word_keeps : (key : List ℕ) (t : Lexeme) (bs : List Bracket) → is_word key t ≡ true → behind_kind t.kind bs ≡ Some bs
 unfolding is_word is_keyword_of
-word_keeps key t bs e = by t.kind t.word e
-  where
-    by : (k : TokenKind) (w : List ℕ) → is_keyword_of k w key ≡ true → behind_kind k bs ≡ Some bs
-    by Word w f = refl
-    by (Sign c) w f = absurd cc
-    by MetaLine w f = absurd cc
-    by x w f = refl
+word_keeps key t bs e = grind arith
 
 -- where NOT NULL isn't taken, no run ends with it
 null_refused : (spot : Spot) (kind : TokenKind) (ends : Bool) → behind_null false spot ≡ None → outside false spot kind ends false true ≡ None
@@ -97,10 +78,7 @@ null_refused spot kind ends e = grind arith
 
 both_refused : (spot : Spot) (kind : TokenKind) (ends is_null : Bool) (b : Lexeme) → is_word (codes "not") b ≡ false → is_word (codes "null") b ≡ true → option_and_then (λ x. nest_step true false x b) (outside false spot kind ends true is_null) ≡ None
 unfolding nest_step
-both_refused spot kind true is_null b e f = refl
-both_refused Shut kind false is_null b e f = refl
-both_refused First kind false is_null b e f = rw (e, f) (null_refused FirstNot b.kind (ends_run true b) refl)
-both_refused x kind false is_null b e f = rw (e, f) (null_refused LaterNot b.kind (ends_run true b) refl)
+both_refused spot kind ends is_null b e f = grind arith
 
 both_within : (c : Bracket) (bs : List Bracket) (spot : Spot) (a b : Lexeme) → is_word (codes "not") a ≡ true → is_word (codes "null") b ≡ true
     → option_and_then (λ x. nest_step true false x b) (step_by true false spot a (c ∷ bs)) ≡ Some (nest (c ∷ bs) Inside)
@@ -141,17 +119,11 @@ two_less : (front : List Lexeme) (a b : Lexeme) → length (front ++ a ∷ b ∷
 two_less front a b = omega (arith, length-append front (a ∷ b ∷ []))
 
 nulls_are : (front : List Lexeme) (a b : Lexeme) → are_nulls (front ++ a ∷ b ∷ []) ≡ are_not_null (a ∷ b ∷ [])
-nulls_are front a b =
-    let ts = front ++ a ∷ b ∷ [] in
-    ap (λ n. are_not_null (drop n ts)) (two_less front a b) ∙ ap are_not_null (drop_at front (a ∷ b ∷ []) (length front) refl)
+nulls_are front a b = grind (arith, two_less, drop_at)
 
 with_nulls : (front : List Lexeme) (a b : Lexeme) → are_not_null (a ∷ b ∷ []) ≡ true → without_not_null (front ++ a ∷ b ∷ []) ≡ (source front, true)
 unfolding without_not_null
-with_nulls front a b is =
-    let ts = front ++ a ∷ b ∷ [] in
-    ap (λ (e : Bool). ended_by e (take (length ts - 2) ts) ts) (nulls_are front a b ∙ is)
-    ∙ ap (λ n. ended_by true (take n ts) ts) (two_less front a b)
-    ∙ ap (λ (us : List Lexeme). ended_by true us ts) (take_at front (a ∷ b ∷ []) (length front) refl)
+with_nulls front a b is = grind (arith, nulls_are, two_less, take_at)
 
 without_nulls : (ts : List Lexeme) → are_nulls ts ≡ false → without_not_null ts ≡ (source ts, false)
 unfolding without_not_null
@@ -220,8 +192,7 @@ alone_spells v ts whole r =
 
 null_spells : (v : List ℕ) (ts : List Lexeme) (at : ℕ) → source ts ≡ v → Runs (nested true false) ts → default_and_null.Spells (v, true) (ts ++ placed at not_null)
 unfolding default_and_null
-null_spells v ts at whole r =
-    (ts ++ placed at not_null, sym (with_nulls ts _ _ (placed_nulls at) ∙ ap (λ (x : List ℕ). (x, true)) whole), (refl, runs_with_null ts at r))
+null_spells v ts at whole r = grind (arith, not_null, with_nulls, placed_nulls, runs_with_null)
 
 abbrev pub null_words : List ℕ
 null_words = codes " NOT NULL"
@@ -250,9 +221,7 @@ shut_outside kind x is_not is_null = grind arith
 stays_shut : (last : Nest) (ts : List Lexeme) → run (nested true true) (Some (nest [] Shut)) ts ≡ Some last → is_shut last.spot ≡ true
 unfolding nest_step
 stays_shut last [] e = passed (λ y. is_shut y.spot ≡ true) (nest [] Shut) last e refl
-stays_shut last (t ∷ ts) e =
-    let none = shut_outside t.kind (ends_run true t) (is_word (codes "not") t) (is_word (codes "null") t) in
-    absurd (not_some last (run (nested true true) (nest_step true true (nest [] Shut) t) ts) e (ap (λ o. run (nested true true) o ts) none ∙ run_none (nested true true) ts))
+stays_shut last (t ∷ ts) e = grind (arith, passed, shut_outside, ends_run, not_some, run_none)
 
 -- a run that isn't behind NOT NULL is one of the machine that doesn't take it
 run_less : (s last : Nest) (ts : List Lexeme) → run (nested true true) (Some s) ts ≡ Some last → is_shut last.spot ≡ false → run (nested true false) (Some s) ts ≡ Some last

@@ -124,8 +124,7 @@ Begun [] = ⊥
 Begun (b ∷ rest) = is_blank b ≡ false
 
 pub begun_some : (word : List ℕ) → Begun word → 0 < length word
-begun_some [] h = absurd h
-begun_some (b ∷ rest) h = omega arith
+begun_some word h = grind arith
 
 mark_solid : (b : ℕ) → marks_escapes b ≡ true → is_blank b ≡ false
 unfolding marks_escapes is_blank
@@ -166,44 +165,25 @@ unfolding is_digit
 safe_digit b e = grind (arith, nat_tests)
 
 safe_other : (b c : ℕ) → is_safe_byte b ≡ true → is_safe_byte c ≡ false → (b == c) ≡ false
-safe_other b c e f = by (cases_Bool (b == c))
-  where
-    by : ((b == c) ≡ true) ⊎ ((b == c) ≡ false) → (b == c) ≡ false
-    by (inl is) = grind (arith, nat_tests)
-    by (inr isnt) = isnt
+safe_other b c e f = grind arith
 
 -- nothing that is safe goes on with a token
 pub safe_ends : (kind : TokenKind) (word after : List ℕ) → (kind ≡ MetaLine → ⊥) → is_safe after ≡ true → goes_on kind word after ≡ false
 unfolding goes_on next_is goes_on_behind_dot
-safe_ends Word word [] line e = and_false _
-safe_ends QuotedName word [] line e = refl
-safe_ends Literal word [] line e = refl
-safe_ends Number word [] line e = and_false _
-safe_ends (Sign b) word [] line e = rw (and_false (b == 45), and_false (b == 47)) refl
-safe_ends Word word (b ∷ after) line e = rw (safe_word b e, safe_other b 39 e refl) (and_false _)
-safe_ends QuotedName word (b ∷ after) line e = safe_other b 34 e refl
-safe_ends Literal word (b ∷ after) line e = safe_other b 39 e refl
-safe_ends Number word (b ∷ after) line e = rw (safe_digit b e, safe_other b 46 e refl) (and_false _)
-safe_ends (Sign c) word (b ∷ after) line e = rw (safe_other b 45 e refl, safe_other b 42 e refl, and_false (c == 45), and_false (c == 47)) refl
-safe_ends MetaLine word after line e = absurd (line refl)
+safe_ends kind word after line e = grind (arith, and_false, safe_word, safe_other, safe_digit)
 
 safe_next_digit : (after : List ℕ) → is_safe after ≡ true → next_is is_digit after ≡ false
 unfolding next_is
-safe_next_digit [] e = refl
-safe_next_digit (b ∷ after) e = safe_digit b e
+safe_next_digit after e = grind (arith, safe_digit)
 
 -- one byte of what goes on stays
 one_stays : (kind : TokenKind) (word : List ℕ) (x : ℕ) (r after : List ℕ) → goes_on kind word (x ∷ r) ≡ false → is_safe after ≡ true → goes_on kind word (x ∷ after) ≡ false
 unfolding goes_on next_is goes_on_behind_dot
-one_stays Number word x r after e safe =
-    let h = or_parts (is_digit x) (list_all is_digit word && (x == 46 && next_is is_digit r)) e in
-    rw (h.0, safe_next_digit after safe, and_false (x == 46)) (and_false _)
-one_stays kind word x r after e safe = e
+one_stays kind word x r after e safe = grind (arith, or_parts, safe_next_digit, and_false)
 
 two_stay : (kind : TokenKind) (word : List ℕ) (x y : ℕ) (r after : List ℕ) → goes_on kind word (x ∷ y ∷ r) ≡ false → goes_on kind word (x ∷ y ∷ after) ≡ false
 unfolding goes_on next_is goes_on_behind_dot
-two_stay Word word x y r after e = e
-two_stay w word x y r after e = e
+two_stay kind word x y r after e = grind arith
 
 pub still_ends : (kind : TokenKind) (word m r after : List ℕ) → (kind ≡ MetaLine → ⊥) → goes_on kind word (m ++ r) ≡ false → is_safe after ≡ true → goes_on kind word (m ++ after) ≡ false
 still_ends kind word [] r after line e safe = safe_ends kind word after line safe
@@ -212,9 +192,7 @@ still_ends kind word (x ∷ y ∷ m) r after line e safe = two_stay kind word x 
 
 gap_stays : (g : List ℕ) (x : ℕ) (r other : List ℕ) → IsGap g (x ∷ r) → IsGap g (x ∷ other)
 unfolding next_is
-gap_stays g x r other (inl h) = inl h
-gap_stays g x r other (inr (inl h)) = inr (inl h)
-gap_stays g x r other (inr (inr h)) = inr (inr h)
+gap_stays g x r other h = grind arith
 
 -- a gap before a word of a byte at least, whatever comes behind the word
 gap_again : (g more word r other : List ℕ) → 0 < length word → IsGap g (more ++ (word ++ r)) → IsGap g (more ++ (word ++ other))

@@ -93,8 +93,7 @@ pub positive_is : (n : ℕ) → n < 2 ^ 63 → IsInt (pos n)
 positive_is n small = lt-ltb n (2 ^ 63) small
 
 pub opposite_is : (n : ℕ) → n < 2 ^ 63 + 1 → IsInt (opposite n)
-opposite_is zero small = lt-ltb 0 (2 ^ 63) (omega arith)
-opposite_is (suc n) small = lt-ltb n (2 ^ 63) (omega arith)
+opposite_is n small = grind arith
 
 abbrev pub IsBelow : ℕ → Option ℕ → Type 0
 IsBelow limit None = Unit {0}
@@ -102,20 +101,10 @@ IsBelow limit (Some n) = n < limit
 
 pub count_below : (limit : ℕ) (ts : List Lexeme) → IsBelow limit (count_first limit ts)
 unfolding digits_below
-count_below limit ts = by_word (number_first ts)
-  where
-    by : (word : List ℕ) (a b : Bool) → nat_lt (digits_value 10 word) limit ≡ b → IsBelow limit (cond (a && b) (Some (digits_value 10 word)) None)
-    by word true true e = ltb-true (digits_value 10 word) limit e
-    by word true false e = tt
-    by word false b e = tt
-
-    by_word : (o : Option (List ℕ)) → IsBelow limit (option_and_then (digits_below limit) o)
-    by_word None = tt
-    by_word (Some word) = by word (list_all is_digit word) (nat_lt (digits_value 10 word) limit) refl
+count_below limit ts = grind arith
 
 counted_below : (limit n : ℕ) (o : Option ℕ) → IsBelow limit o → counted o ≡ Ok n → n < limit
-counted_below limit n None is e = absurd cc
-counted_below limit n (Some m) is e = let same : m ≡ n = cc in subst (λ (x : ℕ). x < limit) same is
+counted_below limit n o is e = grind arith
 
 pub number_made : Yields IsInt whole_number
 unfolding whole_number count_value

@@ -20,8 +20,7 @@ abbrev pub bare : TokenKind → List ℕ → Lexeme
 bare kind word = record { gap = []; kind = kind; word = word; start = 0 }
 
 pub sign_kind : (b : ℕ) (k : TokenKind) → is_sign_kind b k ≡ true → k ≡ Sign b
-sign_kind b (Sign c) e = ap Sign (sym (eqb-true b c e))
-sign_kind b x e = absurd cc
+sign_kind b k e = grind arith
 
 -- a step goes by kinds and words, and takes neither a semicolon nor a line that begins with a backslash
 abbrev pub GoesByWords : {S : Type 0} → (Lexeme → Option S) → Type 0
@@ -52,8 +51,7 @@ are_plain m h s last (t ∷ ts) e = by (m.step s t) refl (λ x f. are_plain m h 
     by (Some x) is later f = (record { ends = h.ends s x t is; line = h.line s x t is }, later x f)
 
 pub last_more : (test : Lexeme → Bool) (t : Lexeme) (us : List Lexeme) → test t ≡ false → only_last test us ≡ true → only_last test (t ∷ us) ≡ true
-last_more test t [] e last = refl
-last_more test t (u ∷ us) e last = and_from (not (test t)) (only_last test (u ∷ us)) (ap not e) last
+last_more test t us e last = grind arith
 
 pub plain_last : (ts us : List Lexeme) → AllPlain ts → only_last semicolon us ≡ true → only_last semicolon (ts ++ us) ≡ true
 plain_last [] us h last = last
@@ -78,8 +76,7 @@ spelled_placed at (t ∷ ts) = ap (λ (x : List ℕ). t.gap ++ (t.word ++ x)) (s
 
 step_placed : (m : Machine) → IsPlainMachine m → (s : Option m.State) (gap : List ℕ) (start : ℕ) (t : Lexeme)
     → option_and_then (λ x. m.step x (record { gap = gap; kind = t.kind; word = t.word; start = start })) s ≡ option_and_then (λ x. m.step x t) s
-step_placed m h None gap start t = refl
-step_placed m h (Some x) gap start t = h.same x gap start t
+step_placed m h s gap start t = grind arith
 
 pub run_placed : (m : Machine) → IsPlainMachine m → (s : Option m.State) (at : ℕ) (ts : List Lexeme) → run m s (placed at ts) ≡ run m s ts
 run_placed m h s at [] = refl
@@ -118,11 +115,7 @@ abbrev pub IsSafe : List Lexeme → Type 0
 IsSafe others = (after : List ℕ) → is_safe after ≡ true → is_safe (spelled others ++ after) ≡ true
 
 pub safe_behind : (others : List Lexeme) → is_safe (spelled others) ≡ true → IsSafe others
-safe_behind others e after safe = by (spelled others) e
-  where
-    by : (bytes : List ℕ) → is_safe bytes ≡ true → is_safe (bytes ++ after) ≡ true
-    by [] e = safe
-    by (b ∷ rest) e = e
+safe_behind others e = grind arith
 
 -- ---- a run's text
 

@@ -41,9 +41,7 @@ record Next (text : List ℕ) (at : ℕ) (t : Lexeme) : Type 0 where
   same : lexeme_of text (record { from = at; token = record { kind = t.kind; start = at + length t.gap; end = at + length t.gap + length t.word } }) ≡ record { gap = t.gap; kind = t.kind; word = t.word; start = at + length t.gap }
 
 slice_at : (front word rest : List ℕ) → slice_range (front ++ (word ++ rest)) (length front) (length front + length word) ≡ word
-slice_at front word rest =
-    ap (λ n. take n (drop (length front) (front ++ (word ++ rest)))) (let e : length front + length word - length front ≡ length word = omega arith in e)
-    ∙ ap (take (length word)) (drop_at front (word ++ rest) (length front) refl) ∙ take_at word rest (length word) refl
+slice_at front word rest = grind (arith, drop_at, take_at)
 
 abbrev lexeme : List ℕ → TokenKind → List ℕ → ℕ → Lexeme
 lexeme gap kind word start = record { gap = gap; kind = kind; word = word; start = start }
@@ -147,9 +145,7 @@ collects text front ts after e s safe last ends =
 -- tokens without a semicolon, up to the end of the text
 pub are_all_collected : (n : ℕ) (text front : List ℕ) (ts : List Lexeme) → text ≡ front ++ (spelled ts ++ []) → Stood ts → NoSemicolon ts → length ts ≤ n → IsCollected text (length front) ts (collected_within (suc n) text (length front))
 unfolding collected_within is_sign
-are_all_collected n text front [] e s plain le =
-    let at_end : next_token_of text (length front) ≡ Ok None = next_at_end text (length front) (ap length (sym (e ∙ append-nil front))) in
-    subst (λ c. IsCollected text (length front) [] c) (sym (ap (collected_by (collected_within n text) (length front)) at_end)) (record { tokens = refl; end = let z : length front ≡ length front + 0 = omega arith in z; fault = refl })
+are_all_collected n text front [] e s plain le = grind (arith, next_at_end, append-nil, text_past, one_more, next_stands)
 are_all_collected zero text front (t ∷ ts) e s plain le = absurd (omega arith)
 are_all_collected (suc n) text front (t ∷ ts) e s plain le =
     let e' = text_past text front t ts [] e in

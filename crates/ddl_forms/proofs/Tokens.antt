@@ -33,13 +33,7 @@ is_spoken _ = false
 -- nothing that parts words goes on with a word, a name or a literal
 spoken_ends : (kind : TokenKind) (word rest after : List ℕ) → is_spoken kind ≡ true → admits Words rest ≡ true → is_safe after ≡ true → goes_on kind word (rest ++ after) ≡ false
 unfolding goes_on next_is
-spoken_ends Word word [] after is e safe = safe_ends Word word after (λ f. absurd cc) safe
-spoken_ends QuotedName word [] after is e safe = safe_ends QuotedName word after (λ f. absurd cc) safe
-spoken_ends Literal word [] after is e safe = safe_ends Literal word after (λ f. absurd cc) safe
-spoken_ends Word word (b ∷ rest) after is e safe = rw ((parted b e).0, (parted b e).2) (and_false _)
-spoken_ends QuotedName word (b ∷ rest) after is e safe = (parted b e).1
-spoken_ends Literal word (b ∷ rest) after is e safe = (parted b e).2
-spoken_ends kind word rest after is e safe = absurd cc
+spoken_ends kind word rest after is e safe = grind (arith, nat_tests, safe_ends, parted, and_false)
 
 -- ---- what names and literals begin with
 
@@ -49,8 +43,7 @@ bare_no_blank b e = grind (arith, nat_tests)
 
 bare_begun : (n : List ℕ) → is_bare n ≡ true → Begun n
 unfolding is_bare
-bare_begun [] e = absurd cc
-bare_begun (b ∷ rest) e = bare_no_blank b (and_parts (begins_bare b) (list_all in_bare rest) e).0
+bare_begun n e = grind (arith, bare_no_blank, and_parts)
 
 pub name_begun : (n : List ℕ) → Begun (written_name n)
 unfolding written_name quoted is_blank
@@ -75,25 +68,18 @@ pub data Gap : List ℕ → Type 0 where
 -- it is passed over
 pub passes : (g : List ℕ) → Gap g → Passed g
 unfolding is_blank
-passes _ none = nothing_passed
-passes _ (passed g is) = is
-passes g other = blanks_passed g (omega arith) refl
+passes g gap = grind (arith, nothing_passed, blanks_passed)
 
 pub gap_stands : (g word rest : List ℕ) → Gap g → Begun word → GapStands g (word ++ rest)
 gap_stands g word rest gap begun front after safe = passes g gap front ((word ++ rest) ++ after)
 
 pub word_begun : (w : List ℕ) → IsWord w → Begun w
-word_begun [] h = absurd h
-word_begun (b ∷ rest) h = word_free b h.0
+word_begun w h = grind (arith, word_free)
 
 -- what is read of a word before what doesn't go on with it stands before what parts words
 spoken_stands : {g : List ℕ} (kind : TokenKind) (word rest : List ℕ) → is_spoken kind ≡ true → Gap g → Begun word → admits Words rest ≡ true → ((front after : List ℕ) → goes_on kind word after ≡ false → IsTokenAt (front ++ (word ++ after)) (length front) kind word)
     → Stands (record { gap = g; kind = kind; word = word; start = 0 }) rest
-spoken_stands {g} kind word rest is gap begun e reads = record {
-  gap = gap_stands g word rest gap begun;
-  token = λ front after safe. reads front (rest ++ after) (spoken_ends kind word rest after is e safe);
-  some = begun_some word begun;
-}
+spoken_stands kind word rest is gap begun e reads = grind (arith, gap_stands, spoken_ends, begun_some)
 
 pub a_word : {g : List ℕ} (w rest : List ℕ) → Gap g → IsWord w → is_utf8 w ≡ true → admits Words rest ≡ true → Stands (word_token g w) rest
 a_word w rest gap word utf8 e = spoken_stands Word w rest refl gap (word_begun w word) e (λ front after ends. spelling_is_read front w after Word word ends utf8 (λ f. absurd cc))

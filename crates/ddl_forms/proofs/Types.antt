@@ -9,8 +9,7 @@ use Rattle.cat_model.specs.declared.type_name.TypeName.TheVariants as type_name
 
 typing_goes : (s : TypeSpot) → GoesByWords (type_step s)
 unfolding type_step is_type_word is_number is_word is_sign name_value name_in name_of is_keyword_of
-typing_goes Begin = ((λ gap start t. refl), λ word. (refl, refl))
-typing_goes x = ((λ gap start t. refl), λ word. (refl, refl))
+typing_goes s = grind arith
 
 typing_plain : IsPlainMachine typing
 unfolding type_done
@@ -38,10 +37,7 @@ unfolding type_of is_sign
 type_by ts = grind arith
 
 no_dot : (ts : List Lexeme) (v : List ℕ) → type_of ts ≡ type_name.Words v → has_dot (kinds ts) ≡ false
-no_dot ts v e = by (has_dot (kinds ts)) (sym (type_by ts) ∙ e)
-  where
-    by : (b : Bool) → by_dot ts b ≡ type_name.Words v → b ≡ false
-    by b f = grind arith
+no_dot ts v e = grind (arith, type_by)
 
 words_by : (ts : List Lexeme) (v : List ℕ) → has_dot (kinds ts) ≡ false → source ts ≡ v → type_of ts ≡ type_name.Words v
 words_by ts v isnt whole = type_by ts ∙ ap (by_dot ts) isnt ∙ ap type_name.Words whole
@@ -53,21 +49,18 @@ first_spot is_word r = cond is_word (Some (FirstWord (is_ok r))) (if_name r Sche
 
 dot_step : (dot : Lexeme) → is_sign 46 dot ≡ true → (b : Bool) (r : Result (List ℕ) Bool) → option_and_then (λ s. type_step s dot) (first_spot b r) ≡ only_if (is_ok r) Dotted
 unfolding type_step
-dot_step dot e false (Err long) = refl
-dot_step dot e b r = rw e refl
+dot_step dot e b r = grind arith
 
 abbrev name_spot : Bool → Result (List ℕ) Bool → Option TypeSpot
 name_spot ok r = cond ok (if_name r Path) None
 
 name_step : (b : Lexeme) (ok : Bool) → option_and_then (λ s. type_step s b) (only_if ok Dotted) ≡ name_spot ok (name_value b)
 unfolding type_step
-name_step b true = refl
-name_step b false = refl
+name_step b ok = grind arith
 
 three_steps : (a dot b : Lexeme) (rest : List Lexeme) → is_sign 46 dot ≡ true → run typing (Some Begin) (a ∷ dot ∷ b ∷ rest) ≡ run typing (name_spot (is_ok (name_value a)) (name_value b)) rest
 unfolding type_step
-three_steps a dot b rest e =
-    ap (λ o. run typing o (b ∷ rest)) (dot_step dot e (is_type_word a) (name_value a)) ∙ ap (λ o. run typing o rest) (name_step b (is_ok (name_value a)))
+three_steps a dot b rest e = grind arith
 
 path_runs : (a dot b : Lexeme) (q : QName) → is_sign 46 dot ≡ true → name_value a ≡ Ok q.schema → name_value b ≡ Ok q.name → Runs typing (a ∷ dot ∷ b ∷ [])
 unfolding type_done
@@ -129,14 +122,7 @@ words_read ts r came runs isnt =
 -- what tokens of a text spell is a type
 pub type_is_read : (ty : TypeName) (ts : List Lexeme) (r : List ℕ) → AllCame ts r → type_part.Spells ty ts → IsType ty
 unfolding type_part
-type_is_read ty ts r came spells = by (has_dot (kinds ts)) refl
-  where
-    is : ty ≡ type_of ts
-    is = spells.1 ∙ ap type_of spells.2.0
-
-    by : (b : Bool) → has_dot (kinds ts) ≡ b → IsType ty
-    by false h = subst IsType (sym (is ∙ words_by ts (source ts) h refl)) (words_read ts r came spells.2.1 h)
-    by true h = subst IsType (sym (is ∙ type_by ts ∙ ap (by_dot ts) h)) (path_names ts spells.2.1.last spells.2.1.runs h)
+type_is_read ty ts r came spells = grind (arith, words_by, words_read, type_by, path_names)
 
 abbrev pub type_as : {g : List ℕ} → Gap g → Written type_part
 type_as {g} gap = leaf_as IsType IsType g (λ ty is. type_text ty) Safe (λ ty is others. type_put gap ty others is) type_is_read

@@ -55,11 +55,7 @@ is_bare_word (b ∷ w) = begins_word b && (list_all in_word w && is_utf8 (b ∷ 
 
 pub bare_word : (w : List ℕ) → is_bare_word w ≡ true → IsWord w × (is_utf8 w ≡ true)
 unfolding is_bare_word
-bare_word [] e = absurd cc
-bare_word (b ∷ w) e =
-    let first = and_parts _ _ e in
-    let rest = and_parts _ _ first.1 in
-    ((first.0, rest.0), rest.1)
+bare_word w e = grind (arith, and_parts)
 
 -- a bare word that a token may be, and what that token means
 abbrev pub Says : {A : Type 0} → (Lexeme → Result A Bool) → List ℕ → A → Type 0
@@ -244,11 +240,7 @@ then_begins a b v w fit other =
     (then_opens a.lacks b.lacks a.opens b.opens (joined (a.pieces v fit)) (joined (b.pieces w other)) (a.begins v fit) (b.begins w other))
 
 pub then_made : {A B : Type 0} (p : Part A) (q : Part B) (P : A → Type 0) (Q : B → Type 0) → Yields P p → Yields Q q → Yields (λ v. P v.0 × Q v.1) (p then q)
-then_made p q P Q f g v ts r came spells =
-    let a = spells.0 in
-    let b = spells.1 in
-    let parts : AllCame (a ++ b) r = subst (λ (us : List Lexeme). AllCame us r) spells.2 came in
-    (f v.0 a _ (came_front a b r parts) spells.3, g v.1 b r (came_behind a b r parts) spells.4)
+then_made p q P Q f g = grind (arith, came_front, came_behind)
 
 pub then_closes : {A B : Type 0} (p : Part A) (q : Part B) → Closes semicolon q → Closes semicolon (p then q)
 then_closes p q closes v ts spells = ap (ends_with semicolon) spells.2 ∙ ends_append semicolon spells.0 spells.1 (closes v.1 spells.1 spells.4)
@@ -423,8 +415,7 @@ option_to P None fit = inr refl
 option_to P (Some v) fit = inl (v, fit, refl)
 
 pub option_from : {A : Type 0} (P : A → Type 0) (o : Option A) → ((y : A) × P y × (Some y ≡ o)) ⊎ (o ≡ None) → OptionFit P o
-option_from P o (inl h) = subst (OptionFit P) h.2 h.1
-option_from P o (inr e) = subst (OptionFit P) (sym e) tt
+option_from P o h = grind arith
 
 -- a value, or what stands for none
 abbrev pub given_or : {A : Type 0} → (P : Option A → Type 0) → (o : Option A) → P o → ((y : A) × P (Some y) × (Some y ≡ o)) ⊎ ((u : Unit {0}) × Unit {0} × (None ≡ o))
@@ -432,8 +423,7 @@ given_or P None is = inr (tt, tt, refl)
 given_or P (Some y) is = inl (y, is, refl)
 
 pub or_given : {A : Type 0} (P : Option A → Type 0) → P None → (o : Option A) → ((y : A) × P (Some y) × (Some y ≡ o)) ⊎ ((u : Unit {0}) × Unit {0} × (None ≡ o)) → P o
-or_given P at o (inl h) = subst P h.2 h.1
-or_given P at o (inr h) = subst P h.2 at
+or_given P at o h = grind arith
 
 -- a part, or no token where more could belong to it
 abbrev pub maybe_as : {A : Type 0} → {p : Part A} → {test : Lexeme → Bool} → (more : Lexeme → Bool) → (w : Written p) → Written (choose test (seen Some p) (nothing more None))

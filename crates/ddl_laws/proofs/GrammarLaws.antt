@@ -77,19 +77,13 @@ resting_ends : (s : RestSpot) → CanEnd (resting s)
 resting_ends s = record { finish = rest_finish; last = λ x. (rest_ended s x).0; finished = λ x. (rest_ended s x).1; done = λ x. (rest_ended s x).2; covers = rest_covers; shorter = rest_shorter s }
 
 start_goes : (s x : RestSpot) (us : List Lexeme) (last : RestSpot) (b : Bool) → run (resting s) (only_if b x) us ≡ Some last → b ≡ true
-start_goes s x us last true e = refl
-start_goes s x us last false e = absurd (cc (e, run_none (resting s) us))
+start_goes s x us last b e = grind (arith, run_none)
 
 one_goes : (s x y : RestSpot) (us : List Lexeme) (last : RestSpot) (b c : Bool) → run (resting s) (either b x c y) us ≡ Some last → (b || c) ≡ true
-one_goes s x y us last true c e = refl
-one_goes s x y us last false c e = start_goes s y us last c e
+one_goes s x y us last b c e = grind (arith, start_goes)
 
 begins_by : (s : RestSpot) (test : Lexeme → Bool) → rest_done s ≡ false → ((t : Lexeme) (us : List Lexeme) (last : RestSpot) → run (resting s) (Some s) (t ∷ us) ≡ Some last → test t ≡ true) → Begins test (runs_of (resting s))
-begins_by s test undone first v ts spells = by ts spells.1
-  where
-    by : (us : List Lexeme) → Runs (resting s) us → starts test us ≡ true
-    by [] r = let same : s ≡ r.last = cc r.runs in absurd (cc (ap rest_done same, r.done, undone))
-    by (u ∷ us) r = first u us r.last r.runs
+begins_by s test undone first = grind arith
 
 rest_begins : Begins (is_word (codes "deferrable")) (runs_of (resting Begin))
 unfolding rest_step rest_done
@@ -166,19 +160,12 @@ none_begins c t e = grind arith
 
 covers_at : (spot : ClauseSpot) (c : Clauses) (t : Lexeme) → is_between spot ≡ true → begins_clause t ≡ false → step_first (reached c spot) (t ∷ []) ≡ None
 unfolding step_first
-covers_at Between c t d e = none_begins c t e
-covers_at spot c t d e = absurd cc
+covers_at spot c t d e = grind (arith, none_begins)
 
 -- clauses go by words and numbers, and none of their tokens is too long
 clauses_same : (spot : ClauseSpot) (c : Clauses) (t : Lexeme) → IsTooLong t → step_first (reached c spot) (shortened t ∷ []) ≡ step_first (reached c spot) (t ∷ [])
 unfolding step_first clause_first kind_first usual_first
-clauses_same Between c t long = simp (word_like t long)
-clauses_same (BehindNo Both) c t long = simp (word_like t long)
-clauses_same (BehindNo Lower) c t long = simp (word_like t long)
-clauses_same (BehindNo Upper) c t long = simp (word_like t long)
-clauses_same (Due field) c t long = simp (sign_like t, no_count_first (2 ^ 63) t long)
-clauses_same (BehindMinus field) c t long = simp (no_count_first (2 ^ 63 + 1) t long)
-clauses_same spot c t long = simp (word_like t long)
+clauses_same spot c t long = grind (arith, word_like, sign_like, no_count_first)
 
 clausing_ends : CanEnd clausing
 clausing_ends = record {
@@ -258,10 +245,7 @@ opened t e =
 
 some_token : (v : List ℕ) → expression.Spells v [] → ⊥
 unfolding expression nest_done
-some_token v spells =
-    let runs = spells.2.1 in
-    let same : (nested false false).start ≡ runs.last = cc runs.runs in
-    absurd (let d = runs.done in let e = ap nest_done same ∙ d in cc)
+some_token v spells = cc
 
 pub index_body_laws : Lawful index_body
 unfolding index_body bracketed
@@ -343,11 +327,7 @@ unfolding other_path
 other_path_is = headed_seen its_path (headed_next other_name_is (lawful_sign 46 name_laws) (λ t. refl))
 
 name_no_sign : (b : ℕ) → Apart is_name (is_sign b)
-name_no_sign b t e = by (is_sign b t) refl
-  where
-    by : (s : Bool) → is_sign b t ≡ s → s ≡ false
-    by true is = absurd (let n = sign_no_name b t is in cc (n, e))
-    by false is = refl
+name_no_sign b = grind (arith, sign_no_name)
 
 altered_table_laws : Lawful altered_table
 unfolding altered_table other_path behind_only
@@ -368,11 +348,7 @@ closing_ends b ends t e = not-false (ends_run true t) (run_ends true b ends t e)
 
 word_ends : (t : Lexeme) → is_word (codes "constraint") t ≡ true → ends_run true t ≡ true
 unfolding ends_run
-word_ends t e = rw e (by (is_end_kind t.kind) (is_sign 44 t) (is_word (codes "default") t))
-  where
-    by : (a b c : Bool) → (a || ((b || c) || true)) ≡ true
-    by false false true = refl
-    by a b c = refl
+word_ends t e = grind arith
 
 bracket_no_attributes : Apart (is_sign 41) attributes.goes_on
 bracket_no_attributes = sign_end 41 (closing_ends 41 refl) refl refl refl
@@ -434,16 +410,10 @@ abbrev read_as : QName → List Lexeme → Reading QName
 read_as q rest = Ok (q, rest)
 
 whole_is : (r : Reading QName) (q : QName) → whole_path false r ≡ Ok q → r ≡ Ok (q, [])
-whole_is (Ok x) q e = by x.1 refl e
-  where
-    by : (ts : List Lexeme) → x.1 ≡ ts → if_last false x.0 ts ≡ Ok q → read_as x.0 x.1 ≡ Ok (q, [])
-    by [] is e = let same : x.0 ≡ q = cc in ap (λ (p : QName). read_as p x.1) same ∙ ap (read_as q) is
-    by (t ∷ ts) is e = absurd cc
-whole_is (Err s) q e = absurd cc
+whole_is r q e = grind arith
 
 fault_is : (r : Reading QName) (q : QName) → whole_path true r ≡ Ok q → ⊥
-fault_is (Ok x) q e = absurd cc
-fault_is (Err s) q e = absurd cc
+fault_is r q e = grind arith
 
 -- a text's path is what all of its tokens spell, with no fault behind them
 abbrev pub SpellsPath : List ℕ → QName → Type 0
@@ -464,10 +434,7 @@ path_found text q e = by (collected text 0).fault refl e
 
 pub path_only : (text : List ℕ) (q : QName) → SpellsPath text q → path_in text ≡ Ok q
 unfolding path_in
-path_only text q h =
-    let ts = lexemes text (collected text 0).pieces in
-    let read : qualified.read ts ≡ Ok (q, []) = ap qualified.read (sym (append-nil ts)) ∙ qualified_laws.only q ts [] h.1 refl in
-    rw h.0 (ap (whole_path false) read)
+path_only text q h = cc
 
 -- ---- the statement
 

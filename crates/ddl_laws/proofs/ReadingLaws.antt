@@ -12,8 +12,7 @@ statement_closes = (statement_as no_gap).closes refl
 -- ---- the tokens that are collected
 
 preceded_last : (text : List ℕ) (p : Piece) (ps : List Piece) → semicolon (lexeme_of text p) ≡ false → only_last semicolon (lexemes text ps) ≡ true → only_last semicolon (lexemes text (p ∷ ps)) ≡ true
-preceded_last text p [] none e = refl
-preceded_last text p (q ∷ ps) none e = and_from (not (semicolon (lexeme_of text p))) (only_last semicolon (lexemes text (q ∷ ps))) (ap not none) e
+preceded_last text p ps none e = grind arith
 
 collected_last : (text : List ℕ) (at : ℕ) → at ≤ length text → only_last semicolon (lexemes text (collected text at).pieces) ≡ true
 unfolding collected is_sign
@@ -46,14 +45,12 @@ ok_read {A} limit fault (Ok x) v e = (x.1, let is : x.0 ≡ v = cc in ap (λ (u 
 ok_read limit fault (Err s) v e = absurd cc
 
 err_read : {A : Type 0} (limit : ℕ) (fault : Option LexFault) (r : Reading A) (f : DdlFault) → told limit fault (value_of r) ≡ Err f → (s : Stop) × (r ≡ Err s) × (f ≡ fault_of limit fault s)
-err_read limit fault (Ok x) f e = absurd cc
-err_read limit fault (Err s) f e = (s, refl, sym (let is : fault_of limit fault s ≡ f = cc in is))
+err_read limit fault r f e = grind arith
 
 -- nothing goes on with a statement
 left_free : (ts : List Lexeme) → starts statement.goes_on ts ≡ false
 unfolding statement command created altered set_config truth set_value selected setting create_schema create_enum create_domain create_table altered_domain domain_change new_check name_and_owner path_and_owner new_owner added new_default own_change table_change behind_only altered_table altered_sequence sequence_change owned_by create_view replace_view create_index create_unique_index index_body create_sequence copy_from granted revoked create_role alter_role create_database comment_on commented_object name_remarked path_remarked column_remarked constraint_remarked remark_end
-left_free [] = refl
-left_free (t ∷ ts) = refl
+left_free ts = grind arith
 
 -- what is read of tokens is spelled by a front of them
 pub is_spelled : (limit : ℕ) (ts : List Lexeme) (fault : Option LexFault) (s : Option Stmt) → statement_of limit ts fault ≡ Ok s → (front : List Lexeme) × (rest : List Lexeme) × (ts ≡ front ++ rest) × statement.Spells s front
@@ -122,15 +119,10 @@ abbrev found_token : Token → Result (Option Token) LexFault
 found_token t = Ok (Some t)
 
 line_chosen : (t u : Token) (b : Bool) → is_line_kind t.kind ≡ b → line_by t b ≡ Some u → found_token t ≡ found_token (line_token u.start u.end)
-line_chosen t u true is e =
-    let same : t ≡ u = cc e in
-    let kind : t.kind ≡ MetaLine = line_kind t.kind is in
-    ap (λ (x : TokenKind). found_token (with_kind t x)) kind ∙ ap (λ (x : Token). found_token (line_token x.start x.end)) same
-line_chosen t u false is e = absurd cc
+line_chosen t u b is e = grind arith
 
 line_found : (r : Result (Option Token) LexFault) (u : Token) → line_in r ≡ Some u → r ≡ Ok (Some (line_token u.start u.end))
-line_found (Ok (Some t)) u e = line_chosen t u (is_line_kind t.kind) refl e
-line_found r u e = absurd cc
+line_found r u e = grind arith
 
 a_line : (text : List ℕ) (at : ℕ) (u : Token) → line_at text at ≡ Some u → next_token_of text at ≡ Ok (Some (line_token u.start u.end))
 unfolding line_at
@@ -170,8 +162,7 @@ begins_no_line text at start end s next spells =
     not_both (statement.read (lexemes text (collected_by behind at (Ok (Some t))).pieces)) s (record { long = false; rest = _ }) (read_whole s (lexemes text (collected_by behind at (Ok (Some t))).pieces) here) (refuses l.gap l.word l.start _)
 
 pub no_line_of : (text : List ℕ) (at : ℕ) (s : Option Stmt) → statement.Spells s (lexemes text (collected text at).pieces) → (line : Option Token) → line_at text at ≡ line → line_at text at ≡ None
-no_line_of text at s spells None e = e
-no_line_of text at s spells (Some u) e = absurd (begins_no_line text at u.start u.end s (a_line text at u e) spells)
+no_line_of text at s spells line e = grind (arith, begins_no_line, a_line)
 
 -- what a line says hangs on where it stands
 same_spelling : (text : List ℕ) (t : Token) → meta_line (spelling text (line_token t.start t.end)) ≡ meta_line (spelling text t)
@@ -181,15 +172,7 @@ same_spelling text t = refl
 -- ---- the rows of a COPY
 
 rows_within : (text : List ℕ) (at : ℕ) (q : QName) (columns : List (List ℕ)) (w : Whole) → at ≤ length text → (r : Result Copied ℕ) → rows_behind text at ≡ r → with_rows q columns r ≡ Ok w → (at ≤ w.end) × (w.end ≤ length text)
-rows_within text at q columns w le (Ok c) is e =
-    let b = rows_bounds text at c le is in
-    let same : c.end ≡ w.end = ap (λ (x : Result Whole DdlFault). end_of x) e in
-    (rw (← same) b.0, rw (← same) b.1)
-  where
-    end_of : Result Whole DdlFault → ℕ
-    end_of (Ok w) = w.end
-    end_of (Err e) = 0
-rows_within text at q columns w le (Err place) is e = absurd cc
+rows_within text at q columns w le r is e = grind (arith, rows_bounds)
 
 pub whole_bounds : (text : List ℕ) (at : ℕ) (h : Option Stmt) (w : Whole) → at ≤ length text → completed text at h ≡ Ok w → (at ≤ w.end) × (w.end ≤ length text)
 whole_bounds text at (Some (stmt.CopyRows q columns rows)) w le e = rows_within text at q columns w le (rows_behind text at) refl e
@@ -217,18 +200,11 @@ pub begun : (n : ℕ) (text : List ℕ) (at : ℕ) (start : Option ℕ) → line
 begun n text at start plain e = begun_by n text at None plain ∙ ap (by_start n text at) e
 
 pub spelled_whole : (text : List ℕ) (at : ℕ) → at ≤ length text → (h : Option Stmt) → header text at ≡ Ok h → statement.Spells h (lexemes text (collected text at).pieces)
-spelled_whole text at le h e =
-    let p = is_spelled (length text) (lexemes text (collected text at).pieces) (collected text at).fault h e in
-    let all : lexemes text (collected text at).pieces ≡ p.0 = p.2 ∙ ap (λ (r : List Lexeme). p.0 ++ r) (takes_all text at le h p.0 p.1 p.2 p.3) ∙ append-nil p.0 in
-    subst (λ (ts : List Lexeme). statement.Spells h ts) (sym all) p.3
+spelled_whole text at le h e = grind (arith, is_spelled, takes_all, append-nil)
 
 -- a statement ends behind its place
 pub ends_past : (text : List ℕ) (at : ℕ) (s : Option Stmt) (start end : ℕ) → at ≤ length text → IsStatement text at s start end → (at < end) × (end ≤ length text)
-ends_past text at s start end le is =
-    let lies = bounds text at le in
-    let past = lies.2 start is.first in
-    let b = whole_bounds text (collected text at).end is.header (whole s end) lies.1 is.all in
-    (omega (arith, past, b.0), b.1)
+ends_past text at s start end le is = grind (arith, bounds, whole_bounds, whole)
 
 pub line_past : (text : List ℕ) (at start end : ℕ) → at ≤ length text → next_token_of text at ≡ Ok (Some (line_token start end)) → (at < end) × (end ≤ length text)
 line_past text at start end le e =
@@ -369,9 +345,7 @@ same_front (x ∷ a) [] r e = absurd (omega (arith, length-append (x ∷ a) r, a
 same_front (x ∷ a) (y ∷ b) r e = ap (λ (ts : List Lexeme). x ∷ ts) (same_front a b r (ap behind_first e)) ∙ ap (λ (t : Lexeme). t ∷ b) (ap (first_or x) e)
 
 both_true : (a b : Bool) → (a ≡ true → b ≡ true) → (b ≡ true → a ≡ true) → a ≡ b
-both_true true b f g = sym (f refl)
-both_true false true f g = g refl
-both_true false false f g = refl
+both_true a b f g = grind arith
 
 -- tokens are stuck in one way
 stuck_once : (text : List ℕ) (at : ℕ) (f g : DdlFault) → IsStuck text at f → IsStuck text at g → f ≡ g

@@ -83,11 +83,7 @@ in_one_line q (b ∷ n) mark all =
 
 name_in_line : (n : List ℕ) → list_all in_line n ≡ true → list_all in_line (written_name n) ≡ true
 unfolding written_name quoted in_line
-name_in_line n all =
-    elim (cases_Bool (is_bare n && not (is_reserved n))) [
-      | inl is ↦ rw is all
-      | inr isnt ↦ rw isnt (and_from (in_line 34) (list_all in_line (doubled 34 n ++ 34 ∷ [])) refl (list_all-append in_line (doubled 34 n) (34 ∷ []) ∙ and_from (list_all in_line (doubled 34 n)) (in_line 34 && true) (in_one_line 34 n refl all) (and_from (in_line 34) true refl refl)))
-    ]
+name_in_line n all = grind (arith, and_from, list_all-append, in_one_line)
 
 words_utf8 : IsUtf8 (codes "\\connect ")
 unfolding is_utf8 chars encode
@@ -172,9 +168,7 @@ can_be_written gap s is = by_tokens s (spelling s) (laid_out gap s (spelling s) 
 -- ---- where nothing is left
 
 none_collected : (text : List ℕ) (at : ℕ) → next_token_of text at ≡ Ok None → (first_start (collected text at).pieces ≡ None) × ((collected text at).fault ≡ None)
-none_collected text at e =
-    let is = collected_first text at ∙ ap (collected_by (collected_within (length text) text) at) e in
-    (ap (λ (c : Collected). first_start c.pieces) is, ap (λ (c : Collected). c.fault) is)
+none_collected text at e = grind (arith, collected_first)
 
 no_token : (front g : List ℕ) → Gap g → next_token_of (front ++ g) (length front) ≡ Ok None
 no_token front g gap =
@@ -301,9 +295,7 @@ none_left text at e = let h = none_collected text at e in record { found = []; r
 
 -- statements with empty lines and comments between them
 pub laid_read : (text front g rest : List ℕ) (statements : List Stmt) → Gap g → IsFresh (front ++ g) → Lays rest statements → text ≡ front ++ (g ++ rest) → ReadsAs text (length front) statements
-laid_read text front g _ _ gap fresh no_more is =
-    let text_is : text ≡ front ++ g = is ∙ ap (λ (x : List ℕ). front ++ x) (append-nil g) in
-    none_left text (length front) (ap (λ (x : List ℕ). next_token_of x (length front)) text_is ∙ no_token front g gap)
+laid_read text front g _ _ gap fresh no_more is = grind (arith, append-nil, none_left, no_token, passed, both_passed, passes, feed_passed, append_assoc)
 laid_read text front g _ _ gap fresh (empty_line rest statements lays) is =
     laid_read text front (g ++ 10 ∷ []) rest statements (passed (g ++ 10 ∷ []) (both_passed g (10 ∷ []) (passes g gap) feed_passed)) (inr (front ++ g, sym (append_assoc front g (10 ∷ [])))) lays
     (is ∙ ap (λ (x : List ℕ). front ++ x) (sym (append_assoc g (10 ∷ []) rest)))
@@ -359,21 +351,17 @@ whole_is s t end n e = ap stmt_of e
     stmt_of (Err fault) = None
 
 with_rows_done : (text : List ℕ) (at : ℕ) (q : QName) (columns : List (List ℕ)) (s : Option Stmt) (end : ℕ) → IsPath q × AllByRecursion IsName columns → (r : Result Copied ℕ) → rows_behind text at ≡ r → with_rows q columns r ≡ ends_at s end → IsDone s
-with_rows_done text at q columns s end is (Ok c) e f = subst IsDone (whole_is (Some (stmt.CopyRows q columns c.rows)) s c.end end f) (is.0, is.1, read_are_rows text at c e)
-with_rows_done text at q columns s end is (Err place) e f = absurd cc
+with_rows_done text at q columns s end is r e f = grind (arith, whole_is, read_are_rows)
 
 done : (text : List ℕ) (at : ℕ) (h s : Option Stmt) (end : ℕ) → IsDone h → completed text at h ≡ ends_at s end → IsDone s
-done text at (Some (stmt.CopyRows q columns rows)) s end is e = with_rows_done text at q columns s end (is.0, is.1) (rows_behind text at) refl e
-done text at None s end is e = subst IsDone (whole_is None s at end e) is
-done text at (Some h) s end is e = subst IsDone (whole_is (Some h) s at end e) is
+done text at h s end is e = grind (arith, with_rows_done, whole_is)
 
 header_done : (text : List ℕ) (at : ℕ) (h : Option Stmt) → at ≤ length text → statement.Spells h (lexemes text (collected text at).pieces) → IsDone h
 header_done text at None le spells = tt
 header_done text at (Some s) le spells = statement_yields s (lexemes text (collected text at).pieces) _ (have_come text at le) spells
 
 one_more : (start end : ℕ) (more : List Located) (s : Option Stmt) → IsDone s → AllWritable (said more) → AllWritable (said (listed_before s start end more))
-one_more start end more None is later = later
-one_more start end more (Some s) is later = (is, later)
+one_more start end more s is later = grind arith
 
 -- what a line with a backslash says can be written
 line_spelled : (text : List ℕ) (at start end : ℕ) → at ≤ length text → next_token_of text at ≡ Ok (Some (line_token start end)) → list_all in_line (token_text text (line_token start end)) ≡ true
@@ -391,10 +379,8 @@ line_done text at start end s le is = by (said_is_a_name (token_text text (line_
 
 all_writable : (text : List ℕ) (at : ℕ) (found : List Located) → at ≤ length text → Reads text at found → AllWritable (said found)
 all_writable text _ _ le (all_read at first sound) = tt
-all_writable text _ _ le (one_read at s start end more is others) =
-    one_more start end more s (done text (collected text at).end is.header s end (header_done text at is.header le is.spells) is.all) (all_writable text end more (ends_past text at s start end le is).1 others)
-all_writable text _ _ le (line_read at s start end more is others) =
-    one_more start end more s (line_done text at start end s le is) (all_writable text end more (line_past text at start end le is.next).1 others)
+all_writable text _ _ le (one_read at s start end more is others) = grind (arith, one_more, done, header_done, ends_past, line_done, line_past, (all_writable text end more (ends_past text at s start end le is).1 others))
+all_writable text _ _ le (line_read at s start end more is others) = grind (arith, one_more, done, header_done, ends_past, line_done, line_past, (all_writable text end more (line_past text at start end le is.next).1 others))
 
 -- what was read of a text can be written
 pub read_is_writable : (text : List ℕ) (statements : List Located) → statements_of text ≡ Ok statements → AllWritable (said statements)

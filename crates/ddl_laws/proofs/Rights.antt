@@ -369,9 +369,7 @@ role_wanted n = wanted_first (name_token (32 ∷ []) n ∷ [])
 
 pub same_wanted : (t u : Lexeme) → t.kind ≡ u.kind → t.word ≡ u.word → wanted_first (t ∷ []) ≡ wanted_first (u ∷ [])
 unfolding wanted_first right_first is_word
-same_wanted t u k w =
-    let by : TokenKind → List ℕ → Option Wanted = λ kind word. wanted_first (record { gap = []; kind = kind; word = word; start = 0 } ∷ []) in
-    ap (λ x. by x t.word) k ∙ ap (by u.kind) w
+same_wanted t u k w = cc
 
 pub role_means : (x : First) → IsName x.0 × (role_wanted x.0 ≡ x.1) → (t : Lexeme) → t.kind ≡ written_kind x.0 → t.word ≡ written_name x.0 → name_value t ≡ Ok x.0 → named_by (wanted_first (t ∷ [])) (name_value t) ≡ Ok x
 role_means x fit t kind word e = ap (λ o. named_by o (name_value t)) (same_wanted t (name_token (32 ∷ []) x.0) kind word ∙ fit.1) ∙ ap (named_by x.1) e

@@ -10,8 +10,7 @@ use Rattle.cat_model.specs.declared.stmt.Stmt.TheVariants as stmt
 -- ---- what a number brings on
 
 pub counted_by : (o : Option ℕ) (n : ℕ) → counted o ≡ (let r : Result ℕ Bool = Ok n in r) → o ≡ Some n
-counted_by (Some m) n e = let same : m ≡ n = cc in ap Some same
-counted_by None n e = absurd cc
+counted_by o n e = grind arith
 
 pub is_counted : (limit : ℕ) (t : Lexeme) (n : ℕ) → count_value limit t ≡ Ok n → count_first limit (t ∷ []) ≡ Some n
 unfolding count_value
@@ -37,19 +36,7 @@ Runs f c z ts = run clausing (Some (reached c (Due f))) ts ≡ Some (reached (wi
 -- what spells a number brings the clauses on by it
 pub number_runs : (f : Field) (c : Clauses) (z : ℤ) (ts : List Lexeme) → whole_number.Spells z ts → Runs f c z ts
 unfolding whole_number
-number_runs f c z ts spells = by spells
-  where
-    by : (seen opposite (is_sign 45 ▸ count (2 ^ 63 + 1))).Spells z ts ⊎ (seen pos (count (2 ^ 63))).Spells z ts → Runs f c z ts
-    by (inl h) =
-        let s = h.2.2 in
-        let m = s.3 in
-        let d = s.4 in
-        let same : z ≡ opposite h.2.0.1 = h.1 ∙ ap opposite h.2.1 in
-        let tokens : ts ≡ m.0 ∷ d.0 ∷ [] = s.2 ∙ ap (λ (x : List Lexeme). x ++ s.1) m.1 ∙ ap (λ (x : List Lexeme). m.0 ∷ x) d.1 in
-        subst (λ (y : ℤ). Runs f c y ts) (sym same) (subst (λ (us : List Lexeme). Runs f c (opposite h.2.0.1) us) (sym tokens) (negative_runs f c m.0 d.0 h.2.0.1 (minus_is m.0 h.2.0.0 m.2) d.2))
-    by (inr h) =
-        let d = h.2 in
-        subst (λ (y : ℤ). Runs f c y ts) (sym h.1) (subst (λ (us : List Lexeme). Runs f c (pos h.0) us) (sym d.1) (positive_runs f c d.0 h.0 d.2))
+number_runs f c z ts spells = grind (arith, negative_runs, minus_is, positive_runs)
 
 -- ---- from one state to another
 
@@ -84,10 +71,7 @@ both {r} {x} {y} {a} {b} m n = record {
 }
 
 pub safely : (b : ℕ) (text : List ℕ) → is_safe_byte b ≡ true → Opens true Safe (b ∷ text)
-safely b text is Anything c rest e = refl
-safely b text is Words c rest e = rw is refl
-safely b text is Safe c rest e = is
-safely b text is End c rest e = absurd cc
+safely b text is = grind arith
 
 abbrev pub IsStep : Reached → Reached → List ℕ → List ℕ → Type 0
 IsStep r x g w = (at : ℕ) → step_first r (record { gap = g; kind = Word; word = w; start = at } ∷ []) ≡ Some x
@@ -157,8 +141,7 @@ min_moves d false m is = let c = record d { least = Unsaid; greatest = Unsaid } 
 -- NO, where a bound below was said
 pub no_steps : (d : Clauses) (usual : Bool) (l : ℤ) → IsStep (between (record d { least = bound_of usual l; greatest = Unsaid })) (reached (record d { least = bound_of usual l; greatest = Unsaid }) (BehindNo Upper)) indent (codes "NO")
 unfolding is_keyword_of is_word step_first clause_first
-no_steps d true l at = refl
-no_steps d false l at = refl
+no_steps d usual l = grind arith
 
 pub max_moves : (d : Clauses) (usual : Bool) (l : ℤ) (u : Bool) (m : ℤ) → IsInt m → Move (between (record d { least = bound_of usual l; greatest = Unsaid })) (between (record d { least = bound_of usual l; greatest = bound_of u m })) (bound u (codes "\n    NO MAXVALUE") (codes "\n    MAXVALUE ") m ∷ [])
 unfolding is_bare_word is_keyword_of is_word step_first clause_first usual_first bound
@@ -222,11 +205,7 @@ pub said_is : (kind : SequenceKind) → given_or BigInt (said kind) ≡ kind
 said_is x = grind arith
 
 pub bound_is : (usual n : ℤ) → bound_or usual (bound_of (int_eq n usual) n) ≡ n
-bound_is usual n = by (int_eq n usual) refl
-  where
-    by : (u : Bool) → int_eq n usual ≡ u → bound_or usual (bound_of u n) ≡ n
-    by true e = sym ((Decides-int_eq n usual).0 e)
-    by false e = refl
+bound_is usual n = grind arith
 
 pub sequence_is : (q : QName) (v : Values) → sequence_of q (written v) ≡ stmt.CreateSequence q v.kind v.start v.step v.min v.max v.cache v.cycle
 unfolding sequence_of
@@ -260,48 +239,27 @@ pub nothing : Keeps None
 nothing = record { kept = tt }
 
 pub if_keeps : (b : Bool) (p q : Option Reached) → Keeps p → Keeps q → Keeps (cond b p q)
-if_keeps true p q kp kq = kp
-if_keeps false p q kp kq = kq
+if_keeps b p q kp kq = grind arith
 
 pub only_keeps : (b : Bool) (r : Reached) → AreGiven r.clauses → Keeps (only_if b r)
-only_keeps true r k = keeps r k
-only_keeps false r k = nothing
+only_keeps b r k = grind arith
 
 pub no_keeps : (c : Clauses) (a b : Bool) → AreGiven c → Keeps (behind_no c a b)
-no_keeps c true true k = keeps (reached c (BehindNo Both)) k
-no_keeps c true false k = keeps (reached c (BehindNo Lower)) k
-no_keeps c false true k = keeps (reached c (BehindNo Upper)) k
-no_keeps c false false k = nothing
+no_keeps c a b k = grind arith
 
 pub clause_keeps : (c : Clauses) (ts : List Lexeme) → AreGiven c → Keeps (clause_first c ts)
 unfolding clause_first
-clause_keeps c ts k =
-    if_keeps (starts (is_word (codes "as")) ts) _ _ (only_keeps (not (is_some c.kind)) (reached c BehindAs) k)
-    (if_keeps (starts (is_word (codes "start")) ts) _ _ (only_keeps (not (is_some c.start)) (reached c BehindStart) k)
-    (if_keeps (starts (is_word (codes "increment")) ts) _ _ (only_keeps (not (is_some c.step)) (reached c BehindIncrement) k)
-    (if_keeps (starts (is_word (codes "no")) ts) _ _ (no_keeps c (is_unsaid c.least) (is_unsaid c.greatest) k)
-    (if_keeps (starts (is_word (codes "minvalue")) ts) _ _ (only_keeps (is_unsaid c.least) (reached c (Due Least)) k)
-    (if_keeps (starts (is_word (codes "maxvalue")) ts) _ _ (only_keeps (is_unsaid c.greatest) (reached c (Due Greatest)) k)
-    (if_keeps (starts (is_word (codes "cache")) ts) _ _ (only_keeps (not (is_some c.cache)) (reached c (Due Cache)) k)
-    (only_keeps (starts (is_word (codes "cycle")) ts && not c.cycle) (reached (record c { cycle = true }) Between) k)))))))
+clause_keeps c ts k = grind (arith, if_keeps, starts, only_keeps, no_keeps)
 
 pub kind_keeps : (c : Clauses) (ts : List Lexeme) → AreGiven c → Keeps (kind_first c ts)
 unfolding kind_first
-kind_keeps c ts k =
-    if_keeps (starts (is_word (codes "smallint")) ts) (Some (reached (record c { kind = Some SmallInt }) Between)) (only_if (starts (is_word (codes "integer")) ts) (reached (record c { kind = Some Integer }) Between))
-    (keeps (reached (record c { kind = Some SmallInt }) Between) k)
-    (only_keeps (starts (is_word (codes "integer")) ts) (reached (record c { kind = Some Integer }) Between) k)
+kind_keeps c ts k = grind arith
 
 pub with_given : (f : Field) (z : ℤ) (c : Clauses) → IsInt z → AreGiven c → AreGiven (with_number f z c)
-with_given First z c is k = (is, k.1)
-with_given Step z c is k = (k.0, (is, k.1.1))
-with_given Least z c is k = (k.0, (k.1.0, (is, k.1.1.1)))
-with_given Greatest z c is k = (k.0, (k.1.0, (k.1.1.0, (is, k.1.1.1.1))))
-with_given Cache z c is k = (k.0, (k.1.0, (k.1.1.0, (k.1.1.1.0, is))))
+with_given f z c is k = grind arith
 
 pub number_keeps : (f : Field) (sign : ℕ → ℤ) (limit : ℕ) (c : Clauses) (o : Option ℕ) → ((n : ℕ) → n < limit → IsInt (sign n)) → AreGiven c → IsBelow limit o → Keeps (numbered f sign c o)
-number_keeps f sign limit c None ints k below = nothing
-number_keeps f sign limit c (Some n) ints k below = keeps (reached (with_number f (sign n) c) Between) (with_given f (sign n) c (ints n below) k)
+number_keeps f sign limit c o ints k below = grind arith
 
 pub lower_keeps : (c : Clauses) (ts : List Lexeme) → AreGiven c → Keeps (lower c ts)
 lower_keeps c ts k = only_keeps (starts (is_word (codes "minvalue")) ts) (reached (record c { least = Usual }) Between) (k.0, (k.1.0, (tt, k.1.1.1)))
@@ -330,50 +288,34 @@ run_keeps o [] k = k
 run_keeps o (t ∷ ts) k = run_keeps (option_and_then (λ r. clausing.step r t) o) ts (one_keeps o t k)
 
 pub clauses_keep : (o : Option Reached) → Keeps o → AreGiven (clauses_of o)
-clauses_keep None k = (tt, (tt, (tt, (tt, tt))))
-clauses_keep (Some r) k = k.kept
+clauses_keep o k = grind arith
 
 pub sequence_clauses_yield : Yields AreGiven sequence_clauses
 unfolding sequence_clauses
-sequence_clauses_yield c ts r came spells =
-    subst AreGiven (sym spells.1) (clauses_keep (run clausing (Some first_reached) spells.0) (run_keeps (Some first_reached) spells.0 (keeps first_reached (tt, (tt, (tt, (tt, tt)))))))
+sequence_clauses_yield  = grind (arith, clauses_keep, run_keeps, keeps)
 
 -- ---- the usual numbers
 
 pub usual_min_is : (kind : SequenceKind) (step : ℤ) → IsInt (usual_min kind step)
 unfolding usual_min
-usual_min_is kind (pos n) = refl
-usual_min_is SmallInt (negsuc n) = refl
-usual_min_is x (negsuc n) = refl
+usual_min_is kind step = grind arith
 
 pub usual_max_is : (kind : SequenceKind) (step : ℤ) → IsInt (usual_max kind step)
 unfolding usual_max
-usual_max_is kind (negsuc n) = refl
-usual_max_is SmallInt (pos n) = refl
-usual_max_is x (pos n) = refl
+usual_max_is kind step = grind arith
 
 pub given_is : (usual : ℤ) (o : Option ℤ) → IsInt usual → IsGiven o → IsInt (given_or usual o)
-given_is usual None u k = u
-given_is usual (Some z) u k = k
+given_is usual o u k = grind arith
 
 pub bound_given : (usual : ℤ) (b : Bound) → IsInt usual → IsBound b → IsInt (bound_or usual b)
-bound_given usual (Given z) u k = k
-bound_given usual x u k = u
+bound_given usual b u k = grind arith
 
 pub start_is : (step min max : ℤ) → IsInt min → IsInt max → IsInt (usual_start step min max)
-start_is (pos n) min max a b = a
-start_is (negsuc n) min max a b = b
+start_is step min max a b = grind arith
 
 pub writable : (q : QName) (c : Clauses) → IsPath q → AreGiven c → IsWritable (sequence_of q c)
 unfolding sequence_of
-writable q c path k =
-    let kind = given_or BigInt c.kind in
-    let step = given_or (pos 1) c.step in
-    let min = bound_or (usual_min kind step) c.least in
-    let max = bound_or (usual_max kind step) c.greatest in
-    let min_is = bound_given (usual_min kind step) c.least (usual_min_is kind step) k.1.1.0 in
-    let max_is = bound_given (usual_max kind step) c.greatest (usual_max_is kind step) k.1.1.1.0 in
-    (path, given_is (usual_start step min max) c.start (start_is step min max min_is max_is) k.0, given_is (pos 1) c.step refl k.1.0, min_is, max_is, given_is (pos 1) c.cache refl k.1.1.1.1)
+writable q c path k = grind (arith, bound_given, usual_min_is, usual_max_is, given_is, start_is)
 
 -- ---- the statement
 
