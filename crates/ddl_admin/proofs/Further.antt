@@ -27,23 +27,11 @@ option_starts ts = grind arith
 
 pub some_number : (ts : List Lexeme) (w : List ℕ) → Some w ≡ number_first ts → starts is_number ts ≡ true
 unfolding is_number
-some_number [] w e = absurd cc
-some_number (t ∷ ts) w e = by t.kind t.word e
-  where
-    by : (k : TokenKind) (v : List ℕ) → Some w ≡ digits_of k v → is_number_kind k ≡ true
-    by Number v e = refl
-    by Word v e = absurd cc
-    by x v e = absurd cc
+some_number ts w e = grind arith
 
 pub no_number : (ts : List Lexeme) → None ≡ number_first ts → starts is_number ts ≡ false
 unfolding is_number
-no_number [] e = refl
-no_number (t ∷ ts) e = by t.kind t.word e
-  where
-    by : (k : TokenKind) (v : List ℕ) → None ≡ digits_of k v → is_number_kind k ≡ false
-    by Number v e = absurd cc
-    by Word v e = refl
-    by x v e = refl
+no_number ts e = grind arith
 
 pub value_starts : (ts : List Lexeme) → starts is_value ts ≡ (starts is_name ts || (starts is_literal ts || starts is_number ts))
 unfolding is_value
@@ -81,13 +69,7 @@ unfolding further
 never_on t = refl
 
 pub furthers_apart : AreApart is_option furthering
-furthers_apart = record {
-  laws = λ s. further_laws;
-  agrees = λ s. option_agrees;
-  begins = λ s. further_begins;
-  apart = λ s v t e. never_on t;
-  covers = λ s t e. (e, never_on t);
-}
+furthers_apart = grind (arith, further_laws, option_agrees, further_begins, never_on)
 
 pub furthers_laws : Lawful furthers
 unfolding furthers
@@ -115,8 +97,7 @@ unfolding furthers
 stops_by ts at s begins e = ap (seen_at dropped) (from_stop furthering tt (drop at ts) s begins e)
 
 pub fails_by : (whole : Reading (Unit {0})) (ts : List Lexeme) (at : ℕ) (error : ReadError) → whole ≡ furthers.read (drop at ts) → starts is_option (drop at ts) ≡ true → Fails ts error (further.read (drop at ts)) → Fails ts error whole
-fails_by whole ts at Memory same begins e = tt
-fails_by whole ts at (Halted h) same begins e = same ∙ stops_by ts at (halted ts h) begins e
+fails_by whole ts at error same begins e = grind (arith, stops_by)
 
 -- ---- the encoding
 
@@ -127,13 +108,4 @@ utf8_by ts (Err s) = Err s
 -- a literal is read, and then its text is tried
 pub utf8_read : (ts : List Lexeme) → utf8.read ts ≡ utf8_by ts (literal.read ts)
 unfolding utf8_value
-utf8_read [] = refl
-utf8_read (t ∷ ts) = by (literal_value t)
-  where
-    by_text : (text : List ℕ) (b : Bool) → first_by t ts (cond b (Ok Utf8) (Err false)) ≡ cond b (Ok (Utf8, ts)) (stop (t ∷ ts))
-    by_text text true = refl
-    by_text text false = refl
-
-    by : (r : Result (List ℕ) Bool) → first_by t ts (utf8_in r) ≡ utf8_by (t ∷ ts) (first_by t ts r)
-    by (Ok text) = by_text text (bytes_eq text (codes "UTF8"))
-    by (Err long) = refl
+utf8_read ts = grind arith

@@ -9,46 +9,25 @@ pub create_role_laws : Lawful create_role
 unfolding create_role
 create_role_laws = lawful_seen stmt.CreateRole (lawful_ended 59 name_laws (free (is_sign 59)))
 
--- ---- attributes
-
-abbrev later_keys : List (List ℕ)
-later_keys = codes "createdb" ∷ codes "nocreatedb" ∷ codes "login" ∷ codes "nologin" ∷ codes "replication" ∷ codes "noreplication" ∷ codes "bypassrls" ∷ codes "nobypassrls" ∷ []
-
-later_flags_are : IsOptional later_keys later_flags
-unfolding later_flags
-later_flags_are =
-    before_is (flag_is (codes "createdb") (codes "nocreatedb") refl refl refl)
-    (before_is (flag_is (codes "login") (codes "nologin") refl refl refl)
-    (before_is (flag_is (codes "replication") (codes "noreplication") refl refl refl) (flag_is (codes "bypassrls") (codes "nobypassrls") refl refl refl) refl) refl) refl
-
-abbrev flag_keys : List (List ℕ)
-flag_keys = codes "superuser" ∷ codes "nosuperuser" ∷ codes "inherit" ∷ codes "noinherit" ∷ codes "createrole" ∷ codes "nocreaterole" ∷ later_keys
-
-role_flags_are : IsOptional flag_keys role_flags
-unfolding role_flags
-role_flags_are =
-    before_is (flag_is (codes "superuser") (codes "nosuperuser") refl refl refl)
-    (before_is (flag_is (codes "inherit") (codes "noinherit") refl refl refl) (before_is (flag_is (codes "createrole") (codes "nocreaterole") refl refl refl) later_flags_are refl) refl) refl
-
--- ---- settings
-
-abbrev setting_keys : List (List ℕ)
-setting_keys = codes "connection" ∷ codes "password" ∷ codes "valid" ∷ []
-
-role_settings_are : IsOptional setting_keys role_settings
-unfolding role_settings
-role_settings_are =
-    before_is (clause_is (codes "connection") refl (lawful_word (codes "limit") refl whole_number_laws) whole_number_ends)
-    (before_is (clause_is (codes "password") refl literal_laws (λ t. refl)) (clause_is (codes "valid") refl (lawful_word (codes "until") refl literal_laws) (λ t. refl)) refl) refl
-
 -- ---- ALTER ROLE
 
-role_changes_are : IsOptional (flag_keys ++ setting_keys) role_changes
-unfolding role_changes
-role_changes_are = seen_is changes_by (before_is role_flags_are role_settings_are refl)
+abbrev keys : List (List ℕ)
+keys =
+    codes "superuser" ∷ codes "nosuperuser" ∷ codes "inherit" ∷ codes "noinherit" ∷ codes "createrole" ∷ codes "nocreaterole" ∷ codes "createdb" ∷ codes "nocreatedb" ∷ codes "login" ∷ codes "nologin"
+    ∷ codes "replication" ∷ codes "noreplication" ∷ codes "bypassrls" ∷ codes "nobypassrls" ∷ codes "connection" ∷ codes "password" ∷ codes "valid" ∷ []
+
+role_changes_are : IsOptional keys role_changes
+unfolding role_changes role_flags later_flags role_settings
+role_changes_are =
+    let later = before_is (flag_is (codes "replication") (codes "noreplication") refl refl refl) (flag_is (codes "bypassrls") (codes "nobypassrls") refl refl refl) refl in
+    let middle = before_is (flag_is (codes "createdb") (codes "nocreatedb") refl refl refl) (before_is (flag_is (codes "login") (codes "nologin") refl refl refl) later refl) refl in
+    let behind = before_is (flag_is (codes "inherit") (codes "noinherit") refl refl refl) (before_is (flag_is (codes "createrole") (codes "nocreaterole") refl refl refl) middle refl) refl in
+    let texts = before_is (clause_is (codes "password") refl literal_laws (λ t. refl)) (clause_is (codes "valid") refl (lawful_word (codes "until") refl literal_laws) (λ t. refl)) refl in
+    let settings = before_is (clause_is (codes "connection") refl (lawful_word (codes "limit") refl whole_number_laws) whole_number_ends) texts refl in
+    seen_is changes_by (before_is (before_is (flag_is (codes "superuser") (codes "nosuperuser") refl refl refl) behind refl) settings refl)
 
 changes_end : Apart (is_sign 59) role_changes.goes_on
-changes_end t e = role_changes_are.only t (sign_no_words 59 (flag_keys ++ setting_keys) t e)
+changes_end t e = role_changes_are.only t (sign_no_words 59 keys t e)
 
 pub alter_role_laws : Lawful alter_role
 unfolding alter_role

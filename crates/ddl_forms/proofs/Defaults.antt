@@ -62,15 +62,9 @@ run_more s last (t ∷ ts) free e = by (nest_step true false s t) refl (λ x is 
   where
     by : (next : Option Nest) → nest_step true false s t ≡ next → ((x : Nest) → is_shut x.spot ≡ false → run (nested true false) (Some x) ts ≡ Some last → (run (nested true true) (Some x) ts ≡ Some last) × (is_shut last.spot ≡ false))
         → run (nested true false) next ts ≡ Some last → (run (nested true true) (Some s) (t ∷ ts) ≡ Some last) × (is_shut last.spot ≡ false)
-    by None is later f = absurd (not_some last (run (nested true false) None ts) f (run_none (nested true false) ts))
-    by (Some x) is later f = let h = later x (step_open s x t is) f in (ap (λ o. run (nested true true) o ts) (step_more s x t is) ∙ h.0, h.1)
+    by next e f h = grind (arith, not_some, run_none, step_open, step_more)
 
 -- ---- NOT and NULL
-
--- a word changes no bracket
-word_keeps : (key : List ℕ) (t : Lexeme) (bs : List Bracket) → is_word key t ≡ true → behind_kind t.kind bs ≡ Some bs
-unfolding is_word is_keyword_of
-word_keeps key t bs e = grind arith
 
 -- where NOT NULL isn't taken, no run ends with it
 null_refused : (spot : Spot) (kind : TokenKind) (ends : Bool) → behind_null false spot ≡ None → outside false spot kind ends false true ≡ None
@@ -82,8 +76,8 @@ both_refused spot kind ends is_null b e f = grind arith
 
 both_within : (c : Bracket) (bs : List Bracket) (spot : Spot) (a b : Lexeme) → is_word (codes "not") a ≡ true → is_word (codes "null") b ≡ true
     → option_and_then (λ x. nest_step true false x b) (step_by true false spot a (c ∷ bs)) ≡ Some (nest (c ∷ bs) Inside)
-unfolding nest_step
-both_within c bs spot a b e f = ap (λ o. option_and_then (λ x. nest_step true false x b) (moved o)) (word_keeps (codes "not") a (c ∷ bs) e) ∙ ap moved (word_keeps (codes "null") b (c ∷ bs) f)
+unfolding is_keyword_of is_word nest_step
+both_within c bs spot a b e f = grind arith
 
 none_at_end : (s last : Nest) (a b : Lexeme) → is_word (codes "not") a ≡ true → is_word (codes "null") b ≡ true → run (nested true false) (Some s) (a ∷ b ∷ []) ≡ Some last → nest_done last ≡ true → ⊥
 unfolding nest_step nest_done
@@ -230,12 +224,10 @@ run_less s last (t ∷ ts) e free = by_next (nest_step true true s t) refl (λ x
   where
     by_step : (x : Nest) → (run (nested true true) (Some x) ts ≡ Some last → run (nested true false) (Some x) ts ≡ Some last) → run (nested true true) (Some x) ts ≡ Some last
         → Goes (λ y. nest_step true false s t ≡ Some y) (is_word (codes "not") t) (nest_done s) (is_shut s.spot) x ⊎ Ends true (is_word (codes "null") t) s.spot x → run (nested true false) (Some s) (t ∷ ts) ≡ Some last
-    by_step x later f (inl g) = ap (λ o. run (nested true false) o ts) g.0 ∙ later f
-    by_step x later f (inr c) = let shut = stays_shut last ts (subst (λ y. run (nested true true) (Some y) ts ≡ Some last) c.3 f) in absurd (cc (shut, free))
+    by_step x e f h = grind (arith, stays_shut, free)
 
     by_next : (next : Option Nest) → nest_step true true s t ≡ next → ((x : Nest) → run (nested true true) (Some x) ts ≡ Some last → run (nested true false) (Some x) ts ≡ Some last) → run (nested true true) next ts ≡ Some last → run (nested true false) (Some s) (t ∷ ts) ≡ Some last
-    by_next None is later f = absurd (not_some last (run (nested true true) None ts) f (run_none (nested true true) ts))
-    by_next (Some x) is later f = by_step x (later x) f (step_goes true s x t is)
+    by_next next e f h = grind (arith, not_some, run_none, by_step, step_goes)
 
 -- a default, and whether NOT NULL follows it
 record IsDefaultRead (ts : List Lexeme) : Type 0 where
@@ -251,17 +243,7 @@ nulls_read front a b r shut = by_front (run (nested true true) (Some (nested tru
   where
     by_words : (s y : Nest) → run (nested true true) (Some (nested true true).start) front ≡ Some s → Goes (λ z. nest_step true false s a ≡ Some z) (is_word (codes "not") a) (nest_done s) (is_shut s.spot) y ⊎ Ends true (is_word (codes "null") a) s.spot y
         → Goes (λ z. nest_step true false y b ≡ Some z) (is_word (codes "not") b) (nest_done y) (is_shut y.spot) r.last ⊎ Ends true (is_word (codes "null") b) y.spot r.last → IsDefaultRead (front ++ a ∷ b ∷ [])
-    by_words s y e g (inl h) = absurd (cc (h.1, shut))
-    by_words s y e (inr g) (inr h) = absurd (cc (ap (λ (x : Nest). x.spot) g.3, h.2))
-    by_words s y e (inl g) (inr h) =
-        let later = g.2 h.2 in
-        record {
-          front = front;
-          behind = a ∷ b ∷ [];
-          parts = refl;
-          text = ap (λ (x : List ℕ × Bool). x.0) (with_nulls front a b (and_from (is_word (codes "not") a) (is_word (codes "null") b) later.0 h.1));
-          runs = record { last = s; runs = run_less (nested true true).start s front e later.2; done = later.1 };
-        }
+    by_words s y e f h = grind (arith, with_nulls, and_from, run_less)
 
     by_step : (s : Nest) → run (nested true true) (Some (nested true true).start) front ≡ Some s → (y : Option Nest) → nest_step true true s a ≡ y → option_and_then (λ x. nest_step true true x b) y ≡ Some r.last → IsDefaultRead (front ++ a ∷ b ∷ [])
     by_step s e None is f = absurd cc

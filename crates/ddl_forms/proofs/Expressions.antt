@@ -1,17 +1,12 @@
 -- The text of an expression, or of a default, is written with the tokens that it has.
-use Rattle.ddl_forms.proofs.Common.{ℕ, Bool, true, false, List, [], ◌∷◌, refl, Bracket, Spot, is_sign, is_word, nested, nest_step, nest_done, ends_run, step_by, expression, default_text}
+use Rattle.ddl_forms.proofs.Common.{arith, ℕ, Bool, true, false, List, [], ◌∷◌, refl, Bracket, Spot, is_sign, is_word, nested, nest_step, nest_done, ends_run, step_by, expression, default_text}
 use Rattle.ddl_forms.proofs.{Tokens.Gap, Tokens.space, RunTexts.IsPlainMachine, RunTexts.GoesByWords, RunTexts.plain_by, Written.Written, Written.run_as}
 
 -- ---- the tokens of a run
 
-nested_goes : (bounded takes : Bool) (spot : Spot) (bs : List Bracket) → GoesByWords (λ t. step_by bounded takes spot t bs)
-unfolding ends_run is_word is_sign
-nested_goes bounded takes spot [] = ((λ gap start t. refl), λ word. (refl, refl))
-nested_goes bounded takes spot (b ∷ bs) = ((λ gap start t. refl), λ word. (refl, refl))
-
 pub nested_plain : (bounded takes : Bool) → IsPlainMachine (nested bounded takes)
-unfolding nest_step nest_done
-nested_plain bounded takes = plain_by (nested bounded takes) (λ s. nested_goes bounded takes s.spot s.brackets) refl
+unfolding ends_run is_sign is_word nest_done nest_step
+nested_plain bounded takes = grind arith
 
 -- ---- expressions, and defaults that NOT NULL may not follow
 

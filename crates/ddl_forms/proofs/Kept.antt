@@ -156,30 +156,19 @@ token_begun MetaLine word line h = absurd (line refl)
 
 -- ---- where they are kept
 
-safe_word : (b : ℕ) → is_safe_byte b ≡ true → in_word b ≡ false
-unfolding in_word begins_word is_digit
-safe_word b e = grind (arith, nat_tests)
-
 safe_digit : (b : ℕ) → is_safe_byte b ≡ true → is_digit b ≡ false
 unfolding is_digit
 safe_digit b e = grind (arith, nat_tests)
 
-safe_other : (b c : ℕ) → is_safe_byte b ≡ true → is_safe_byte c ≡ false → (b == c) ≡ false
-safe_other b c e f = grind arith
-
 -- nothing that is safe goes on with a token
 pub safe_ends : (kind : TokenKind) (word after : List ℕ) → (kind ≡ MetaLine → ⊥) → is_safe after ≡ true → goes_on kind word after ≡ false
-unfolding goes_on next_is goes_on_behind_dot
-safe_ends kind word after line e = grind (arith, and_false, safe_word, safe_other, safe_digit)
-
-safe_next_digit : (after : List ℕ) → is_safe after ≡ true → next_is is_digit after ≡ false
-unfolding next_is
-safe_next_digit after e = grind (arith, safe_digit)
+unfolding begins_word goes_on goes_on_behind_dot in_word is_digit next_is
+safe_ends kind word after e f = grind (arith, nat_tests, and_false, safe_digit)
 
 -- one byte of what goes on stays
 one_stays : (kind : TokenKind) (word : List ℕ) (x : ℕ) (r after : List ℕ) → goes_on kind word (x ∷ r) ≡ false → is_safe after ≡ true → goes_on kind word (x ∷ after) ≡ false
-unfolding goes_on next_is goes_on_behind_dot
-one_stays kind word x r after e safe = grind (arith, or_parts, safe_next_digit, and_false)
+unfolding goes_on goes_on_behind_dot next_is
+one_stays kind word x r after e f = grind (arith, or_parts, and_false, safe_digit)
 
 two_stay : (kind : TokenKind) (word : List ℕ) (x y : ℕ) (r after : List ℕ) → goes_on kind word (x ∷ y ∷ r) ≡ false → goes_on kind word (x ∷ y ∷ after) ≡ false
 unfolding goes_on next_is goes_on_behind_dot

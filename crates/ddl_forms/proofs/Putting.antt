@@ -1,5 +1,5 @@
 -- Written texts are laid out in tokens that stand wherever they are put.
-use Rattle.ddl_forms.proofs.Common.{◌≡◌, ℕ, ◌+◌, true, false, List, [], ◌∷◌, ◌++◌, length, append_assoc, append-nil, refl, sym, ap, subst, ◌∙◌, ◌⊎◌, inl, inr, Lexeme, spelled, Part, ◌then◌, joined, semicolon}
+use Rattle.ddl_forms.proofs.Common.{arith, ◌≡◌, ℕ, ◌+◌, true, false, List, [], ◌∷◌, ◌++◌, length, append_assoc, append-nil, refl, sym, ap, subst, ◌∙◌, ◌⊎◌, inl, inr, Lexeme, spelled, Part, ◌then◌, joined, semicolon}
 use Rattle.ddl_forms.proofs.{Behind.Behind, Behind.admits, Closing.only_last, Kept.AllCame, Kept.spelled-append, RunTexts.placed-append, RunTexts.last_more, Standing.Stands, Standing.Stood, Standing.placed}
 
 -- the others stand, and have no semicolon but the last
@@ -46,9 +46,7 @@ one_put p v t others stands plain says follows = record {
 }
   where
     by : (us : List Lexeme) → semicolon t ≡ false ⊎ (us ≡ []) → only_last semicolon us ≡ true → only_last semicolon (t ∷ us) ≡ true
-    by us (inl isnt) last = last_more semicolon t us isnt last
-    by [] (inr is) last = refl
-    by (u ∷ us) (inr is) last = absurd cc
+    by us e f = grind (arith, last_more)
 
 pub joined-append : (a b : List (List ℕ)) → joined (a ++ b) ≡ joined a ++ joined b
 joined-append [] b = refl

@@ -37,17 +37,9 @@ spoken_ends kind word rest after is e safe = grind (arith, nat_tests, safe_ends,
 
 -- ---- what names and literals begin with
 
-bare_no_blank : (b : ℕ) → begins_bare b ≡ true → is_blank b ≡ false
-unfolding begins_bare is_blank
-bare_no_blank b e = grind (arith, nat_tests)
-
-bare_begun : (n : List ℕ) → is_bare n ≡ true → Begun n
-unfolding is_bare
-bare_begun n e = grind (arith, bare_no_blank, and_parts)
-
 pub name_begun : (n : List ℕ) → Begun (written_name n)
-unfolding written_name quoted is_blank
-name_begun n = elim (cases_Bool (is_bare n && not (is_reserved n))) [ inl is ↦ rw is (bare_begun n (and_parts (is_bare n) (not (is_reserved n)) is).0) | inr isnt ↦ rw isnt refl ]
+unfolding begins_bare is_bare is_blank quoted written_name
+name_begun n = grind arith
 
 -- ---- each token behind no gap or white space
 
@@ -168,11 +160,7 @@ name_no_word key n utf8 reserved =
     same is e = ap is_reserved (sym (bare_is_small n utf8 is) ∙ (bytes_eq-Decides (str_to_ascii_lowercase n) (str_to_ascii_lowercase key)).0 e) ∙ reserved
 
     bare : (is_bare n && not (is_reserved n)) ≡ true → str_eq_ignore_ascii_case n key ≡ false
-    bare is = by (str_eq_ignore_ascii_case n key) refl
-      where
-        by : (b : Bool) → str_eq_ignore_ascii_case n key ≡ b → b ≡ false
-        by false e = refl
-        by true e = absurd (let r = (and_parts (is_bare n) (not (is_reserved n)) is).1 in let t = same is e in cc)
+    bare e = grind (arith, and_parts, same)
 
 pub no_key : (key n : List ℕ) → IsUtf8 n → is_reserved (str_to_ascii_lowercase key) ≡ true → (t : Lexeme) → t.kind ≡ written_kind n → t.word ≡ written_name n → is_word key t ≡ false
 unfolding is_word
@@ -215,9 +203,7 @@ unfolding literal_value text_in
 text_value t v e = by_text (literal_of t.kind t.word) e
   where
     by_utf8 : (bytes : List ℕ) (b : Bool) → is_utf8 bytes ≡ b → cond b (name_is bytes) (Err false) ≡ Ok v → IsUtf8 v
-    by_utf8 bytes true is f = let same : bytes ≡ v = cc in subst IsUtf8 same (IsUtf8-from_is_utf8 bytes is)
-    by_utf8 bytes false is f = absurd cc
+    by_utf8 bytes b e f = grind (arith, IsUtf8-from_is_utf8)
 
     by_text : (o : Option (List ℕ)) → text_in o ≡ Ok v → IsUtf8 v
-    by_text None f = absurd cc
-    by_text (Some bytes) f = by_utf8 bytes (is_utf8 bytes) refl f
+    by_text o e = grind (arith, by_utf8)

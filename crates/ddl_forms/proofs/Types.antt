@@ -7,13 +7,9 @@ use Rattle.cat_model.specs.declared.type_name.TypeName.TheVariants as type_name
 
 -- ---- the machine
 
-typing_goes : (s : TypeSpot) → GoesByWords (type_step s)
-unfolding type_step is_type_word is_number is_word is_sign name_value name_in name_of is_keyword_of
-typing_goes s = grind arith
-
 typing_plain : IsPlainMachine typing
-unfolding type_done
-typing_plain = plain_by typing typing_goes refl
+unfolding is_keyword_of is_number is_sign is_type_word is_word name_in name_of name_value type_done type_step
+typing_plain = grind arith
 
 abbrev name_is : List ℕ → Result (List ℕ) Bool
 name_is n = Ok n

@@ -60,8 +60,7 @@ small_line (b ∷ bytes) all =
     and_from (in_line (to_ascii_lowercase b)) (list_all in_line (map to_ascii_lowercase bytes)) (small_byte b h.0) (small_line bytes h.1)
 
 unless_line : (skip : Bool) (b : ℕ) (rest : List ℕ) → in_line b ≡ true → OneLine rest → OneLine (unless skip b rest)
-unless_line true b rest is all = all
-unless_line false b rest is all = and_from (in_line b) (list_all in_line rest) is all
+unless_line skip b rest is all = grind arith
 
 undoubled_line : (q : ℕ) (second : Bool) (bytes : List ℕ) → OneLine bytes → OneLine (undoubled q second bytes)
 unfolding undoubled
@@ -76,12 +75,7 @@ inside_line word all = take_line (length word - 2) (drop 1 word) (drop_line 1 wo
 
 named_line : (kind : TokenKind) (word n : List ℕ) → OneLine word → name_of kind word ≡ Some n → OneLine n
 unfolding name_of
-named_line Word word n all e = let same : map to_ascii_lowercase word ≡ n = cc in subst OneLine same (small_line word all)
-named_line QuotedName word n all e = let same : undoubled 34 false (inside word) ≡ n = cc in subst OneLine same (undoubled_line 34 false (inside word) (inside_line word all))
-named_line Literal word n all e = absurd cc
-named_line Number word n all e = absurd cc
-named_line (Sign b) word n all e = absurd cc
-named_line MetaLine word n all e = absurd cc
+named_line kind word n all e = grind (arith, small_line, undoubled_line, inside_line)
 
 -- ---- the name of a line
 
@@ -92,8 +86,7 @@ piece_name text p n all e =
     (h.1, named_line p.token.kind (spelling text p.token) n (take_line (p.token.end - p.token.start) (drop p.token.start text) (drop_line p.token.start text all)) h.0)
 
 named_is : (at : ℕ) (r : Result (List ℕ) Bool) (n : List ℕ) → named at r ≡ Ok n → r ≡ Ok n
-named_is at (Ok m) n e = cc
-named_is at (Err long) n e = absurd cc
+named_is at r n e = grind arith
 
 one_name_is : (len : ℕ) (text : List ℕ) (ps : List Piece) (n : List ℕ) → OneLine text → one_name len text ps ≡ Ok n → IsName n × OneLine n
 one_name_is len text [] n all e = absurd cc
@@ -113,14 +106,7 @@ connected_is len text (Err wrong) s all is e = absurd cc
 
 said_is : (command behind : List ℕ) (s : Option Stmt) → OneLine behind → said_by command behind ≡ Ok s → IsSaid s
 unfolding said_by
-said_is command behind s all e = elim (cases_Bool (bytes_eq command (codes "\\restrict") || bytes_eq command (codes "\\unrestrict"))) [
-  | inl is ↦ let f = rw is at e in let same : None ≡ s = cc in subst IsSaid same (inl refl)
-  | inr isnt ↦ let f = rw isnt at e in by_connect (cases_Bool (bytes_eq command (codes "\\connect"))) f
-]
-  where
-    by_connect : (bytes_eq command (codes "\\connect") ≡ true) ⊎ (bytes_eq command (codes "\\connect") ≡ false) → cond (bytes_eq command (codes "\\connect")) (connected (name_alone (length command) behind)) unknown ≡ Ok s → IsSaid s
-    by_connect (inl is) f = connected_is (length command) behind (name_alone (length command) behind) s all refl (rw is at f)
-    by_connect (inr isnt) f = absurd (let g = rw isnt at f in cc)
+said_is command behind s all e = grind (arith, connected_is)
 
 pub said_is_a_name : (line : List ℕ) (s : Option Stmt) → list_all in_line line ≡ true → meta_line line ≡ Ok s → IsSaid s
 unfolding meta_line

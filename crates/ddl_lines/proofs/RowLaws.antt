@@ -8,9 +8,7 @@ use Rattle.ddl_lines.specs.declared.copy_rows.Rows.{Rows}
 -- ---- the line at a place
 
 row_by : (ends stops : Bool) (start end next a b c : ℕ) → Row start end next ≡ cond ends End (cond stops Stop (Row a b c)) → (end ≡ b) × (next ≡ c)
-row_by true stops start end next a b c e = absurd cc
-row_by false true start end next a b c e = absurd cc
-row_by false false start end next a b c e = (cc, cc)
+row_by ends stops start end next a b c e = grind arith
 
 pub row_shape : (text : List ℕ) (at start end next : ℕ) → Row start end next ≡ line_at text at → (end ≡ at + len_of (drop at text)) × (next ≡ min (at + len_of (drop at text) + 1) (length text))
 unfolding line_at
@@ -38,11 +36,7 @@ kept_line line more differs = elim (cases_Bool (bytes_eq line end_mark)) [
 
 first_row : (text : List ℕ) (at start end next : ℕ) → IsNextLine text at (Row start end next) → rows_in (drop at text) ≡ (slice_range text at end ++ newline ∷ []) ++ rows_in (drop next text)
 unfolding rows_in
-first_row text at start end next h =
-    let line = slice_range text start end in
-    let cut : slice_range text start end ≡ slice_range text at end = ap (λ n. slice_range text n end) h.0 in
-    ap (λ ls. with_feeds (before_end_mark ls)) h.6 ∙ ap with_feeds (kept_line line (lines (drop next text)) h.5)
-    ∙ flat_map-cons (λ (x : List ℕ). x ++ newline ∷ []) line (before_end_mark (lines (drop next text))) ∙ ap (λ (x : List ℕ). (x ++ newline ∷ []) ++ with_feeds (before_end_mark (lines (drop next text)))) cut
+first_row text at start end next h = grind (arith, kept_line)
 
 fed : (text : List ℕ) (at end next : ℕ) → at ≤ length text → end ≡ at + len_of (drop at text) → next ≡ end + 1 → end < length text → slice_range text at end ++ newline ∷ [] ≡ slice_range text at next
 fed text at end next le e n lt =
@@ -77,9 +71,7 @@ last_row text from at start end next low le h exact same so_far =
 
 no_more : (text : List ℕ) (at : ℕ) (line : Line) → IsNextLine text at line → (line ≡ Stop) → rows_in (drop at text) ≡ []
 unfolding rows_in
-no_more text at Stop h e = ap (λ ls. with_feeds (before_end_mark ls)) h.1
-no_more text at End h e = absurd cc
-no_more text at (Row start end next) h e = absurd cc
+no_more text at line h e = grind arith
 
 pub stops : (text : List ℕ) (from at : ℕ) → IsNextLine text at Stop → rows_in (drop from text) ≡ slice_range text from at ++ rows_in (drop at text) → rows_in (drop from text) ≡ slice_range text from at
 stops text from at h so_far = so_far ∙ ap (λ (x : List ℕ). slice_range text from at ++ x) (no_more text at Stop h refl) ∙ append-nil (slice_range text from at)
@@ -102,10 +94,7 @@ are_copied text from end rows is place = ap (copied text from) is ∙ ap (λ n. 
 -- the rows up to where a line ends them
 pub between : {E : Type 0} (text : List ℕ) (from at : ℕ) (r : Result Rows E) → from ≤ at → at ≤ length text → rows_in (drop from text) ≡ slice_range text from at → IfOk r (λ r. seen r ≡ record { rows = slice_range text from at; end = min (at + 3) (length text) })
     → IfOk r (λ r. rows_from text from ≡ seen r)
-between text from at (Ok r) low high rows h =
-    let len : from + length (slice_range text from at) ≡ at = omega (arith, length_slice text from at low high) in
-    are_copied text from (min (at + 3) (length text)) (slice_range text from at) rows (ap (λ n. min (n + 3) (length text)) len) ∙ sym h
-between text from at (Err e) low high rows h = tt
+between text from at r low high rows h = grind (arith, length_slice, are_copied)
 
 -- all that is left of the text, where its last line has no line feed
 pub whole : (text : List ℕ) (from end : ℕ) (rows : List ℕ) → from ≤ length text → end ≡ length text → rows_in (drop from text) ≡ drop from text ++ newline ∷ [] → rows ≡ slice_range text from (length text) ++ newline ∷ []

@@ -15,23 +15,16 @@ IsLine line = Plain line × (bytes_eq line end_mark ≡ false)
 
 -- one more byte
 onto_plain : (b : ℕ) (ls : List (List ℕ)) → eqb b newline ≡ false → ByRecursion Plain ls → ByRecursion Plain (onto_first b ls)
-onto_plain b [] other all = ((other, tt), tt)
-onto_plain b (l ∷ ls) other all = ((other, all.0), all.1)
+onto_plain b ls other all = grind arith
 
 lines_plain : (text : List ℕ) → ByRecursion Plain (lines text)
 unfolding lines
 lines_plain [] = tt
-lines_plain (b ∷ rest) = elim (cases_Bool (eqb b newline)) [
-  | inl is ↦ rw is (tt, lines_plain rest)
-  | inr other ↦ rw other (onto_plain b (lines rest) other (lines_plain rest))
-]
+lines_plain (b ∷ rest) = grind (arith, onto_plain, (lines_plain rest))
 
 before_are_lines : (ls : List (List ℕ)) → ByRecursion Plain ls → ByRecursion IsLine (before_end_mark ls)
 before_are_lines [] all = tt
-before_are_lines (l ∷ ls) all = elim (cases_Bool (bytes_eq l end_mark)) [
-  | inl is ↦ rw is tt
-  | inr other ↦ rw other ((all.0, other), before_are_lines ls all.1)
-]
+before_are_lines (l ∷ ls) all = grind (arith, (before_are_lines ls all.1))
 
 -- the lines of a text up to the line \.
 data_are_lines : (text : List ℕ) → ByRecursion IsLine (data_lines text)
@@ -83,11 +76,7 @@ rows_again bytes =
 
 by_read : (text : List ℕ) (at : ℕ) (rest : List ℕ) (c : Copied) → rows_by text at rest ≡ Ok c → AreRows c.rows
 unfolding rows_from
-by_read text at [] c e = let same : [] ≡ c.rows = cc in subst AreRows same no_rows
-by_read text at (b ∷ rest) c e = elim (cases_Bool (eqb b newline)) [
-  | inl is ↦ let f = rw is at e in let same : rows_in (drop (at + 1) text) ≡ c.rows = cc in subst AreRows same (rows_again (drop (at + 1) text))
-  | inr other ↦ absurd (let f = rw other at e in cc)
-]
+by_read text at rest c e = grind (arith, no_rows, rows_again)
 
 pub read_are_rows : (text : List ℕ) (at : ℕ) (c : Copied) → rows_behind text at ≡ Ok c → AreRows c.rows
 unfolding rows_behind rows_at
@@ -95,14 +84,7 @@ read_are_rows text at c e = let place = at + prefix_len is_between (drop at text
 
 by_bounds : (text : List ℕ) (at : ℕ) (rest : List ℕ) (c : Copied) → at ≤ length text → rows_by text at rest ≡ Ok c → (at ≤ c.end) × (c.end ≤ length text)
 unfolding rows_from
-by_bounds text at [] c le e = let same : at ≡ c.end = cc in (omega (arith, same), omega (arith, same))
-by_bounds text at (b ∷ rest) c le e = elim (cases_Bool (eqb b newline)) [
-  | inl is ↦
-      let f = rw is at e in
-      let same : min (at + 1 + length (rows_in (drop (at + 1) text)) + 3) (length text) ≡ c.end = cc in
-      (omega (arith, same), omega (arith, same))
-  | inr other ↦ absurd (let f = rw other at e in cc)
-]
+by_bounds text at rest c le e = grind arith
 
 pub rows_bounds : (text : List ℕ) (at : ℕ) (c : Copied) → at ≤ length text → rows_behind text at ≡ Ok c → (at ≤ c.end) × (c.end ≤ length text)
 unfolding rows_behind rows_at
@@ -119,9 +101,7 @@ by_feed text more at rest is = ap (rows_by text at) is
 
 from_feed : (text more : List ℕ) (at : ℕ) → drop at text ≡ newline ∷ more → rows_behind text at ≡ Ok (rows_from text (at + 1))
 unfolding rows_behind rows_at is_between
-from_feed text more at is =
-    let place : at + prefix_len is_between (drop at text) ≡ at = ap (λ (x : List ℕ). at + prefix_len is_between x) is ∙ omega arith in
-    ap (rows_at text) place ∙ by_feed text more at (drop at text) is
+from_feed text more at is = grind arith
 
 abbrev copied_as : List ℕ → ℕ → Copied
 copied_as rows n = record { rows = rows; end = n }

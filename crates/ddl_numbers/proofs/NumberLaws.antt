@@ -5,15 +5,7 @@ use Rattle.ddl_numbers.specs.Numbers.{digits_below, count_first, counted, count_
 -- a number is no sign
 pub number_no_sign : (b : ℕ) → Apart is_number (is_sign b)
 unfolding is_number is_sign
-number_no_sign b t e = by t.kind e
-  where
-    by : (k : TokenKind) → is_number_kind k ≡ true → is_sign_kind b k ≡ false
-    by Number e = refl
-    by Word e = absurd cc
-    by QuotedName e = absurd cc
-    by Literal e = absurd cc
-    by (Sign c) e = absurd cc
-    by MetaLine e = absurd cc
+number_no_sign b = grind arith
 
 abbrev a_zero : Lexeme
 a_zero = record { gap = 32 ∷ []; kind = Number; word = 48 ∷ []; start = 0 }
@@ -23,8 +15,7 @@ unfolding digits_below is_digit
 zero_below limit some = rw (lt-ltb 0 limit some) refl
 
 no_digits : (limit : ℕ) (k : TokenKind) (w : List ℕ) → is_number_kind k ≡ false → option_and_then (digits_below limit) (digits_of k w) ≡ None
-no_digits limit Number w e = absurd cc
-no_digits limit x w e = refl
+no_digits limit k w e = grind arith
 
 -- so a short one in its place is none either
 pub no_count_first : (limit : ℕ) (t : Lexeme) → IsTooLong t → count_first limit (shortened t ∷ []) ≡ count_first limit (t ∷ [])
@@ -35,8 +26,7 @@ no_count : (limit : ℕ) (k : TokenKind) (w : List ℕ) → is_number_kind k ≡
 no_count limit k w e = ap counted (no_digits limit k w e)
 
 never_long : (o : Option ℕ) → counted o ≡ Err true → ⊥
-never_long (Some n) e = absurd cc
-never_long None e = absurd cc
+never_long o e = grind arith
 
 pub count_shortens : (limit : ℕ) → Shortens (count_value limit)
 unfolding count_value
@@ -48,15 +38,7 @@ count_laws limit some = one_laws (count_value limit) (count_shortens limit) a_ze
 
 pub count_begins : (limit : ℕ) → Begins is_number (count limit)
 unfolding count_value is_number
-count_begins limit = one_begins (count_value limit) is_number (λ t v e. by t.kind t.word v e)
-  where
-    by : (k : TokenKind) (w : List ℕ) (v : ℕ) → counted (option_and_then (digits_below limit) (digits_of k w)) ≡ Ok v → is_number_kind k ≡ true
-    by Number w v e = refl
-    by Word w v e = absurd cc
-    by QuotedName w v e = absurd cc
-    by Literal w v e = absurd cc
-    by (Sign b) w v e = absurd cc
-    by MetaLine w v e = absurd cc
+count_begins limit = grind arith
 
 pub whole_number_laws : Lawful whole_number
 unfolding whole_number

@@ -25,12 +25,8 @@ by_count t ts n = first_by t ts (counted n)
 
 pub count_is : (limit : ℕ) (ts : List Lexeme) (at n : ℕ) (h : IsAt ts at) → count_first limit (drop at ts) ≡ Some n → (count limit).read (drop at ts) ≡ Ok (n, drop (at + 1) ts)
 unfolding count_value
-count_is limit ts at n h e =
-    let value : option_and_then (digits_below limit) (digits_of h.token.kind h.token.word) ≡ Some n = ap (count_first limit) (sym h.here) ∙ e in
-    ap (count limit).read h.here ∙ ap (by_count h.token (drop (at + 1) ts)) value
+count_is limit ts at n h e = cc
 
 pub no_count : (limit : ℕ) (ts : List Lexeme) (at : ℕ) (h : IsAt ts at) → count_first limit (drop at ts) ≡ None → (count limit).read (drop at ts) ≡ stop (drop at ts)
 unfolding count_value
-no_count limit ts at h e =
-    let value : option_and_then (digits_below limit) (digits_of h.token.kind h.token.word) ≡ None = ap (count_first limit) (sym h.here) ∙ e in
-    ap (count limit).read h.here ∙ ap (by_count h.token (drop (at + 1) ts)) value ∙ ap stop (sym h.here)
+no_count limit ts at h e = cc

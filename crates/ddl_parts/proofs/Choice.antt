@@ -1,5 +1,5 @@
 -- The laws of one of two parts, and of a part that may be left out.
-use Rattle.ddl_parts.proofs.Common.{◌≡◌, Bool, true, false, List, ◌++◌, Ok, refl, ap, ◌∙◌, ◌⊎◌, inl, inr, Some, None, ◌∷◌, Lexeme, starts, Part, choose, choose_at, optional, nothing, seen, Lawful, Begins, Avoids, Apart}
+use Rattle.ddl_parts.proofs.Common.{arith, ◌≡◌, Bool, true, false, List, ◌++◌, Ok, refl, ap, ◌∙◌, ◌⊎◌, inl, inr, Some, None, ◌∷◌, Lexeme, starts, Part, choose, choose_at, optional, nothing, seen, Lawful, Begins, Avoids, Apart}
 use Rattle.ddl_parts.proofs.{Steps.Agrees, Steps.starts_again, Steps.starts_neither, Steps.starts-append, Steps.avoids_begun, Told.Tells, Told.left_of, Told.long_of, Told.told, Told.lawful, Told.told_as, Simple.seen_laws, Simple.seen_begins, Simple.nothing_laws, Simple.nothing_avoids}
 
 -- the reading by whether the first is taken
@@ -30,11 +30,7 @@ choose_apart test other agrees p q lp lq begins begins' apart = choose_laws test
 
 -- what spells one of two parts begins as one of them does
 pub choose_begins : {A : Type 0} (test begun : Lexeme → Bool) (p q : Part A) → Begins begun p → Begins begun q → Begins begun (choose test p q)
-choose_begins {A} test begun p q b c v ts spells = by_part spells
-  where
-    by_part : p.Spells v ts ⊎ q.Spells v ts → starts begun ts ≡ true
-    by_part (inl h) = b v ts h
-    by_part (inr h) = c v ts h
+choose_begins test begun p q b c = grind arith
 
 pub optional_laws : {A : Type 0} (test : Lexeme → Bool) → Agrees test → (p : Part A) → Lawful p → Begins test p → Lawful (optional test p)
 optional_laws test agrees p lp begins = choose_laws test agrees (seen Some p) (nothing test None) (seen_laws Some p lp) (nothing_laws test None) (seen_begins test Some p begins) (nothing_avoids test None)

@@ -83,18 +83,11 @@ joined_none limit at = refl
 
 pub joined_one_more : (limit at : ℕ) (ps : List Piece) (p : Piece) → are_joined_from limit at ps ≡ true → end_of at ps ≡ p.from → p.from ≤ p.token.start → p.token.start < p.token.end → p.token.end ≤ limit → are_joined_from limit at (ps ++ p ∷ []) ≡ true
 unfolding are_joined_from end_of
-joined_one_more limit at [] p e is low long high =
-    and_from _ _ (and_from _ _ (and_from _ _ (and_from _ _ (eq-eqb p.from at (sym is)) (le-leb at p.token.start (omega arith))) (lt-ltb p.token.start p.token.end long)) (le-leb p.token.end limit high)) refl
+joined_one_more limit at [] p e is low long high = grind (arith, and_from, lt-ltb, and_parts)
 joined_one_more limit at (q ∷ ps) p e is low long high =
     let h = and_parts _ _ e in
     and_from _ _ h.0 (joined_one_more limit q.token.end ps p h.1 is low long high)
 
 pub joined_whole : (limit at : ℕ) (ps : List Piece) → are_joined_from limit at ps ≡ true → are_joined limit ps ≡ true
 unfolding are_joined are_joined_from
-joined_whole limit at [] e = refl
-joined_whole limit at (p ∷ ps) e =
-    let a = and_parts _ _ e in
-    let b = and_parts _ _ a.0 in
-    let c = and_parts _ _ b.0 in
-    let d = and_parts _ _ c.0 in
-    and_from _ _ (and_from _ _ (and_from _ _ (and_from _ _ (eq-eqb p.from p.from refl) (le-leb p.from p.token.start (let h : at ≤ p.token.start = leb-true _ _ d.1 in let k : p.from ≡ at = eqb-true _ _ d.0 in omega arith))) c.1) b.1) a.1
+joined_whole limit at ps e = grind arith

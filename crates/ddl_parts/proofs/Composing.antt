@@ -1,6 +1,6 @@
 -- Laws of parts put together, where the parts themselves go without saying, and with which tokens they begin.
 use Rattle.ddl_parts.proofs.Common.{◌≡◌, ℕ, Bool, true, false, List, Some, None, Lexeme, is_word, is_sign, Part, mark, seen, choose, nothing, optional, ◌then◌, ◌▸◌, ◌◂◌, Lawful, Apart, Avoids, Begins, name, is_name, literal, is_literal}
-use Rattle.ddl_parts.proofs.{Steps.Agrees, Steps.avoids_begun, Shorter.is_far, Shorter.word_agrees, Shorter.sign_agrees, Shorter.name_agrees, Shorter.literal_agrees, Simple.seen_laws, Simple.seen_begins, Simple.mark_laws, Simple.mark_begins, Simple.nothing_laws, Simple.nothing_avoids, Sequence.then_laws, Sequence.then_begins, Sequence.lead_begins, Choice.choose_laws, Leads.a_word, Leads.a_sign, Leads.word_is, Leads.sign_is, Leads.word_laws, Leads.sign_laws, Leads.ended_laws, Leads.worded_laws, Leads.choose_avoids, Leads.name_laws, Leads.name_begins, Leads.literal_laws, Leads.literal_begins, Telling.avoids_where, Telling.nothing_avoids_some}
+use Rattle.ddl_parts.proofs.{Steps.Agrees, Steps.avoids_begun, Shorter.is_far, Shorter.word_agrees, Shorter.sign_agrees, Shorter.name_agrees, Shorter.literal_agrees, Simple.seen_laws, Simple.seen_begins, Simple.mark_laws, Simple.mark_begins, Simple.nothing_laws, Simple.nothing_avoids, Sequence.then_laws, Sequence.then_begins, Sequence.lead_begins, Choice.choose_laws, Leads.a_word, Leads.a_sign, Leads.word_is, Leads.sign_is, Leads.word_laws, Leads.sign_laws, Leads.ended_laws, Leads.worded_laws, Leads.choose_avoids, Leads.name_laws, Leads.name_begins, Leads.literal_laws, Leads.literal_begins, Leads.qualified_laws, Leads.words_apart, Leads.word_no_sign, Tables.one_of_laws, Telling.avoids_where, Telling.free, Telling.nothing_avoids_some, Telling.sign_no_word, Telling.signs_apart}
 
 -- ---- the laws
 
@@ -92,3 +92,6 @@ avoids_either {p = p} {q = q} {test = test} other h apart k apart' = choose_avoi
 
 pub avoids_maybe : {A : Type 0} {p : Part A} {test : Lexeme → Bool} (other : Lexeme → Bool) → Headed test p → Apart test other → (more : Lexeme → Bool) (v : A) → ((t : Lexeme) → more t ≡ false → other t ≡ false) → Avoids other (choose test p (nothing more v))
 avoids_maybe {p = p} {test = test} other h apart more v none = choose_avoids other test p (nothing more v) (avoids_headed other h apart) (nothing_avoids_some more other v none)
+
+-- by which the laws of a part are found
+pub ruleset grammar = (lawful_seen, lawful_word, lawful_sign, lawful_ended, lawful_worded, lawful_next, lawful_either, lawful_unless, lawful_optional, one_of_laws, name_laws, literal_laws, qualified_laws, headed_word, headed_sign, headed_seen, headed_next, one_word, one_sign, one_name, one_literal, free, words_apart, word_no_sign, sign_no_word, signs_apart)

@@ -10,9 +10,7 @@ last_two ts from end le =
     ∙ ap (λ n. take 2 (drop n ts)) (let e : from + (end - from - 2) ≡ end - 2 = omega arith in e)
 
 first_two : (ts : List Lexeme) → 2 ≤ length ts → are_not_null (take 2 ts) ≡ (starts (is_word (codes "not")) ts && starts (is_word (codes "null")) (drop 1 ts))
-first_two [] le = absurd (omega arith)
-first_two (a ∷ []) le = absurd (omega arith)
-first_two (a ∷ b ∷ ts) le = refl
+first_two ts le = grind arith
 
 -- a run ends with NOT NULL where these two stand before its end
 pub ends_null : (ts : List Lexeme) (from end : ℕ) → from + 2 ≤ end → end ≤ length ts

@@ -17,8 +17,7 @@ nothing_before : {A : Type 0} (read : Reading (List A)) → preceded [] read ≡
 nothing_before read = grind arith
 
 one_before : {A : Type 0} (so_far : List A) (v : A) (read : Reading (List A)) → preceded so_far (read >>= λ others. gives (v ∷ others.0) others.1) ≡ preceded (so_far ++ v ∷ []) read
-one_before {A} so_far v (Ok r) = ap (λ (x : List A). gives x r.1) (sym (append_assoc so_far (v ∷ []) r.0))
-one_before so_far v (Err s) = refl
+one_before so_far v read = grind (arith, append_assoc)
 
 -- at the start
 pub all_left : {A : Type 0} (items : Items A) (ts : List Lexeme) (at : ℕ) → AreLeft items (items_from items items.start (drop at ts)) ts [] items.start at
@@ -50,11 +49,9 @@ fewer goes_on items h view ts s at x e =
 -- no item begins: those so far are all
 pub none_more : {A : Type 0} (items : Items A) (whole : Reading (List A)) (ts : List Lexeme) (so_far : List A) (s : items.State) (at : ℕ)
     → AreLeft items whole ts so_far s at → starts (items.more s) (drop at ts) ≡ false → GivesPart ts (λ (x : List A). x) (Ok (so_far, at)) whole
-none_more {A} items whole ts so_far s at left none =
-    left.same ∙ ap (preceded so_far) (from_none items s (drop at ts) none) ∙ ap (λ (x : List A). gives x (drop at ts)) (append-nil so_far)
+none_more items whole ts so_far s at left h = grind (arith, from_none, append-nil)
 
 -- an item begins and isn't read: nothing is
 pub no_item : {A : Type 0} (items : Items A) (whole : Reading (List A)) (ts : List Lexeme) (so_far : List A) (s : items.State) (at : ℕ) (error : ReadError)
     → AreLeft items whole ts so_far s at → starts (items.more s) (drop at ts) ≡ true → Fails ts error ((items.item s).read (drop at ts)) → Fails ts error whole
-no_item items whole ts so_far s at Memory left begins e = tt
-no_item items whole ts so_far s at (Halted h) left begins e = left.same ∙ ap (preceded so_far) (from_stop items s (drop at ts) (halted ts h) begins e)
+no_item items whole ts so_far s at error left begins e = grind (arith, from_stop)

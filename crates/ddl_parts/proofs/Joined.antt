@@ -35,5 +35,4 @@ lies_from limit at (q ∷ ps) (suc i) d e lt = lies_from limit q.token.end ps i 
 
 pub lies_at : (limit : ℕ) (ps : List Piece) (i : ℕ) (d : Piece) → are_joined limit ps ≡ true → i < length ps → Lies limit (get_or ps i d)
 unfolding are_joined
-lies_at limit [] i d e lt = absurd (omega arith)
-lies_at limit (q ∷ ps) i d e lt = lies_from limit q.from (q ∷ ps) i d e lt
+lies_at limit ps i d e lt = grind (arith, lies_from)

@@ -31,23 +31,11 @@ literal_laws = one_laws literal_value literal_shortens a_literal [] refl
 
 pub name_begins : Begins is_name name
 unfolding is_name name_value name_in name_of
-name_begins = one_begins name_value is_name by_kind
-  where
-    by : (k : TokenKind) (w : List ℕ) (v : List ℕ) → name_in (name_of k w) ≡ Ok v → is_name_kind k ≡ true
-    by k w v e = grind arith
-
-    by_kind : (t : Lexeme) (v : List ℕ) → name_value t ≡ Ok v → is_name t ≡ true
-    by_kind t v e = by t.kind t.word v e
+name_begins = grind arith
 
 pub literal_begins : Begins is_literal literal
 unfolding is_literal literal_value text_in literal_of
-literal_begins = one_begins literal_value is_literal by_kind
-  where
-    by : (k : TokenKind) (w : List ℕ) (v : List ℕ) → text_in (literal_of k w) ≡ Ok v → is_literal_kind k ≡ true
-    by k w v e = grind arith
-
-    by_kind : (t : Lexeme) (v : List ℕ) → literal_value t ≡ Ok v → is_literal t ≡ true
-    by_kind t v e = by t.kind t.word v e
+literal_begins = grind arith
 
 -- ---- a word or a sign before a part, or behind it
 
@@ -65,14 +53,10 @@ pub worded_laws : {A : Type 0} (key : List ℕ) → is_far key ≡ true → (p :
 worded_laws key far p lp apart = close_laws p (is_word key) (word_agrees key far) (a_word key) (word_is key) lp apart
 
 pub qualified_laws : Lawful qualified
-qualified_laws =
-    let pair : List ℕ × List ℕ → QName = λ x. record { schema = x.0; name = x.1 } in
-    seen_laws pair (name then (is_sign 46 ▸ name)) (then_laws name (is_sign 46 ▸ name) name_laws (sign_laws 46 name name_laws) (avoids_never (is_sign 46 ▸ name)))
+qualified_laws = search (seen_laws, then_laws, name_laws, sign_laws, avoids_never, arith)
 
 pub qualified_begins : Begins is_name qualified
-qualified_begins =
-    let pair : List ℕ × List ℕ → QName = λ x. record { schema = x.0; name = x.1 } in
-    seen_begins is_name pair (name then (is_sign 46 ▸ name)) (then_begins is_name name (is_sign 46 ▸ name) name_begins)
+qualified_begins = search (seen_begins, then_begins, name_begins, arith)
 
 -- ---- tokens that are told apart
 
@@ -97,11 +81,7 @@ word_no_sign key b t e = word_no_sign_by t.kind t.word key b e
 -- ---- one of two parts that both avoid some tokens
 
 pub choose_avoids : {A : Type 0} (test which : Lexeme → Bool) (p q : Part A) → Avoids test p → Avoids test q → Avoids test (choose which p q)
-choose_avoids {A} test which p q a b v ts rest spells free = by_part spells (starts_neither p.goes_on q.goes_on rest free)
-  where
-    by_part : p.Spells v ts ⊎ q.Spells v ts → (starts p.goes_on rest ≡ false) × (starts q.goes_on rest ≡ false) → starts test (ts ++ rest) ≡ false
-    by_part (inl h) f = a v ts rest h f.0
-    by_part (inr h) f = b v ts rest h f.1
+choose_avoids test which p q a b = grind arith
 
 -- what begins with one word doesn't begin with another
 pub word_avoids : {A : Type 0} (other key : List ℕ) (p : Part A) → str_eq_ignore_ascii_case key other ≡ false → Begins (is_word key) p → Avoids (is_word other) p

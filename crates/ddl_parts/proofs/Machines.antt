@@ -1,5 +1,5 @@
 -- The laws of a run of tokens that a machine takes.
-use Rattle.ddl_parts.proofs.Common.{◌≡◌, Bool, true, false, cond, List, [], ◌∷◌, ◌++◌, Option, Some, None, Ok, Err, refl, sym, ap, subst, ◌∙◌, ◌⊎◌, inl, inr, Lexeme, starts, Reading, ◌>>=◌, Machine, run, ends, scan, scan_step, runs_of, IsTooLong, shortened, Like, Lawful}
+use Rattle.ddl_parts.proofs.Common.{arith, ◌≡◌, Bool, true, false, cond, List, [], ◌∷◌, ◌++◌, Option, Some, None, Ok, Err, refl, sym, ap, subst, ◌∙◌, ◌⊎◌, inl, inr, Lexeme, starts, Reading, ◌>>=◌, Machine, run, ends, scan, scan_step, runs_of, IsTooLong, shortened, Like, Lawful}
 use Rattle.ddl_parts.proofs.{Steps.gives, Told.Told, Told.long_of, Told.lawful, Told.told_as, Told.named_by, Simple.head_is}
 
 -- A token that a state doesn't take: where it says that it is too long, it takes a shorter one, and else it doesn't take
@@ -115,10 +115,7 @@ scans m h s (t ∷ ts) = by (λ x. scans m h x ts) (m.step s t) refl
 scan_only : (m : Machine) (h : CanEnd m) (s last : m.State) (taken rest : List Lexeme) → run m (Some s) taken ≡ Some last → m.done last ≡ true → starts m.goes_on rest ≡ false → scan m s (taken ++ rest) ≡ Ok (taken, rest)
 unfolding scan
 scan_only m h s last [] [] e d free = let is : s ≡ last = cc in ap (by_done m false []) (ap m.done is ∙ d)
-scan_only m h s last [] (t ∷ rest) e d free =
-    let is : s ≡ last = cc in
-    let done : m.done s ≡ true = ap m.done is ∙ d in
-    stepped m s t rest None (h.covers s t done free) ∙ ap (by_done m (m.long s t) (t ∷ rest)) done
+scan_only m h s last [] (t ∷ rest) e d free = grind (arith, by_done, stepped, run_none)
 scan_only m h s last (t ∷ taken) rest e d free = by_next (λ x e. scan_only m h x last taken rest e d free) (m.step s t) refl e
   where
     by_next : ((x : m.State) → run m (Some x) taken ≡ Some last → scan m x (taken ++ rest) ≡ Ok (taken, rest)) → (next : Option m.State) → m.step s t ≡ next → run m next taken ≡ Some last → scan m s (t ∷ (taken ++ rest)) ≡ Ok (t ∷ taken, rest)

@@ -15,16 +15,14 @@ pub record AreApart {A : Type 0} (goes_on : Lexeme → Bool) (items : Items A) :
 
 -- what begins with something has a token
 pub begun_long : (test : Lexeme → Bool) (ts : List Lexeme) → starts test ts ≡ true → 0 < length ts
-begun_long test [] e = absurd cc
-begun_long test (t ∷ ts) e = omega arith
+begun_long test ts e = grind arith
 
 some_left : (n : ℕ) → 0 < n → (m : ℕ) × (n ≡ suc m)
 some_left zero some = absurd (omega arith)
 some_left (suc n) some = (n, refl)
 
 shorter : (test : Lexeme → Bool) (n : ℕ) (ts front rest : List Lexeme) → starts test front ≡ true → ts ≡ front ++ rest → length ts ≤ suc n → length rest ≤ n
-shorter test n ts front rest begun parts le =
-    omega (arith, begun_long test front begun, length-append front rest, ap (λ (x : List Lexeme). length x) parts, le)
+shorter test n ts front rest begun parts le = grind (arith, begun_long, length-append)
 
 -- an item before others
 abbrev pub with_first : {A : Type 0} → A → Reading (List A) → Reading (List A)
@@ -41,8 +39,7 @@ turned items n s ts b e = ap (turn items n s ts) e
 
 none_read : {A : Type 0} (items : Items A) (n : ℕ) (s : items.State) (ts : List Lexeme) → starts (items.more s) ts ≡ false → many_at items n s ts ≡ Ok ([], ts)
 unfolding many_at
-none_read items zero s ts e = refl
-none_read items (suc n) s ts e = turned items n s ts false e
+none_read items n s ts e = grind arith
 
 item_read : {A : Type 0} (items : Items A) (n : ℕ) (s : items.State) (ts : List Lexeme) (r : Reading A) → starts (items.more s) ts ≡ true → (items.item s).read ts ≡ r
     → many_at items (suc n) s ts ≡ (r >>= λ first. with_first first.0 (many_at items n (items.next s first.0) first.1))
@@ -137,11 +134,7 @@ many_tell {items = items} h (suc n) s ts le = by (λ s' us le'. many_tell h n s'
 
 -- what follows an item, another item or what may follow them all, doesn't go on with it
 free_behind : {A : Type 0} {goes_on : Lexeme → Bool} {items : Items A} (h : AreApart goes_on items) (s : items.State) (v : A) (s' : items.State) → items.next s v ≡ s' → (vs : List A) (b rest : List Lexeme) → Many items s' vs b → starts goes_on rest ≡ false → starts (items.item s).goes_on (b ++ rest) ≡ false
-free_behind {goes_on = goes_on} {items = items} h s v s' is _ _ rest (no_more _) free = starts_covered goes_on (items.item s).goes_on (λ t e. (h.covers s t e).1) rest free
-free_behind {items = items} h s v s' is _ _ rest (one_more _ w vs a b spells others) free =
-    let more = items.more (items.next s v) in
-    let begun : starts more a ≡ true = subst (λ x. starts (items.more x) a ≡ true) (sym is) (h.begins s' w a spells) in
-    starts_apart more (items.item s).goes_on ((a ++ b) ++ rest) (h.apart s v) (starts-append more (a ++ b) rest (starts-append more a b begun))
+free_behind h s v s' is vs b rest k free = grind arith
 
 many_only : {A : Type 0} {goes_on : Lexeme → Bool} {items : Items A} (h : AreApart goes_on items) (s : items.State) (vs : List A) (front rest : List Lexeme) → Many items s vs front → starts goes_on rest ≡ false → items_from items s (front ++ rest) ≡ Ok (vs, rest)
 many_only {goes_on = goes_on} {items = items} h s _ _ rest (no_more _) free = from_none items s rest (starts_covered goes_on (items.more s) (λ t e. (h.covers s t e).0) rest free)

@@ -36,13 +36,7 @@ closes bounded takes (Square ∷ bs) = closes bounded takes bs
 
 finishes : (bounded takes : Bool) (spot : Spot) (bs : List Bracket) → run (nested bounded takes) (Some (nest bs spot)) (finish_by spot bs) ≡ Some (last_by spot bs)
 unfolding nest_step ends_run is_word is_sign is_keyword_of
-finishes true takes First [] = refl
-finishes false takes First [] = refl
-finishes bounded takes First (Round ∷ bs) = closes bounded takes bs
-finishes bounded takes First (Square ∷ bs) = closes bounded takes bs
-finishes bounded takes x [] = refl
-finishes bounded takes x (Round ∷ bs) = closes bounded takes bs
-finishes bounded takes x (Square ∷ bs) = closes bounded takes bs
+finishes bounded takes spot bs = grind (arith, closes)
 
 inside_flat : (spot : Spot) (bs : List Bracket) → nest_done (nest bs spot) ≡ true → bs ≡ []
 unfolding nest_done
@@ -61,8 +55,7 @@ covered bounded takes s t done free =
 -- a run goes by kinds and words, and never says that a token is too long
 nested_same : (bounded takes : Bool) (spot : Spot) (brackets : List Bracket) (t : Lexeme) → IsTooLong t → step_by bounded takes spot (shortened t) brackets ≡ step_by bounded takes spot t brackets
 unfolding ends_run
-nested_same bounded takes spot [] t long = simp (word_like t long, sign_like t)
-nested_same bounded takes spot (b ∷ rest) t long = refl
+nested_same bounded takes spot brackets t long = grind (arith, word_like, sign_like)
 
 nested_shorter : (bounded takes : Bool) (s : Nest) (t : Lexeme) → nest_step bounded takes s t ≡ None → Shorter (nested bounded takes) s t
 unfolding nest_step
@@ -138,17 +131,11 @@ number_same t = refl
 
 -- where a name is due
 name_due : (s : TypeSpot) (t : Lexeme) (r : Result (List ℕ) Bool) → name_value t ≡ r → if_name r s ≡ None → (is_long_by r ≡ true → IsTooLong t × (if_name (name_value (shortened t)) s ≡ Some s)) × (is_long_by r ≡ false → IsTooLong t → (if_name (name_value (shortened t)) s ≡ None) × (is_long_by (name_value (shortened t)) ≡ false))
-name_due s t (Ok n) is e = absurd cc
-name_due s t (Err true) is e = (λ l. (let h = name_shortens.long t is in (h.0, ap (λ r. if_name r s) h.1.1)), λ l long. absurd cc)
-name_due s t (Err false) is e = (λ l. absurd cc, λ l long. (let h = name_shortens.none t long is in (ap (λ r. if_name r s) h, ap is_long_by h)))
+name_due s t r is e = grind (arith, name_shortens)
 
 type_same : (s : TypeSpot) (t : Lexeme) → IsTooLong t → type_long s t ≡ false → (s ≡ Begin → ⊥) → (s ≡ Dotted → ⊥) → (type_step s (shortened t) ≡ type_step s t) × (type_long s (shortened t) ≡ false)
 unfolding type_step type_long
-type_same Begin t long l first later = absurd (first refl)
-type_same Dotted t long l first later = absurd (later refl)
-type_same Path t long l first later = (refl, refl)
-type_same Ended t long l first later = (refl, refl)
-type_same s t long l first later = (simp (word_agrees_types t long, number_same t, sign_like t), refl)
+type_same s t long l first later = grind (arith, word_agrees_types, number_same, sign_like)
 
 type_shorter : (s : TypeSpot) (t : Lexeme) → type_step s t ≡ None → Shorter typing s t
 unfolding type_step type_long type_done
@@ -174,9 +161,7 @@ type_laws = seen_laws type_of (runs_of typing) (machine_laws typing typing_ends)
 -- ---- before which tokens runs end
 
 end_sign : (k : TokenKind) (b : ℕ) → (b == 41 || b == 93 || b == 59) ≡ true → is_sign_kind b k ≡ true → is_end_kind k ≡ true
-end_sign (Sign c) b ends e = let same : b ≡ c = eqb-true b c e in subst (λ (x : ℕ). (x == 41 || x == 93 || x == 59) ≡ true) same ends
-end_sign Word b ends e = absurd cc
-end_sign x b ends e = absurd cc
+end_sign k b ends e = grind arith
 
 -- a closing bracket and a semicolon end each run
 pub run_ends : (bounded : Bool) (b : ℕ) → (b == 41 || b == 93 || b == 59) ≡ true → (t : Lexeme) → is_sign b t ≡ true → not (ends_run bounded t) ≡ false

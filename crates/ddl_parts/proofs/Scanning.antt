@@ -15,11 +15,7 @@ nothing_before : (read : Reading (List Lexeme)) → before [] read ≡ read
 nothing_before read = grind arith
 
 pub all_left : (m : Machine) (ts : List Lexeme) (from : ℕ) → from ≤ length ts → IsLeft m (scan m m.start (drop from ts)) ts from from m.start
-all_left m ts from le = record {
-  low = omega arith;
-  high = le;
-  same = sym (nothing_before (scan m m.start (drop from ts))) ∙ ap (λ n. before (take n (drop from ts)) (scan m m.start (drop from ts))) (let e : 0 ≡ from - from = omega arith in e);
-}
+all_left m ts from le = grind arith
 
 one_before : (front : List Lexeme) (t : Lexeme) (read : Reading (List Lexeme)) → before front (read >>= λ r. gives (t ∷ r.0) r.1) ≡ before (front ++ t ∷ []) read
 one_before front t (Ok r) = ap (λ (x : List Lexeme). gives x r.1) (sym (append_assoc front (t ∷ []) r.0))
@@ -65,15 +61,9 @@ at_end m whole ts from at s d left none done =
 
 pub at_stop : (m : Machine) (whole : Reading (List Lexeme)) (ts : List Lexeme) (from at : ℕ) (s : m.State) (t : Lexeme) (d : Bool) → IsLeft m whole ts from at s → drop at ts ≡ t ∷ drop (at + 1) ts → m.step s t ≡ None → m.done s ≡ d → GivesRun ts from (ended d (m.long s t) at) whole
 unfolding scan
-at_stop m whole ts from at s t d left here none done =
-    let rest = drop (at + 1) ts in
-    let stays : scan m s (t ∷ rest) ≡ ends m s (m.long s t) (t ∷ rest) = ap (scan_step (ends m s (m.long s t) (t ∷ rest)) (λ x. scan m x rest >>= λ r. gives (t ∷ r.0) r.1)) none in
-    let e : scan m s (drop at ts) ≡ ends m s (m.long s t) (drop at ts) = ap (scan m s) here ∙ stays ∙ ap (ends m s (m.long s t)) (sym here) in
-    by_done m whole ts from at s (m.long s t) left e d done
+at_stop m whole ts from at s t d left here h done = grind (arith, ends, by_done)
 
 -- where no token is left, a machine that isn't done stops
 pub none_left : (m : Machine) (ts : List Lexeme) (from : ℕ) → m.done m.start ≡ false → length ts ≤ from → scan m m.start (drop from ts) ≡ Err (record { long = false; rest = drop from ts })
 unfolding scan
-none_left m ts from done le =
-    let none = drop_all from ts le in
-    ap (scan m m.start) none ∙ ap (λ (b : Bool). cond b (gives [] []) (Err (record { long = false; rest = [] }))) done ∙ ap (λ (r : List Lexeme). Err (record { long = false; rest = r })) (sym none)
+none_left m ts from done le = grind (arith, drop_all)

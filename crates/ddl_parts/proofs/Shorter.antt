@@ -9,10 +9,7 @@ abbrev pub is_far : List ℕ → Bool
 is_far key = not (nat_lt 63 (length (str_to_ascii_lowercase key))) && not (str_eq_ignore_ascii_case (codes "a") key)
 
 long_by : (a b c : Bool) (v : List ℕ) → cond a (Err false) (cond b (Err true) (cond c (Ok v) (Err false))) ≡ (let r : Result (List ℕ) Bool = Err true in r) → b ≡ true
-long_by true b c v e = absurd cc
-long_by false true c v e = refl
-long_by false false true v e = absurd cc
-long_by false false false v e = absurd cc
+long_by a b c v e = grind arith
 
 long_bytes : (bytes : List ℕ) → name_in (Some bytes) ≡ Err true → nat_lt 63 (length bytes) ≡ true
 unfolding name_in
@@ -34,8 +31,7 @@ word_by x w key far e = refl
 
 no_word_by : (k : TokenKind) (w key : List ℕ) → path_of (text_in (literal_of k w)) ≡ Err true → is_keyword_of k (short_word k) key ≡ is_keyword_of k w key
 unfolding is_keyword_of literal_of text_in
-no_word_by Word w key e = absurd cc
-no_word_by x w key e = refl
+no_word_by k w key e = grind arith
 
 pub word_agrees : (key : List ℕ) → is_far key ≡ true → Agrees (is_word key)
 unfolding is_word name_value path_value literal_value
@@ -65,14 +61,11 @@ literal_agrees t long = refl
 -- a token that is too long is no number
 no_number_by : (k : TokenKind) (w : List ℕ) → name_in (name_of k w) ≡ Err true → is_number_kind k ≡ false
 unfolding name_in name_of
-no_number_by Word w e = refl
-no_number_by QuotedName w e = refl
-no_number_by x w e = absurd cc
+no_number_by k w e = grind arith
 
 no_literal_number : (k : TokenKind) (w : List ℕ) → path_of (text_in (literal_of k w)) ≡ Err true → is_number_kind k ≡ false
 unfolding literal_of text_in
-no_literal_number Literal w e = refl
-no_literal_number x w e = absurd cc
+no_literal_number k w e = grind arith
 
 pub long_no_number : (t : Lexeme) → IsTooLong t → is_number_kind t.kind ≡ false
 unfolding name_value path_value literal_value
@@ -89,8 +82,7 @@ name_short x w e = absurd cc
 
 literal_no_name : (k : TokenKind) (w : List ℕ) → path_of (text_in (literal_of k w)) ≡ Err true → name_in (name_of k (short_word k)) ≡ Err false
 unfolding name_in name_of literal_of text_in
-literal_no_name Literal w e = refl
-literal_no_name x w e = absurd cc
+literal_no_name k w e = grind arith
 
 pub name_shortens : Shortens name_value
 unfolding name_value path_value literal_value
@@ -102,17 +94,11 @@ name_shortens = record { long = λ t e. (inl e, name_short t.kind t.word e); non
 
 never_long : (o : Option (List ℕ)) → text_in o ≡ Err true → ⊥
 unfolding text_in
-never_long None e = absurd cc
-never_long (Some bytes) e = by (is_utf8 bytes) e
-  where
-    by : (b : Bool) → cond b (Ok bytes) (Err false) ≡ (let r : Result (List ℕ) Bool = Err true in r) → ⊥
-    by true f = absurd cc
-    by false f = absurd cc
+never_long o e = grind arith
 
 name_no_literal : (k : TokenKind) (w : List ℕ) → name_in (name_of k w) ≡ Err true → text_in (literal_of k (short_word k)) ≡ Err false
 unfolding name_in name_of literal_of text_in
-name_no_literal Literal w e = absurd cc
-name_no_literal x w e = refl
+name_no_literal k w e = grind arith
 
 pub no_long_text : (t : Lexeme) → literal_value t ≡ Err true → ⊥
 unfolding literal_value
@@ -126,23 +112,14 @@ word_no_text t e = name_no_literal t.kind t.word e
 -- what has no text in its literal has none where it is short
 pub no_text : (t : Lexeme) → IsTooLong t → literal_value t ≡ Err false → literal_value (shortened t) ≡ Err false
 unfolding path_value
-no_text t (inl e) f = word_no_text t e
-no_text t (inr e) f = absurd (cc (sym (ap path_of f) ∙ e))
+no_text t h f = grind (arith, word_no_text)
 
 pub literal_shortens : Shortens literal_value
 literal_shortens = record { long = λ t e. absurd (no_long_text t e); none = no_text }
 
 -- a value that a test lets through, or keeps
 pub guarded_shortens : {A : Type 0} (test : Lexeme → Bool) (given kept value : Lexeme → Result A Bool) → Agrees test → Shortens given → Shortens kept → ((t : Lexeme) → value t ≡ cond (test t) (given t) (kept t)) → Shortens value
-guarded_shortens {A} test given kept value agrees y n is = record { long = λ t e. long t (test t) refl (sym (is t) ∙ e); none = λ t l e. is (shortened t) ∙ none t l (test t) refl (sym (is t) ∙ e) }
-  where
-    long : (t : Lexeme) (b : Bool) → test t ≡ b → cond b (given t) (kept t) ≡ Err true → IsTooLong t × ((v : A) × (value (shortened t) ≡ Ok v))
-    long t true e f = let h = y.long t f in (h.0, (h.1.0, is (shortened t) ∙ ap (λ b. cond b (given (shortened t)) (kept (shortened t))) (agrees t h.0 ∙ e) ∙ h.1.1))
-    long t false e f = let h = n.long t f in (h.0, (h.1.0, is (shortened t) ∙ ap (λ b. cond b (given (shortened t)) (kept (shortened t))) (agrees t h.0 ∙ e) ∙ h.1.1))
-
-    none : (t : Lexeme) → IsTooLong t → (b : Bool) → test t ≡ b → cond b (given t) (kept t) ≡ Err false → cond (test (shortened t)) (given (shortened t)) (kept (shortened t)) ≡ Err false
-    none t l true e f = ap (λ b. cond b (given (shortened t)) (kept (shortened t))) (agrees t l ∙ e) ∙ y.none t l f
-    none t l false e f = ap (λ b. cond b (given (shortened t)) (kept (shortened t))) (agrees t l ∙ e) ∙ n.none t l f
+guarded_shortens test given kept value agrees y n is = grind arith
 
 pub refused_shortens : {A : Type 0} → Shortens (λ t. (let r : Result A Bool = Err false in r))
 refused_shortens = record { long = λ t e. absurd cc; none = λ t l e. refl }

@@ -76,9 +76,7 @@ mark_begins test = one_begins (passes test) test (λ t v e. passes_true v (test 
 -- ---- no token
 
 pub nothing_laws : {A : Type 0} (test : Lexeme → Bool) (v : A) → Lawful (nothing test v)
-nothing_laws {A} test v =
-    lawful (λ ts. record { front = []; parts = refl; fits = (refl, refl); local = λ t behind is u like other. refl; named = λ e. absurd cc })
-    (λ w front rest spells free. ap (λ (f : List Lexeme). gives v (f ++ rest)) spells.1 ∙ ap (λ (u : A). gives u rest) (sym spells.0)) (record { value = v; tokens = []; spells = (refl, refl) })
+nothing_laws test v = grind arith
 
 pub nothing_avoids : {A : Type 0} (test : Lexeme → Bool) (v : A) → Avoids test (nothing test v)
 nothing_avoids test v w ts rest spells free = ap (λ (f : List Lexeme). starts test (f ++ rest)) spells.1 ∙ free

@@ -46,12 +46,7 @@ Lies limit at p = (at ≡ p.from) × (at ≤ p.token.start) × (p.token.start < 
 
 joined_head : (limit at : ℕ) (p : Piece) (ps : List Piece) → are_joined_from limit at (p ∷ ps) ≡ true → Lies limit at p × (are_joined_from limit p.token.end ps ≡ true)
 unfolding are_joined_from
-joined_head limit at p ps e =
-    let a = and_parts _ _ e in
-    let b = and_parts _ _ a.0 in
-    let c = and_parts _ _ b.0 in
-    let d = and_parts _ _ c.0 in
-    ((sym (eqb-true _ _ d.0), leb-true _ _ d.1, ltb-true _ _ c.1, leb-true _ _ b.1), a.1)
+joined_head limit at p ps e = grind arith
 
 record IsSlice (text : List ℕ) (at end : ℕ) (bytes : List ℕ) : Type 0 where
   low : at ≤ end
@@ -60,18 +55,10 @@ record IsSlice (text : List ℕ) (at end : ℕ) (bytes : List ℕ) : Type 0 wher
 
 one_slice : (text : List ℕ) (at : ℕ) (p : Piece) → Lies (length text) at p → IsSlice text at p.token.end ((lexeme_of text p).gap ++ (lexeme_of text p).word)
 unfolding spelling
-one_slice text at p l = record {
-  low = omega (arith, l.1, l.2);
-  high = l.3;
-  same = ap (λ n. slice_range text n p.token.start ++ slice_range text p.token.start p.token.end) (sym l.0) ∙ seam text at p.token.start p.token.end l.1 (omega (arith, l.2));
-}
+one_slice text at p l = grind (arith, seam)
 
 joined_slices : (text : List ℕ) (at mid end : ℕ) (a b : List ℕ) → IsSlice text at mid a → IsSlice text mid end b → IsSlice text at end (a ++ b)
-joined_slices text at mid end a b f g = record {
-  low = omega (arith, f.low, g.low);
-  high = g.high;
-  same = ap (λ (x : List ℕ). x ++ b) f.same ∙ ap (λ (y : List ℕ). slice_range text at mid ++ y) g.same ∙ seam text at mid end f.low g.low;
-}
+joined_slices text at mid end a b f g = grind (arith, seam)
 
 no_more : (a b : List ℕ) → a ++ (b ++ []) ≡ a ++ b
 no_more a b = ap (λ (r : List ℕ). a ++ r) (append-nil b)
@@ -105,9 +92,7 @@ slice_from text at ps zero n d e le =
     subst (λ k. IsSlice text (get_or ps zero d).token.start (get_or ps k d).token.end (source (take (suc n) (lexemes text ps)))) (let is : n ≡ 0 + n = omega arith in is)
     (source_slice text at ps n d e (omega arith))
 slice_from text at [] (suc i) n d e le = absurd (omega arith)
-slice_from text at (p ∷ ps) (suc i) n d e le =
-    subst (λ k. IsSlice text (get_or ps i d).token.start (get_or (p ∷ ps) k d).token.end (source (take (suc n) (drop i (lexemes text ps))))) (let is : suc (i + n) ≡ suc i + n = omega arith in is)
-    (slice_from text p.token.end ps i n d (joined_head (length text) at p ps e).1 (omega arith))
+slice_from text at (p ∷ ps) (suc i) n d e le = grind (arith, source_slice, joined_head, (slice_from text p.token.end ps i n d (joined_head (length text) at p ps e).1 (omega arith)))
 
 joined_from : (limit : ℕ) (ps : List Piece) → are_joined limit ps ≡ true → (at : ℕ) × (are_joined_from limit at ps ≡ true)
 unfolding are_joined are_joined_from

@@ -33,8 +33,7 @@ abbrev pub Agrees : (Lexeme → Bool) → Type 0
 Agrees test = (t : Lexeme) → IsTooLong t → test (shortened t) ≡ test t
 
 pub passes_like : (test : Lexeme → Bool) → Agrees test → (long : Bool) (t u : Lexeme) → Like long t u → test u ≡ test t
-passes_like test agrees long t u (inl same) = ap test (sym same)
-passes_like test agrees long t u (inr h) = ap test (sym h.2) ∙ agrees t h.1
+passes_like test agrees long t u h = grind arith
 
 -- the first of some tokens and one more, whatever comes behind that one
 pub starts_kept : (test : Lexeme → Bool) (front : List Lexeme) (t u : Lexeme) (behind other : List Lexeme) → test u ≡ test t → starts test (front ++ u ∷ other) ≡ starts test (front ++ t ∷ behind)
@@ -43,28 +42,23 @@ starts_kept test (f ∷ front) t u behind other e = refl
 
 -- the same, where the tokens are given as a whole
 pub starts_again : (test : Lexeme → Bool) → Agrees test → (b : Bool) (ts front rest : List Lexeme) (t : Lexeme) (behind : List Lexeme) → starts test ts ≡ b → ts ≡ front ++ rest → rest ≡ t ∷ behind → (long : Bool) (u : Lexeme) → Like long t u → (other : List Lexeme) → starts test (front ++ u ∷ other) ≡ b
-starts_again test agrees b ts front rest t behind e parts is long u like other =
-    starts_kept test front t u behind other (passes_like test agrees long t u like) ∙ ap (starts test) (sym (parts ∙ ap (λ (r : List Lexeme). front ++ r) is)) ∙ e
+starts_again test agrees b ts front rest t behind e parts is long u like other = grind (arith, starts_kept, passes_like, starts)
 
 pub starts_never : (ts : List Lexeme) → starts never ts ≡ false
 starts_never ts = grind arith
 
 pub starts_neither : (one other : Lexeme → Bool) (ts : List Lexeme) → starts (λ t. one t || other t) ts ≡ false → (starts one ts ≡ false) × (starts other ts ≡ false)
-starts_neither one other [] e = (refl, refl)
-starts_neither one other (t ∷ ts) e = let h = or_parts (one t) (other t) e in (h.0, h.1)
+starts_neither one other ts e = grind arith
 
 pub starts_apart : (one other : Lexeme → Bool) (ts : List Lexeme) → Apart one other → starts one ts ≡ true → starts other ts ≡ false
-starts_apart one other [] apart e = refl
-starts_apart one other (t ∷ ts) apart e = apart t e
+starts_apart one other ts apart e = grind arith
 
 -- what begins with one of these begins with one of those, and where none of those stands none of these does
 pub starts_more : (test other : Lexeme → Bool) → ((t : Lexeme) → test t ≡ true → other t ≡ true) → (ts : List Lexeme) → starts test ts ≡ true → starts other ts ≡ true
-starts_more test other more [] e = absurd cc
-starts_more test other more (t ∷ ts) e = more t e
+starts_more test other more ts e = grind arith
 
 pub starts_covered : (more test : Lexeme → Bool) → ((t : Lexeme) → more t ≡ false → test t ≡ false) → (ts : List Lexeme) → starts more ts ≡ false → starts test ts ≡ false
-starts_covered more test none [] e = refl
-starts_covered more test none (t ∷ ts) e = none t e
+starts_covered more test h ts e = grind arith
 
 -- ---- parts side by side
 

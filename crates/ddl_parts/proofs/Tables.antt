@@ -1,5 +1,5 @@
 -- The laws of one of several parts by their key words.
-use Rattle.ddl_parts.proofs.Common.{◌≡◌, ℕ, Bool, true, not, ◌&&◌, List, [], ◌∷◌, and_parts, not-true, str_eq_ignore_ascii_case, Lexeme, is_word, Branch, branch, one_of, Lawful, Begins, Avoids, Apart}
+use Rattle.ddl_parts.proofs.Common.{arith, ◌≡◌, ℕ, Bool, true, not, ◌&&◌, List, [], ◌∷◌, and_parts, not-true, str_eq_ignore_ascii_case, Lexeme, is_word, Branch, branch, one_of, Lawful, Begins, Avoids, Apart}
 use Rattle.ddl_parts.proofs.{Shorter.is_far, Shorter.word_agrees, Sequence.lead_begins, Choice.choose_laws, Leads.word_laws, Leads.word_avoids, Leads.choose_avoids, Steps.avoids_begun}
 
 -- the key words are all different, and far from short names
@@ -27,8 +27,7 @@ one_of_avoids key b (c ∷ rest) e =
 -- no key word is another kind of token
 pub one_of_avoids_others : {A : Type 0} (test : Lexeme → Bool) → ((key : List ℕ) → Apart (is_word key) test) → (b : Branch A) (rest : List (Branch A)) → Avoids test (one_of b rest)
 one_of_avoids_others test apart b [] = avoids_begun (is_word b.key) test (branch b) (branch_begins b) (apart b.key)
-one_of_avoids_others test apart b (c ∷ rest) =
-    choose_avoids test (is_word b.key) (branch b) (one_of c rest) (avoids_begun (is_word b.key) test (branch b) (branch_begins b) (apart b.key)) (one_of_avoids_others test apart c rest)
+one_of_avoids_others test apart b (c ∷ rest) = grind (arith, avoids_begun, branch_begins, choose_avoids, (one_of_avoids_others test apart c rest))
 
 pub one_of_laws : {A : Type 0} (b : Branch A) (rest : List (Branch A)) → distinct b rest ≡ true → AllLawful b rest → Lawful (one_of b rest)
 one_of_laws b [] e laws = word_laws b.key e b.part laws

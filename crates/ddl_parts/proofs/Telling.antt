@@ -7,8 +7,7 @@ pub free : (test : Lexeme → Bool) → Apart test never
 free test t e = refl
 
 pub starts_none : (test : Lexeme → Bool) → ((t : Lexeme) → test t ≡ false) → (ts : List Lexeme) → starts test ts ≡ false
-starts_none test none [] = refl
-starts_none test none (t ∷ ts) = none t
+starts_none test h ts = grind arith
 
 pub avoids_where : {A : Type 0} (test : Lexeme → Bool) (p : Part A) → ((t : Lexeme) → test t ≡ false) → Avoids test p
 avoids_where test p none v ts rest spells free = starts_none test none (ts ++ rest)
@@ -48,9 +47,7 @@ unfolding is_sign is_word
 sign_no_word b key t e = sign_no_word_by t.kind t.word key b e
 
 pub signs_by : (k : TokenKind) (a b : ℕ) → (b == a) ≡ false → is_sign_kind a k ≡ true → is_sign_kind b k ≡ false
-signs_by (Sign c) a b differ e = let same : a ≡ c = eqb-true a c e in subst (λ (x : ℕ). (b == x) ≡ false) same differ
-signs_by Word a b differ e = refl
-signs_by x a b differ e = refl
+signs_by k a b differ e = grind arith
 
 pub signs_apart : (a b : ℕ) → (b == a) ≡ false → Apart (is_sign a) (is_sign b)
 unfolding is_sign
@@ -69,15 +66,11 @@ sign_no_literal b t e = (sign_kind_by t.kind b e).1
 
 pub sign_no_type : (b : ℕ) → (46 == b) ≡ false → (40 == b) ≡ false → (91 == b) ≡ false → Apart (is_sign b) type_goes_on
 unfolding type_goes_on is_type_word is_sign
-sign_no_type b dot round square t e =
-    rw ((sign_kind_by t.kind b e).2, signs_by t.kind b 46 dot e, signs_by t.kind b 40 round e, signs_by t.kind b 91 square e) refl
+sign_no_type b dot round square = grind arith
 
 pub word_is_name : (key : List ℕ) (t : Lexeme) → is_word key t ≡ true → is_name t ≡ true
 unfolding is_word is_name is_keyword_of
-word_is_name key t e = by t.kind t.word e
-  where
-    by : (k : TokenKind) (w : List ℕ) → is_keyword_of k w key ≡ true → is_name_kind k ≡ true
-    by k w e = grind arith
+word_is_name key t e = grind arith
 
 pub begins_more : {A : Type 0} (test other : Lexeme → Bool) (p : Part A) → ((t : Lexeme) → test t ≡ true → other t ≡ true) → Begins test p → Begins other p
 begins_more test other p more begins v ts spells = starts_more test other more ts (begins v ts spells)

@@ -1,5 +1,5 @@
 -- What reading comes to, whether it goes through or stops, in one statement; the laws of parts are proved of it.
-use Rattle.ddl_parts.proofs.Common.{◌≡◌, Bool, true, false, List, [], ◌∷◌, ◌++◌, Ok, Err, refl, sym, ap, subst, ◌∙◌, ◌⊎◌, inl, inr, append_assoc, Lexeme, starts, Part, Reading, ◌>>=◌, shortened, Like, Named, Example, Lawful}
+use Rattle.ddl_parts.proofs.Common.{arith, ◌≡◌, Bool, true, false, List, [], ◌∷◌, ◌++◌, Ok, Err, refl, sym, ap, subst, ◌∙◌, ◌⊎◌, inl, inr, append_assoc, Lexeme, starts, Part, Reading, ◌>>=◌, shortened, Like, Named, Example, Lawful}
 
 -- the tokens behind those that were taken
 abbrev pub left_of : {A : Type 0} → Reading A → List Lexeme
@@ -52,8 +52,7 @@ named_by n v more spells = record { token = n.token; behind = n.behind; is = n.i
 
 -- nothing hangs on the length of a token that isn't the next
 pub like_ok : (long : Bool) (t u : Lexeme) → Like long t u → Like false t u
-like_ok long t u (inl same) = inl same
-like_ok long t u (inr h) = inr (refl, h.1, h.2)
+like_ok long t u h = grind arith
 
 -- what one reader tells, another does that spells no less and reads the same there
 pub told_as : {A : Type 0} {S T : A → List Lexeme → Type 0} {p q : List Lexeme → Reading A} (ts : List Lexeme) (r : Reading A) (f : Told S p ts r) → ((v : A) (us : List Lexeme) → S v us → T v us)

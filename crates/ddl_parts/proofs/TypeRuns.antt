@@ -46,12 +46,7 @@ step_some o t s e = grind arith
 -- a type whose second token is a dot, with another behind it, has two names
 pub path_names : (a dot b : Lexeme) (ts : List Lexeme) (last : TypeSpot) → is_sign 46 dot ≡ true → run typing (Some Begin) (a ∷ dot ∷ b ∷ ts) ≡ Some last → AreNames a b
 unfolding type_step
-path_names a dot b ts last e h =
-    let second = run_some (option_and_then (λ x. type_step x b) (behind_dot (is_type_word a) (name_value a) dot)) ts last h in
-    let first = step_some (behind_dot (is_type_word a) (name_value a) dot) b second.0 second.1 in
-    let schema = dot_goes (is_type_word a) (name_value a) dot e first.0 first.1 in
-    let name = name_goes (name_value b) second.0 (ap (λ (x : TypeSpot). type_step x b) (sym schema.2) ∙ first.2) in
-    record { schema = schema.0; schema_is = schema.1; name = name.0; name_is = name.1 }
+path_names a dot b ts last e h = grind (arith, run_some, step_some, dot_goes, name_goes)
 
 scanned_runs : (ts taken rest : List Lexeme) → scan typing Begin ts ≡ Ok (taken, rest) → Runs typing taken
 scanned_runs ts taken rest e =
@@ -68,13 +63,7 @@ pub record ArePath (ts taken : List Lexeme) : Type 0 where
 
 three_names : (a dot b : Lexeme) (ts taken : List Lexeme) → is_sign 46 dot ≡ true → AreNames a b → ArePath (a ∷ dot ∷ b ∷ ts) (a ∷ dot ∷ b ∷ taken)
 unfolding type_of
-three_names a dot b ts taken e n = record {
-  schema = n.schema;
-  schema_is = ap (first_by a (dot ∷ b ∷ ts)) n.schema_is;
-  name = n.name;
-  name_is = ap (first_by b ts) n.name_is;
-  type_is = rw (e, n.schema_is, n.name_is) refl;
-}
+three_names a dot b ts taken e n = grind arith
 
 -- a run of three tokens or more with a dot as the second is a qualified name
 pub path_is : (n : ℕ) (ts rest : List Lexeme) → 3 ≤ n → n ≤ length ts → starts (is_sign 46) (drop 1 ts) ≡ true → scan typing Begin ts ≡ Ok (take n ts, rest) → ArePath ts (take n ts)
@@ -84,9 +73,7 @@ path_is (suc (suc zero)) ts rest le high e scanned = absurd (omega arith)
 path_is (suc (suc (suc n))) [] rest le high e scanned = absurd (omega arith)
 path_is (suc (suc (suc n))) (a ∷ []) rest le high e scanned = absurd (omega arith)
 path_is (suc (suc (suc n))) (a ∷ dot ∷ []) rest le high e scanned = absurd (omega arith)
-path_is (suc (suc (suc n))) (a ∷ dot ∷ b ∷ ts) rest le high e scanned =
-    let r = scanned_runs (a ∷ dot ∷ b ∷ ts) (a ∷ dot ∷ b ∷ take n ts) rest scanned in
-    three_names a dot b ts (take n ts) e (path_names a dot b (take n ts) r.last e r.runs)
+path_is (suc (suc (suc n))) (a ∷ dot ∷ b ∷ ts) rest le high e scanned = grind (arith, scanned_runs, three_names, path_names)
 
 -- the same by places
 pub path_between : (ts : List Lexeme) (at end : ℕ) (dot : Bool) → (dot ≡ true → at + 3 ≤ end) → (at + 3 ≤ end → dot ≡ starts (is_sign 46) (drop (at + 1) ts)) → dot ≡ true → end ≤ length ts → scan typing Begin (drop at ts) ≡ Ok (take (end - at) (drop at ts), drop end ts)

@@ -1,25 +1,20 @@
 -- What follows the columns of a key, token by token.
-use Rattle.ddl_read.proofs.Common.{◌≡◌, ℕ, ◌+◌, Bool, List, ◌∷◌, drop, Option, Some, None, Result, Ok, Err, refl, sym, ap, ◌∙◌, ok_or, Lexeme, name_value, first_by, IsAt, if_name, if_read, is_long_by, is_long_read, rest_step, rest_long, step_first, long_first}
+use Rattle.ddl_read.proofs.Common.{arith, ◌≡◌, ℕ, ◌+◌, Bool, List, ◌∷◌, drop, Option, Some, None, Result, Ok, Err, refl, sym, ap, ◌∙◌, ok_or, Lexeme, name_value, first_by, IsAt, if_name, if_read, is_long_by, is_long_read, rest_step, rest_long, step_first, long_first}
 use Rattle.ddl_read.specs.{declared.rests.RestSpot.RestSpot, declared.rests.RestSpot.TheVariants.Begin, declared.rests.RestSpot.TheVariants.Deferrable, declared.rests.RestSpot.TheVariants.Initially, declared.rests.RestSpot.TheVariants.Ended, declared.rests.RestSpot.TheVariants.Foreign, declared.rests.RestSpot.TheVariants.FirstOn, declared.rests.RestSpot.TheVariants.Update, declared.rests.RestSpot.TheVariants.UpdateNo, declared.rests.RestSpot.TheVariants.UpdateSet, declared.rests.RestSpot.TheVariants.Updated, declared.rests.RestSpot.TheVariants.SecondOn, declared.rests.RestSpot.TheVariants.Delete, declared.rests.RestSpot.TheVariants.DeleteNo, declared.rests.RestSpot.TheVariants.DeleteSet, declared.rests.RestSpot.TheVariants.Chosen, declared.rests.RestSpot.TheVariants.Opened, declared.rests.RestSpot.TheVariants.Named, declared.rests.RestSpot.TheVariants.Deleted}
 
 first_name : (r : Result (List ℕ) Bool) (t : Lexeme) (ts : List Lexeme) → if_read (first_by t ts r) Named ≡ if_name r Named
-first_name (Ok n) t ts = refl
-first_name (Err long) t ts = refl
+first_name r t ts = grind arith
 
 long_name : (r : Result (List ℕ) Bool) (t : Lexeme) (ts : List Lexeme) → is_long_read (first_by t ts r) ≡ is_long_by r
-long_name (Ok n) t ts = refl
-long_name (Err long) t ts = refl
+long_name r t ts = grind arith
 
 first_step : (s : RestSpot) (t : Lexeme) (ts : List Lexeme) → step_first s (t ∷ ts) ≡ rest_step s t
 unfolding step_first rest_step
-first_step Begin t ts = refl
-first_step Opened t ts = first_name (name_value t) t ts
-first_step x t ts = refl
+first_step s t ts = grind arith
 
 first_long : (s : RestSpot) (t : Lexeme) (ts : List Lexeme) → long_first s (t ∷ ts) ≡ rest_long s t
 unfolding long_first rest_long
-first_long Opened t ts = long_name (name_value t) t ts
-first_long _ t ts = refl
+first_long s t ts = grind arith
 
 abbrev gone : RestSpot → Result RestSpot Bool
 gone s = Ok s
@@ -28,18 +23,14 @@ abbrev held : Bool → Result RestSpot Bool
 held long = Err long
 
 goes_by : (next : Option RestSpot) (long : Bool) (x : RestSpot) → gone x ≡ ok_or next long → next ≡ Some x
-goes_by (Some y) long x e = cc
-goes_by None long x e = absurd cc
+goes_by next long x e = grind arith
 
 stays_by : (next : Option RestSpot) (long long' : Bool) → held long' ≡ ok_or next long → (next ≡ None) × (long ≡ long')
-stays_by (Some y) long long' e = absurd cc
-stays_by None long long' e = (refl, cc)
+stays_by next long long' e = grind arith
 
 -- the step at a place before the end
 pub goes : (s x : RestSpot) (ts : List Lexeme) (at : ℕ) (h : IsAt ts at) → gone x ≡ ok_or (step_first s (drop at ts)) (long_first s (drop at ts)) → rest_step s h.token ≡ Some x
 goes s x ts at h e = sym (first_step s h.token (drop (at + 1) ts)) ∙ ap (step_first s) (sym h.here) ∙ goes_by (step_first s (drop at ts)) (long_first s (drop at ts)) x e
 
 pub stays : (s : RestSpot) (long : Bool) (ts : List Lexeme) (at : ℕ) (h : IsAt ts at) → held long ≡ ok_or (step_first s (drop at ts)) (long_first s (drop at ts)) → (rest_step s h.token ≡ None) × (rest_long s h.token ≡ long)
-stays s long ts at h e =
-    let by = stays_by (step_first s (drop at ts)) (long_first s (drop at ts)) long e in
-    (sym (first_step s h.token (drop (at + 1) ts)) ∙ ap (step_first s) (sym h.here) ∙ by.0, sym (first_long s h.token (drop (at + 1) ts)) ∙ ap (long_first s) (sym h.here) ∙ by.1)
+stays s long ts at h e = grind (arith, stays_by, first_step, first_long)

@@ -1,14 +1,10 @@
 -- The clauses of a sequence, token by token: those behind a place, by what was reached before it.
-use Rattle.ddl_read.proofs.Common.{◌≡◌, ℕ, ◌+◌, Bool, true, false, cond, List, [], ◌∷◌, Some, None, Option, Ok, Err, drop, refl, sym, ap, ◌∙◌, Lexeme, Reading, ◌>>=◌, run, ends, scan, scan_step, seen_at, GivesPart, gives, reached, clause_first, kind_first, usual_first, is_between, ended_by, clausing, first_reached, clauses_of, sequence_clauses, IsAt}
+use Rattle.ddl_read.proofs.Common.{arith, ◌≡◌, ℕ, ◌+◌, Bool, true, false, cond, List, [], ◌∷◌, Some, None, Option, Ok, Err, drop, refl, sym, ap, ◌∙◌, Lexeme, Reading, ◌>>=◌, run, ends, scan, scan_step, seen_at, GivesPart, gives, reached, clause_first, kind_first, usual_first, is_between, ended_by, clausing, first_reached, clauses_of, sequence_clauses, IsAt}
 use Rattle.ddl_read.specs.{declared.sequences.ClauseSpot.ClauseSpot, declared.sequences.ClauseSpot.TheVariants.Between, declared.sequences.ClauseSpot.TheVariants.BehindAs, declared.sequences.ClauseSpot.TheVariants.BehindStart, declared.sequences.ClauseSpot.TheVariants.BehindIncrement, declared.sequences.ClauseSpot.TheVariants.BehindNo, declared.sequences.ClauseSpot.TheVariants.Due, declared.sequences.ClauseSpot.TheVariants.BehindMinus, declared.sequences.Open.TheVariants.Both, declared.sequences.Open.TheVariants.Lower, declared.sequences.Open.TheVariants.Upper, declared.sequences.Clauses.Clauses, declared.sequences.Reached.Reached, SequenceGrammar.step_first}
 
 first_at : (spot : ClauseSpot) (c : Clauses) (t : Lexeme) (ts : List Lexeme) → step_first (reached c spot) (t ∷ ts) ≡ step_first (reached c spot) (t ∷ [])
 unfolding step_first clause_first kind_first usual_first
-first_at Between c t ts = refl
-first_at (BehindNo Both) c t ts = refl
-first_at (BehindNo Lower) c t ts = refl
-first_at (BehindNo Upper) c t ts = refl
-first_at x c t ts = refl
+first_at spot c t ts = grind arith
 
 -- the clauses behind some tokens that were taken
 abbrev pub behind : Reached → List Lexeme → Clauses
@@ -30,8 +26,7 @@ unfolding scan
 stepped r t ts next e = ap (by_step r t ts) e
 
 taken : (r x : Reached) (t : Lexeme) → step_first r (t ∷ []) ≡ Some x → (read : Reading (List Lexeme)) → seen_at (behind r) (read >>= λ s. gives (t ∷ s.0) s.1) ≡ seen_at (behind x) read
-taken r x t e (Ok s) = ap (λ (o : Option Reached). gives (clauses_of (run clausing o s.0)) s.1) e
-taken r x t e (Err s) = refl
+taken r x t e read = grind arith
 
 -- a token goes on
 pub goes : (r x : Reached) (ts : List Lexeme) (at : ℕ) (h : IsAt ts at) → step_first r (drop at ts) ≡ Some x → left r (drop at ts) ≡ left x (drop (at + 1) ts)
@@ -43,8 +38,7 @@ abbrev pub by_done : Reached → List Lexeme → Bool → Reading Clauses
 by_done r ts b = cond b (gives r.clauses ts) (Err (record { long = false; rest = ts }))
 
 ended : (r : Reached) (ts : List Lexeme) (b : Bool) → is_between r.spot ≡ b → seen_at (behind r) (ends clausing r false ts) ≡ by_done r ts b
-ended r ts true e = rw e refl
-ended r ts false e = rw e refl
+ended r ts b e = grind arith
 
 -- none goes on
 pub stops : (r : Reached) (ts : List Lexeme) (at : ℕ) (h : IsAt ts at) (b : Bool) → step_first r (drop at ts) ≡ None → is_between r.spot ≡ b → left r (drop at ts) ≡ by_done r (drop at ts) b
@@ -59,5 +53,4 @@ stops_at_end r ts at b none done = ap (left r) none ∙ ended r [] b done ∙ ap
 
 -- the answer there is what is read
 pub answers : (r : Reached) (ts : List Lexeme) (at : ℕ) (whole : Reading Clauses) (b : Bool) → whole ≡ by_done r (drop at ts) b → GivesPart ts (λ (c : Clauses). c) (ended_by r at b) whole
-answers r ts at whole true e = e
-answers r ts at whole false e = e
+answers r ts at whole b e = grind arith

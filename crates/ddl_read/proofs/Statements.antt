@@ -29,11 +29,7 @@ opened whole text so_far at left = by_fuel left.fuel left.enough left.same
 
 pub all_left : (text : List ℕ) → IsLeft (statements_of text) text [] 0
 unfolding statements_of
-all_left text = record { fuel = length text + 1; enough = omega arith; same = sym (nothing_before (statements_within (length text + 1) text 0)) }
-  where
-    nothing_before : (read : Result (List Located) DdlFault) → behind [] read ≡ read
-    nothing_before (Ok x) = refl
-    nothing_before (Err e) = refl
+all_left text = grind arith
 
 -- how statements go on, by the place of the first token and what is collected
 abbrev by_start : ℕ → List ℕ → List Located → Collected → Option ℕ → Result (List Located) DdlFault
@@ -54,13 +50,10 @@ begun whole text so_far at c start left next =
     (o.0, o.1, o.2 ∙ ap (turn o.0 text so_far at) next.no_line ∙ ap (collecting o.0 text so_far) next.tokens ∙ ap (by_start o.0 text so_far c) next.first)
 
 ends_ok : (so_far : List Located) (fault : Option LexFault) → no_more fault ≡ Ok [] → behind so_far (no_more fault) ≡ Ok so_far
-ends_ok so_far None e = ap Ok (append-nil so_far)
-ends_ok so_far (Some fault) e = absurd cc
+ends_ok so_far fault e = grind (arith, append-nil)
 
 ends_fault : (so_far : List Located) (fault : Option LexFault) (error : ReadStmtsError) → Fails error (no_more fault) → Fails error (behind so_far (no_more fault))
-ends_fault so_far fault errors.Memory e = tt
-ends_fault so_far None (errors.Fault f) e = absurd cc
-ends_fault so_far (Some fault) (errors.Fault f) e = e
+ends_fault so_far fault error e = grind arith
 
 pub at_end : (whole : Result (List Located) DdlFault) (text : List ℕ) (so_far : List Located) (at : ℕ) (c : Collected) → IsLeft whole text so_far at → IsNext text at c None → no_more c.fault ≡ Ok [] → whole ≡ Ok so_far
 at_end whole text so_far at c left next done = (begun whole text so_far at c None left next).2 ∙ ends_ok so_far c.fault done
@@ -77,9 +70,7 @@ abbrev pub parsed : List ℕ → Collected → Result Whole DdlFault
 parsed text c = whole_of text c.end (statement_of (length text) (lexemes text c.pieces) c.fault)
 
 one_more : (so_far : List Located) (s : Option Stmt) (start end : ℕ) (read : Result (List Located) DdlFault) → behind so_far (read >>= λ more. Ok (listed s start end more)) ≡ behind (so_far ++ listed s start end []) read
-one_more so_far None start end (Ok more) = ap Ok (ap (λ (x : List Located). x ++ more) (sym (append-nil so_far)))
-one_more so_far (Some s) start end (Ok more) = ap Ok (sym (append_assoc so_far (listed (Some s) start end []) more))
-one_more so_far s start end (Err e) = refl
+one_more so_far s start end read = grind (arith, append-nil, append_assoc)
 
 pub at_statement : (answer : Result (List Located) DdlFault) (text : List ℕ) (so_far : List Located) (at : ℕ) (c : Collected) (start : ℕ) (s : Option Stmt) (end : ℕ) → IsLeft answer text so_far at → IsNext text at c (Some start) → parsed text c ≡ Ok (whole s end) → at < end → end ≤ length text
     → IsLeft answer text (so_far ++ listed s start end []) end
@@ -116,26 +107,10 @@ at_bad_line answer text so_far at t (errors.Fault fault) left line failed =
 refused : (gap : List ℕ) (kind : TokenKind) (word : List ℕ) (start : ℕ) (ts : List Lexeme) → begins_statement kind word ≡ false
     → statement.read (record { gap = gap; kind = kind; word = word; start = start } ∷ ts) ≡ Err (record { long = false; rest = record { gap = gap; kind = kind; word = word; start = start } ∷ ts })
 unfolding statement command begins_statement is_sign is_word
-refused gap kind word start ts e =
-    let sign = or_parts (is_sign_kind 59 kind) _ e in
-    let a = or_parts (is_keyword_of kind word (codes "create")) _ sign.1 in
-    let b = or_parts (is_keyword_of kind word (codes "alter")) _ a.1 in
-    let c = or_parts (is_keyword_of kind word (codes "select")) _ b.1 in
-    let d = or_parts (is_keyword_of kind word (codes "set")) _ c.1 in
-    let f = or_parts (is_keyword_of kind word (codes "copy")) _ d.1 in
-    let g = or_parts (is_keyword_of kind word (codes "grant")) _ f.1 in
-    let h = or_parts (is_keyword_of kind word (codes "revoke")) _ g.1 in
-    let i = or_parts (is_keyword_of kind word (codes "comment")) _ h.1 in
-    rw (sign.0, a.0, b.0, c.0, d.0, f.0, g.0, h.0, i.0) refl
+refused gap kind word start ts e = grind arith
 
 strayed : (text : List ℕ) (r : Result (Option Token) LexFault) (start : ℕ) → stray_in text r ≡ Some start → (t : Token) × (r ≡ Ok (Some t)) × (begins_statement t.kind (spelling text t) ≡ false) × (t.start ≡ start)
-strayed text (Ok (Some t)) start e = by (begins_statement t.kind (spelling text t)) refl e
-  where
-    by : (b : Bool) → begins_statement t.kind (spelling text t) ≡ b → cond b None (Some t.start) ≡ Some start → (u : Token) × (Ok (Some t) ≡ (let r : Result (Option Token) LexFault = Ok (Some u) in r)) × (begins_statement u.kind (spelling text u) ≡ false) × (u.start ≡ start)
-    by true is e = absurd cc
-    by false is e = (t, refl, is, cc)
-strayed text (Ok None) start e = absurd cc
-strayed text (Err fault) start e = absurd cc
+strayed text r start e = grind arith
 
 -- the tokens that would be collected begin with it
 collected_by_it : (text : List ℕ) (at : ℕ) (t : Token) → next_token_of text at ≡ Ok (Some t) → (more : List Piece) × ((collected text at).pieces ≡ record { from = at; token = t } ∷ more)
@@ -163,7 +138,4 @@ at_stray answer text so_far at start left no_line e =
     at_bad_statement answer text so_far at c start (errors.Fault (Unknown start)) left (record { no_line = no_line; tokens = refl; first = first }) (ap (whole_of text c.end) place)
 
 pub some_pieces : (ps : List Piece) (start : ℕ) → first_start ps ≡ Some start → 0 < length ps
-some_pieces [] start e = absurd cc
-some_pieces (p ∷ ps) start e = omega arith
-
--- ---- the rows of a COPY
+some_pieces ps start e = grind arith

@@ -1,14 +1,12 @@
 -- The items of CREATE TYPE, CREATE DOMAIN and CREATE TABLE are told apart.
-use Rattle.ddl_read.proofs.Common.{◌≡◌, ℕ, Bool, true, false, not, cond, ◌||◌, List, [], ◌∷◌, None, Ok, Err, refl, ap, codes, ◌==◌, is_utf8, chars, encode, or_parts, not-true, is_keyword_of, name_of, Lexeme, is_word, is_sign, Part, seen, choose, nothing, Lawful, Apart, Avoids, Begins, comma, listing, name_in, name_value, is_name, literal, is_literal, default_text, default_and_null, ends_run, is_end_kind, type_goes_on, type_part, Agrees, word_agrees, sign_agrees, name_agrees, literal_agrees, name_shortens, guarded_shortens, refused_shortens, Shortens, one_laws, one_begins, lead_begins, choose_begins, AreApart, listing_apart, a_word, name_laws, name_begins, literal_laws, literal_begins, sign_laws, words_apart, choose_avoids, expression_laws, expression_ends_bracket, default_text_laws, default_and_null_laws, type_laws, TableElement, Column, Check, Opening, BehindColumn, BehindCheck, more_attributes, Attributes, not_null, given, null_first, default_first, attributes, typed, checking, column_name_value, column_name, column_of, column, element, last_element, element_begins, element_at, spot_behind, elements, more_elements, free, stop_no_type, sign_no_word, sign_no_type, word_is_name, begins_more, Headed, lawful_seen, lawful_word, lawful_sign, lawful_ended, lawful_then, lawful_next, headed_word, headed_seen, headed_next, lawful_choose, lawful_either, lawful_maybe, lawful_optional, avoids_headed, avoids_maybe}
+use Rattle.ddl_read.proofs.Common.{grammar, arith, ◌≡◌, ℕ, Bool, true, false, not, cond, ◌||◌, List, [], ◌∷◌, None, Ok, Err, refl, ap, codes, ◌==◌, is_utf8, chars, encode, or_parts, not-true, is_keyword_of, name_of, Lexeme, is_word, is_sign, Part, seen, choose, nothing, Lawful, Apart, Avoids, Begins, comma, listing, name_in, name_value, is_name, literal, is_literal, default_text, default_and_null, ends_run, is_end_kind, type_goes_on, type_part, Agrees, word_agrees, sign_agrees, name_agrees, literal_agrees, name_shortens, guarded_shortens, refused_shortens, Shortens, one_laws, one_begins, lead_begins, choose_begins, AreApart, listing_apart, a_word, name_laws, name_begins, literal_laws, literal_begins, sign_laws, words_apart, choose_avoids, expression_laws, expression_ends_bracket, default_text_laws, default_and_null_laws, type_laws, TableElement, Column, Check, Opening, BehindColumn, BehindCheck, more_attributes, Attributes, not_null, given, null_first, default_first, attributes, typed, checking, column_name_value, column_name, column_of, column, element, last_element, element_begins, element_at, spot_behind, elements, more_elements, free, stop_no_type, sign_no_word, sign_no_type, word_is_name, begins_more, Headed, lawful_seen, lawful_word, lawful_sign, lawful_ended, lawful_then, lawful_next, headed_word, headed_seen, headed_next, lawful_choose, lawful_either, lawful_maybe, lawful_optional, avoids_headed, avoids_maybe}
 use Rattle.ddl_read.specs.{declared.tables.Spot.Spot, Clauses.check_of, Clauses.named_check}
 
 -- ---- checks
 
 pub named_check_is : Headed (is_word (codes "constraint")) named_check
 unfolding named_check
-named_check_is =
-    headed_seen check_of
-    (headed_word (codes "constraint") refl (lawful_next name_laws (lawful_word (codes "check") refl (lawful_sign 40 (lawful_ended 41 expression_laws expression_ends_bracket))) (λ t. refl)))
+named_check_is = search (grammar, expression_laws, expression_ends_bracket) depth 20
 
 pub named_check_free : (t : Lexeme) → named_check.goes_on t ≡ false
 unfolding named_check
@@ -46,15 +44,11 @@ default_or_none = choose (is_word (codes "default")) default_first (nothing more
 
 attributes_laws : Lawful attributes
 unfolding attributes
-attributes_laws =
-    lawful_choose null_first_is (lawful_maybe more_attributes none_given default_first_is no_default)
-    (avoids_maybe (is_word (codes "not")) default_first_is (words_apart (codes "default") (codes "not") refl) more_attributes none_given no_not)
+attributes_laws = search (lawful_choose, null_first_is, lawful_maybe, default_first_is, no_default, avoids_maybe, words_apart, no_not, arith)
 
 attributes_no_type : Avoids type_goes_on attributes
 unfolding attributes
-attributes_no_type =
-    choose_avoids type_goes_on (is_word (codes "not")) null_first default_or_none (avoids_headed type_goes_on null_first_is (stop_no_type (codes "not") refl))
-    (avoids_maybe type_goes_on default_first_is (stop_no_type (codes "default") refl) more_attributes none_given no_type)
+attributes_no_type = grind (arith, choose_avoids, avoids_headed, null_first_is, stop_no_type, avoids_maybe, default_first_is, no_type)
 
 pub typed_laws : Lawful typed
 unfolding typed type_part
@@ -68,27 +62,14 @@ attributes_end t ends no_not no_default no_type = rw (ends, no_not, no_default, 
 pub sign_end : (b : ℕ) → ((t : Lexeme) → is_sign b t ≡ true → ends_run true t ≡ true) → (46 == b) ≡ false → (40 == b) ≡ false → (91 == b) ≡ false → Apart (is_sign b) attributes.goes_on
 sign_end b ends dot round square t e = attributes_end t (ends t e) (sign_no_word b (codes "not") t e) (sign_no_word b (codes "default") t e) (sign_no_type b dot round square t e)
 
-comma_ends : (t : Lexeme) → is_sign 44 t ≡ true → ends_run true t ≡ true
-unfolding ends_run
-comma_ends t e = rw e (by (is_end_kind t.kind))
-  where
-    by : (b : Bool) → (b || true) ≡ true
-    by true = refl
-    by false = refl
-
 comma_no_attributes : Apart comma attributes.goes_on
-comma_no_attributes = sign_end 44 comma_ends refl refl refl
+unfolding attributes null_first default_first default_text default_and_null ends_run
+comma_no_attributes = grind (arith, sign_no_word, sign_no_type)
 
 -- ---- CREATE DOMAIN
 
 pub checks_apart : AreApart (is_word (codes "constraint")) checking
-checks_apart = record {
-  laws = λ s. named_check_is.laws;
-  agrees = λ s. word_agrees (codes "constraint") refl;
-  begins = λ s. named_check_is.begins;
-  apart = λ s v t e. named_check_free t;
-  covers = λ s t e. (e, named_check_free t);
-}
+checks_apart = grind (arith, named_check_is, word_agrees, named_check_free)
 
 -- ---- CREATE TABLE
 
@@ -97,11 +78,7 @@ is_no_constraint t = not (is_word (codes "constraint") t)
 
 pub column_name_is : (t : Lexeme) (v : List ℕ) → column_name_value t ≡ Ok v → (is_word (codes "constraint") t ≡ false) × (name_value t ≡ Ok v)
 unfolding column_name_value
-column_name_is t v e = by (is_word (codes "constraint") t) refl e
-  where
-    by : (b : Bool) → is_word (codes "constraint") t ≡ b → cond b (Err false) (name_value t) ≡ Ok v → (is_word (codes "constraint") t ≡ false) × (name_value t ≡ Ok v)
-    by true is e = absurd cc
-    by false is e = (is, e)
+column_name_is t v e = grind arith
 
 column_name_shortens : Shortens column_name_value
 unfolding column_name_value

@@ -6,8 +6,7 @@ abbrev pub TellsAlike : {A : Type 0} → (List Lexeme → Option A) → Type 0
 TellsAlike value = (t : Lexeme) → IsTooLong t → value (shortened t ∷ []) ≡ value (t ∷ [])
 
 never_long : {A : Type 0} (o : Option A) → told o ≡ Err true → ⊥
-never_long None e = absurd cc
-never_long (Some v) e = absurd cc
+never_long o e = grind arith
 
 pub by_first_laws : {A : Type 0} (value : List Lexeme → Option A) → TellsAlike value → (t : Lexeme) (v : A) → value (t ∷ []) ≡ Some v → Lawful (by_first value)
 by_first_laws value alike t v e =
@@ -18,8 +17,7 @@ first_answered t ts o = grind arith
 
 -- where the value is that of the first token alone
 pub by_first_read : {A : Type 0} (value : List Lexeme → Option A) → value [] ≡ None → ((t : Lexeme) (ts : List Lexeme) → value (t ∷ ts) ≡ value (t ∷ [])) → (ts : List Lexeme) → (by_first value).read ts ≡ answered (value ts) ts
-by_first_read value none alone [] = ap (λ o. answered o []) (sym none)
-by_first_read value none alone (t ∷ ts) = first_answered t ts (value (t ∷ [])) ∙ ap (λ o. answered o (t ∷ ts)) (sym (alone t ts))
+by_first_read value h alone ts = grind arith
 
 -- the token at a place before the end
 pub token_at : (ts : List Lexeme) (at : ℕ) → at < length ts → (t : Lexeme) × (drop at ts ≡ t ∷ drop (at + 1) ts)
@@ -39,5 +37,4 @@ first_named t ts o r = grind arith
 
 pub first_read : (ts : List Lexeme) → first.read ts ≡ seen_at (λ n. (n, wanted_first ts)) (name.read ts)
 unfolding wanted_first right_first
-first_read [] = refl
-first_read (t ∷ ts) = first_named t ts (wanted_first (t ∷ ts)) (name_value t)
+first_read ts = grind arith

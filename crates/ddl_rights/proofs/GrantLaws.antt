@@ -1,12 +1,9 @@
 -- The grammar of GRANT and REVOKE has the laws of a part.
-use Rattle.ddl_rights.proofs.Common.{◌≡◌, ℕ, Bool, true, false, List, [], ◌∷◌, Option, Some, None, Result, Ok, Err, refl, ap, subst, codes, is_utf8, chars, encode, name_of, is_keyword_of, Lexeme, is_word, is_sign, Lawful, name_value, name_in, avoids_never, shortened, word_agrees, sign_agrees, name_shortens, Shortens, one_laws, a_word, name_laws, free, sign_no_word, Headed, lawful_seen, lawful_word, lawful_ended, lawful_next, headed_word, headed_seen, headed_next, one_sign, lawful_either, Wanted, right_first, wanted_first, wanted, grantee_of, grantee, grant_option, to_grantee, from_grantee, grant_rights, revoke_rights, First, named_by, first, behind_first, granted, revoked}
+use Rattle.ddl_rights.proofs.Common.{grammar, arith, ◌≡◌, ℕ, Bool, true, false, List, [], ◌∷◌, Option, Some, None, Result, Ok, Err, refl, ap, subst, codes, is_utf8, chars, encode, name_of, is_keyword_of, Lexeme, is_word, is_sign, Lawful, name_value, name_in, avoids_never, shortened, word_agrees, sign_agrees, name_shortens, Shortens, one_laws, a_word, name_laws, free, sign_no_word, Headed, lawful_seen, lawful_word, lawful_ended, lawful_next, headed_word, headed_seen, headed_next, one_sign, lawful_either, Wanted, right_first, wanted_first, wanted, grantee_of, grantee, grant_option, to_grantee, from_grantee, grant_rights, revoke_rights, First, named_by, first, behind_first, granted, revoked}
 use Rattle.ddl_rights.proofs.{Depends.thenby_laws, RightsLaws.CanBeOn, RightsLaws.wanted_can, RightsLaws.rights_and_object_laws, RightsLaws.rights_and_object_ends, RightsLaws.goes_to_object, RightsLaws.rights_and_object_begins, RightsLaws.to_no_object, RightsLaws.wanted_laws, RightsLaws.wanted_spelled, MembershipLaws.membership_is, MembershipLaws.membership_ends}
 use Rattle.cat_model.specs.declared.stmt.Stmt.TheVariants as stmt
 
 -- ---- rights
-
-grantee_laws : Lawful grantee
-grantee_laws = lawful_seen grantee_of name_laws
 
 grant_option_laws : Lawful grant_option
 unfolding grant_option
@@ -16,25 +13,19 @@ grant_option_laws =
 
 to_grantee_laws : Lawful to_grantee
 unfolding to_grantee
-to_grantee_laws = lawful_word (codes "to") refl (lawful_next grantee_laws grant_option_laws (λ t. refl))
-
-from_grantee_laws : Lawful from_grantee
-unfolding from_grantee
-from_grantee_laws = lawful_word (codes "from") refl (lawful_ended 59 grantee_laws (free (is_sign 59)))
+to_grantee_laws = lawful_word (codes "to") refl (lawful_next (lawful_seen grantee_of name_laws) grant_option_laws (λ t. refl))
 
 grant_rights_are : (w : Wanted) → CanBeOn w → Headed goes_to_object (grant_rights w)
 unfolding grant_rights
-grant_rights_are w can =
-    headed_seen (λ x. stmt.Grant x.0.0 x.0.1 x.1.0 x.1.1)
-    (headed_next (record { laws = rights_and_object_laws w can; begins = rights_and_object_begins w; agrees = λ t long. rw (sign_agrees 44 t long, word_agrees (codes "on") refl t long) refl }) to_grantee_laws (rights_and_object_ends w))
+grant_rights_are w can = search (headed_seen, headed_next, rights_and_object_laws, rights_and_object_begins, sign_agrees, word_agrees, to_grantee_laws, rights_and_object_ends, arith)
 
 grant_rights_ends : (w : Wanted) (t : Lexeme) → (grant_rights w).goes_on t ≡ false
 unfolding grant_rights to_grantee grant_option
 grant_rights_ends w t = refl
 
 revoke_rights_laws : (w : Wanted) → CanBeOn w → Lawful (revoke_rights w)
-unfolding revoke_rights
-revoke_rights_laws w can = lawful_seen (λ x. stmt.Revoke x.0.0 x.0.1 x.1) (lawful_next (rights_and_object_laws w can) from_grantee_laws (rights_and_object_ends w))
+unfolding revoke_rights from_grantee
+revoke_rights_laws w can = search (grammar, rights_and_object_laws, rights_and_object_ends) depth 20
 
 revoke_rights_ends : (w : Wanted) (t : Lexeme) → (revoke_rights w).goes_on t ≡ false
 unfolding revoke_rights from_grantee
@@ -47,8 +38,7 @@ CanFollow None = Unit {0}
 CanFollow (Some w) = CanBeOn w
 
 named_long : (o : Option Wanted) (r : Result (List ℕ) Bool) (b : Bool) → named_by o r ≡ Err b → r ≡ Err b
-named_long o (Ok n) b e = absurd cc
-named_long o (Err long) b e = cc
+named_long o r b e = grind arith
 
 first_shortens : Shortens (λ t. named_by (wanted_first (t ∷ [])) (name_value t))
 first_shortens = record {
@@ -63,42 +53,21 @@ unfolding name_value name_in name_of is_utf8 chars encode wanted_first right_fir
 first_laws = one_laws (λ t. named_by (wanted_first (t ∷ [])) (name_value t)) first_shortens (a_word (codes "a")) (codes "a", None) refl
 
 first_spelled : (x : First) (ts : List Lexeme) → first.Spells x ts → CanFollow x.1
-first_spelled x ts spells = by (wanted_first (spells.0 ∷ [])) refl (named (wanted_first (spells.0 ∷ [])) (name_value spells.0) spells.2)
-  where
-    named : (o : Option Wanted) (r : Result (List ℕ) Bool) → named_by o r ≡ Ok x → o ≡ x.1
-    named o (Ok n) e = let same : (n, o) ≡ x = cc in ap (λ (y : First). y.1) same
-    named o (Err long) e = absurd cc
-
-    by : (o : Option Wanted) → wanted_first (spells.0 ∷ []) ≡ o → o ≡ x.1 → CanFollow x.1
-    by None is e = subst CanFollow e tt
-    by (Some w) is e = subst CanFollow e (wanted_can (spells.0 ∷ []) w is)
+first_spelled x ts spells = grind (arith, wanted_can)
 
 behind_laws : (n : List ℕ) (o : Option Wanted) → CanFollow o → Lawful (behind_first n o)
 behind_laws n None can = (membership_is n).laws
 behind_laws n (Some w) can = lawful_either (membership_is n) (grant_rights_are w can) to_no_object
 
 behind_ends : (n : List ℕ) (o : Option Wanted) (t : Lexeme) → (behind_first n o).goes_on t ≡ false
-behind_ends n None t = membership_ends n t
-behind_ends n (Some w) t = rw (membership_ends n t, grant_rights_ends w t) refl
+behind_ends n o t = grind (arith, membership_ends, grant_rights_ends)
 
 pub granted_laws : Lawful granted
 unfolding granted
-granted_laws =
-    thenby_laws first (λ x. behind_first x.0 x.1) first_laws
-    (record {
-      laws = λ x ts spells. behind_laws x.0 x.1 (first_spelled x ts spells);
-      ends = λ x t. behind_ends x.0 x.1 t;
-      avoids = λ x ts spells. avoids_never (behind_first x.0 x.1);
-    })
+granted_laws = search (thenby_laws, first_laws, behind_laws, first_spelled, behind_ends, avoids_never, arith)
 
 -- ---- REVOKE
 
 pub revoked_laws : Lawful revoked
 unfolding revoked
-revoked_laws =
-    thenby_laws wanted revoke_rights wanted_laws
-    (record {
-      laws = λ w ts spells. revoke_rights_laws w (wanted_spelled w ts spells);
-      ends = revoke_rights_ends;
-      avoids = λ w ts spells. avoids_never (revoke_rights w);
-    })
+revoked_laws = search (thenby_laws, wanted_laws, revoke_rights_laws, wanted_spelled, revoke_rights_ends, avoids_never, arith)

@@ -1,5 +1,5 @@
 -- The grammar of GRANT of a role has the laws of a part.
-use Rattle.ddl_rights.proofs.Common.{◌≡◌, ℕ, true, false, List, [], ◌∷◌, Some, None, refl, codes, Option, is_keyword_of, Lexeme, is_word, is_sign, Part, mark, seen, ◌then◌, ◌▸◌, ◌◂◌, Lawful, Avoids, name, comma, IsTooLong, shortened, seen_avoids, a_word, name_laws, word_no_sign, words_apart, one_of_avoids, free, sign_no_word, signs_apart, Headed, lawful_seen, lawful_word, lawful_ended, lawful_then, lawful_next, headed_word, headed_sign, headed_seen, one_sign, lawful_choose, lawful_either, lawful_unless, avoids_either, truth_first, truth, set_behind, inherit_and_set, others_behind, options, with_options, granted_by, member, member_of, membership, word_like}
+use Rattle.ddl_rights.proofs.Common.{arith, ◌≡◌, ℕ, true, false, List, [], ◌∷◌, Some, None, refl, codes, Option, is_keyword_of, Lexeme, is_word, is_sign, Part, mark, seen, ◌then◌, ◌▸◌, ◌◂◌, Lawful, Avoids, name, comma, IsTooLong, shortened, seen_avoids, a_word, name_laws, word_no_sign, words_apart, one_of_avoids, free, sign_no_word, signs_apart, Headed, lawful_seen, lawful_word, lawful_ended, lawful_then, lawful_next, headed_word, headed_sign, headed_seen, one_sign, lawful_choose, lawful_either, lawful_unless, avoids_either, truth_first, truth, set_behind, inherit_and_set, others_behind, options, with_options, granted_by, member, member_of, membership, word_like}
 use Rattle.ddl_rights.proofs.Firsts.{by_first_laws}
 
 truth_same : (t : Lexeme) → IsTooLong t → truth_first (shortened t ∷ []) ≡ truth_first (t ∷ [])
@@ -22,9 +22,7 @@ inherit_and_set_laws =
 
 inherit_and_set_avoids : Avoids (is_word (codes "admin")) inherit_and_set
 unfolding inherit_and_set
-inherit_and_set_avoids =
-    one_of_avoids (codes "admin") (record { key = codes "inherit"; part = seen (λ x. (Some x.0, x.1)) (truth then set_behind) })
-    (record { key = codes "set"; part = seen (λ b. (None, b)) truth } ∷ []) refl
+inherit_and_set_avoids = search (one_of_avoids, arith)
 
 others_behind_laws : Lawful others_behind
 unfolding others_behind
@@ -32,9 +30,7 @@ others_behind_laws = lawful_unless (None, true) (headed_sign 44 inherit_and_set_
 
 options_laws : Lawful options
 unfolding options
-options_laws =
-    lawful_choose (headed_word (codes "admin") refl (lawful_next truth_laws others_behind_laws (λ t. refl))) (lawful_seen (λ x. (false, x)) inherit_and_set_laws)
-    (seen_avoids (is_word (codes "admin")) (λ x. (false, x)) inherit_and_set inherit_and_set_avoids)
+options_laws = search (lawful_choose, headed_word, lawful_next, truth_laws, others_behind_laws, lawful_seen, inherit_and_set_laws, seen_avoids, inherit_and_set_avoids, arith)
 
 with_options_laws : Lawful with_options
 unfolding with_options

@@ -20,8 +20,7 @@ right_word Create = codes "create"
 
 right_is : (x : Right) → right_first (a_word (right_word x) ∷ []) ≡ Some x
 unfolding right_first is_word is_keyword_of
-right_is Select = refl
-right_is x = refl
+right_is x = grind arith
 
 abbrev pub kind_word : Kind → List ℕ
 kind_word Tables = codes "table"
@@ -31,8 +30,7 @@ kind_word Types = codes "type"
 
 kind_is : (k : Kind) → kind_first (a_word (kind_word k) ∷ []) ≡ Some k
 unfolding kind_first is_word is_keyword_of
-kind_is Tables = refl
-kind_is x = refl
+kind_is k = grind arith
 
 -- words are told alike
 pub right_same : (t : Lexeme) → IsTooLong t → right_first (shortened t ∷ []) ≡ right_first (t ∷ [])
@@ -56,21 +54,12 @@ CanBeOn (These r) = some_kind_has r ≡ true
 
 pub one_has : (x : Right) → some_kind_has (only x) ≡ true
 unfolding some_kind_has
-one_has Select = refl
-one_has x = refl
+one_has x = grind arith
 
 -- what holds of ALL and of one right alone holds of what begins a list
 pub wanted_is : (P : Wanted → Type 0) → P All → ((x : Right) → P (These (only x))) → (ts : List Lexeme) (w : Wanted) → wanted_first ts ≡ Some w → P w
 unfolding wanted_first
-wanted_is P all one ts w e = by (starts (is_word (codes "all")) ts) e
-  where
-    listed : (o : Option Right) → option_map (λ x. These (only x)) o ≡ Some w → P w
-    listed None f = absurd cc
-    listed (Some x) f = let same : These (only x) ≡ w = cc in subst P same (one x)
-
-    by : (b : Bool) → cond b (Some All) (option_map (λ x. These (only x)) (right_first ts)) ≡ Some w → P w
-    by true f = let same : All ≡ w = cc in subst P same all
-    by false f = listed (right_first ts) f
+wanted_is P all one ts w e = grind arith
 
 pub wanted_can : (ts : List Lexeme) (w : Wanted) → wanted_first ts ≡ Some w → CanBeOn w
 wanted_can = wanted_is CanBeOn tt one_has
@@ -80,19 +69,10 @@ there x r e = grind arith
 
 pub still_has : (r : Rights) (x : Right) → goes_with r x ≡ true → some_kind_has r ≡ true → some_kind_has (with_right x r) ≡ true
 unfolding goes_with
-still_has r x e can = by (has x r) refl e
-  where
-    by : (b : Bool) → has x r ≡ b → (b || some_kind_has (with_right x r)) ≡ true → some_kind_has (with_right x r) ≡ true
-    by true is f = ap some_kind_has (there x r is) ∙ can
-    by false is f = f
+still_has r x e can = grind arith
 
 pub joined : (r : Rights) (x : Right) (o : Option Right) → told (joining r o) ≡ Ok x → goes_with r x ≡ true
-joined r x None e = absurd cc
-joined r x (Some y) e = by (goes_with r y) refl e
-  where
-    by : (b : Bool) → goes_with r y ≡ b → told (cond b (Some y) None) ≡ Ok x → goes_with r x ≡ true
-    by true is f = let same : y ≡ x = cc in subst (λ (z : Right). goes_with r z ≡ true) same is
-    by false is f = absurd cc
+joined r x o e = grind arith
 
 all_have : (first r : Rights) (xs : List Right) (ts : List Lexeme) → Many (more_rights first) r xs ts → some_kind_has r ≡ true → some_kind_has (all_of r xs) ≡ true
 all_have first r _ _ (no_more _) can = can
@@ -113,8 +93,7 @@ implied : (b : Bool) → (not b || true) ≡ true
 implied b = grind arith
 
 table_has : (r : Rights) → r.usage ≡ false → r.create ≡ false → within r table_rights ≡ true
-table_has r e f =
-    rw (implied r.select, e, implied r.insert, implied r.references, implied r.delete, implied r.trigger, implied r.truncate, implied r.update, f) refl
+table_has r e f = grind arith
 
 -- some right may stand behind others
 goes_on : (r : Rights) → (x : Right) × (goes_with r x ≡ true)
@@ -134,13 +113,7 @@ right_behind_laws r =
     by_first_laws (λ ts. joining r (right_first ts)) (λ t long. ap (joining r) (right_same t long)) (a_word (right_word h.0)) h.0 (ap (joining r) (right_is h.0) ∙ ap (λ (b : Bool). cond b (Some h.0) None) h.1)
 
 pub rights_apart : (r : Rights) → AreApart comma (more_rights r)
-rights_apart r = record {
-  laws = λ s. sign_laws 44 (right_behind s) (right_behind_laws s);
-  agrees = λ s. sign_agrees 44;
-  begins = λ s. lead_begins comma (right_behind s);
-  apart = λ s x t e. refl;
-  covers = λ s t e. (e, refl);
-}
+rights_apart r = search (sign_laws, right_behind_laws, sign_agrees, lead_begins, arith)
 
 pub rights_from_laws : (r : Rights) → Lawful (rights_from r)
 unfolding rights_from
@@ -157,8 +130,7 @@ kind_found r e =
     ]
 
 kind_for : (w : Wanted) → CanBeOn w → (k : Kind) × (kind_has w k ≡ true)
-kind_for All can = (Tables, refl)
-kind_for (These r) can = kind_found r can
+kind_for w can = grind (arith, kind_found)
 
 pub kind_with_laws : (w : Wanted) → CanBeOn w → Lawful (kind_with w)
 kind_with_laws w can =
@@ -180,14 +152,7 @@ object_on w k = seen (λ o. (o, rights_on w k)) (object k)
 
 pub on_object_laws : (w : Wanted) → CanBeOn w → Lawful (on_object w)
 unfolding on_object
-on_object_laws w can =
-    word_laws (codes "on") refl (kind_with w thenby object_on w)
-    (thenby_laws (kind_with w) (object_on w) (kind_with_laws w can)
-    (record {
-      laws = λ k ts spells. seen_laws (λ o. (o, rights_on w k)) (object k) (object_laws k);
-      ends = object_ends;
-      avoids = λ k ts spells. avoids_never (object_on w k);
-    }))
+on_object_laws w can = search (word_laws, thenby_laws, kind_with_laws, seen_laws, object_laws, object_ends, avoids_never, arith)
 
 pub on_object_begins : (w : Wanted) → Begins (is_word (codes "on")) (on_object w)
 unfolding on_object
@@ -226,15 +191,11 @@ on_first : (ts : List Lexeme) → starts (is_word (codes "on")) ts ≡ true → 
 on_first ts e = starts_more (is_word (codes "on")) goes_to_object (λ t f. or_right (comma t) (is_word (codes "on") t) f) ts e
 
 list_first : (first r : Rights) (xs : List Right) (a b : List Lexeme) → Many (more_rights first) r xs a → starts (is_word (codes "on")) b ≡ true → starts goes_to_object (a ++ b) ≡ true
-list_first first r _ _ b (no_more _) e = on_first b e
-list_first first r _ _ b (one_more _ x xs a more spells others) e =
-    comma_first ((a ++ more) ++ b) (starts-append comma (a ++ more) b (starts-append comma a more (lead_begins comma (right_behind r) x a spells)))
+list_first first r xs a b h e = grind arith
 
 pub rights_and_object_begins : (w : Wanted) → Begins goes_to_object (rights_and_object w)
 unfolding rights_and_object rights_from
-rights_and_object_begins All x ts spells = on_first ts (on_object_begins All x ts spells)
-rights_and_object_begins (These r) x ts spells =
-    ap (starts goes_to_object) spells.3 ∙ list_first r r spells.4.0 spells.1 spells.2 spells.4.2 (on_object_begins (These spells.0) x spells.2 spells.5)
+rights_and_object_begins w = grind (arith, on_first, on_object_begins, starts, list_first)
 
 pub to_no_object : Apart goes_to_object (is_word (codes "to"))
 to_no_object t e = both (comma t) (is_word (codes "on") t) (is_word (codes "to") t) (sign_no_word 44 (codes "to") t) (words_apart (codes "on") (codes "to") refl t) e
@@ -249,8 +210,4 @@ unfolding wanted_first is_word is_keyword_of
 wanted_laws = by_first_laws wanted_first wanted_same (a_word (codes "all")) All refl
 
 pub wanted_spelled : (w : Wanted) (ts : List Lexeme) → wanted.Spells w ts → CanBeOn w
-wanted_spelled w ts spells = by (wanted_first (spells.0 ∷ [])) refl spells.2
-  where
-    by : (o : Option Wanted) → wanted_first (spells.0 ∷ []) ≡ o → told o ≡ Ok w → CanBeOn w
-    by None is f = absurd cc
-    by (Some u) is f = let same : u ≡ w = cc in wanted_can (spells.0 ∷ []) w (is ∙ ap Some same)
+wanted_spelled w ts spells = grind (arith, told, wanted_can)
