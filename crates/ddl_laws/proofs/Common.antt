@@ -1,5 +1,5 @@
 -- What the proofs of this crate start from.
-pub use Rattle.ddl_parts.proofs.Lemmas.{Agrees, AllByRecursion, Apart, Avoids, Begins, Bool, CanEnd, CheckDef, Collected, ColumnDef, Decides-int_eq, Encoding, Err, Fits, Granted, Headed, IsMetaLine, IsName, IsText, IsTooLong, IsUtf8, IsUtf8-append, IsUtf8-from_is_utf8, Lawful, LexFault, Lexeme, Like, List, Literal, Many, MetaLine, None, Number, Ok, Option, Part, QName, Reading, Result, Rights, Runs, Shortens, Shorter, Some, Stmt, Stop, Stopped, Tells, Token, TokenKind, Utf8, Word, [], a_sign, a_word, and_from, and_parts, ap, append-nil, append_assoc, arith, before_end_mark, cases_Bool, choose, choose_at, codes, collected_by, comma, cond, default_text_laws, drop_all, end_mark, expression_ends, expression_ends_bracket, expression_laws, false, flat_map, free, gives, guarded_shortens, has_rights, headed_next, headed_seen, headed_sign, headed_word, if_last, inl, inr, is_end_kind, is_name_kind, is_sign_kind, is_some, is_utf8-from_IsUtf8, item_of, lawful, lawful_choose, lawful_either, lawful_ended, lawful_next, lawful_seen, lawful_sign, lawful_then, lawful_unless, lawful_word, lawful_worded, left_of, length, length-append, lexeme_of, lexemes, lies_behind, lines_nil, list_all, list_all-append, listed_laws, listing, literal, literal_agrees, literal_begins, literal_laws, long_of, machine_laws, many, many_laws, map, mark_begins, name, name_agrees, name_begins, name_laws, name_shortens, named_by, negsuc, nested, never, next_at_end, no_more, no_rights, not, not-false, not-true, nothing, nothing_more, one_begins, one_laws, one_of_avoids, one_of_avoids_others, one_of_laws, one_sign, one_word, option_and_then, optional, or_right, passes, passes_like, passes_true, path_of, pos, preceded, qualified, qualified_begins, qualified_laws, refl, refused_shortens, run, run_ends, run_none, runs_of, seen, seen_avoids, short_word, shortened, sign_agrees, sign_is, sign_no_literal, sign_no_name, sign_no_word, signed_decimal, signs_apart, slice_index, source, spelled, spelling_is_read, start_of, starts, starts-append, starts_again, starts_kept, stop, stop_no_type, str_to_ascii_lowercase, subst, suc, sym, token_at, token_sound, told, true, value_of, whole_path, word_agrees, word_no_sign, word_no_text, words_apart, zero, ℕ, ℤ, ◌&&◌, ◌++◌, ◌+◌, ◌-◌, ◌<◌, ◌==◌, ◌^◌, ◌also◌, ◌then◌, ◌||◌, ◌∙◌, ◌∷◌, ◌≡◌, ◌≤◌, ◌⊎◌, ◌▸◌, ◌◂◌, word_like, sign_like}
+pub use Rattle.ddl_parts.proofs.Lemmas.{grammar, Agrees, AllByRecursion, Apart, Avoids, Begins, Bool, CanEnd, CheckDef, Collected, ColumnDef, Decides-int_eq, Encoding, Err, Fits, Granted, Headed, IsMetaLine, IsName, IsText, IsTooLong, IsUtf8, IsUtf8-append, IsUtf8-from_is_utf8, Lawful, LexFault, Lexeme, Like, List, Literal, Many, MetaLine, None, Number, Ok, Option, Part, QName, Reading, Result, Rights, Runs, Shortens, Shorter, Some, Stmt, Stop, Stopped, Tells, Token, TokenKind, Utf8, Word, [], a_sign, a_word, and_from, and_parts, ap, append-nil, append_assoc, arith, before_end_mark, cases_Bool, choose, choose_at, codes, collected_by, comma, cond, default_text_laws, drop_all, end_mark, expression_ends, expression_ends_bracket, expression_laws, false, flat_map, free, gives, guarded_shortens, has_rights, headed_next, headed_seen, headed_sign, headed_word, if_last, inl, inr, is_end_kind, is_name_kind, is_sign_kind, is_some, is_utf8-from_IsUtf8, item_of, lawful, lawful_choose, lawful_either, lawful_ended, lawful_next, lawful_seen, lawful_sign, lawful_then, lawful_unless, lawful_word, lawful_worded, left_of, length, length-append, lexeme_of, lexemes, lies_behind, lines_nil, list_all, list_all-append, listed_laws, listing, literal, literal_agrees, literal_begins, literal_laws, long_of, machine_laws, many, many_laws, map, mark_begins, name, name_agrees, name_begins, name_laws, name_shortens, named_by, negsuc, nested, never, next_at_end, no_more, no_rights, not, not-false, not-true, nothing, nothing_more, one_begins, one_laws, one_of_avoids, one_of_avoids_others, one_of_laws, one_sign, one_word, option_and_then, optional, or_right, passes, passes_like, passes_true, path_of, pos, preceded, qualified, qualified_begins, qualified_laws, refl, refused_shortens, run, run_ends, run_none, runs_of, seen, seen_avoids, short_word, shortened, sign_agrees, sign_is, sign_no_literal, sign_no_name, sign_no_word, signed_decimal, signs_apart, slice_index, source, spelled, spelling_is_read, start_of, starts, starts-append, starts_again, starts_kept, stop, stop_no_type, str_to_ascii_lowercase, subst, suc, sym, token_at, token_sound, told, true, value_of, whole_path, word_agrees, word_no_sign, word_no_text, words_apart, zero, ℕ, ℤ, ◌&&◌, ◌++◌, ◌+◌, ◌-◌, ◌<◌, ◌==◌, ◌^◌, ◌also◌, ◌then◌, ◌||◌, ◌∙◌, ◌∷◌, ◌≡◌, ◌≤◌, ◌⊎◌, ◌▸◌, ◌◂◌, word_like, sign_like}
 unfoldable pub use Rattle.ddl_parts.proofs.Lemmas.{begins_line, begins_word, begun, chars, closed, collected, collected_within, comment_end, default_and_null, default_text, doubled, encode, ends_run, escape_end, expression, fraction_end, goes_on, in_line, in_utf8, in_word, inside, is_bare, is_blank, is_digit, is_keyword_of, is_literal, is_name, is_number, is_reserved, is_sign, is_sound, is_type_word, is_utf8, is_word, lines, literal_of, literal_value, many_at, marks_escapes, name_in, name_of, name_value, nest_done, nest_step, next_is, next_token_of, next_within, number_end, path_in, path_value, piece_at, quote_end, quoted, run_end, scan, spelling, text_in, type_done, type_long, type_of, type_part, type_step, undoubled, without_not_null, written_kind, written_literal, written_name}
 pub use Rattle.ddl_write.specs.{Keys.rest_text, Paths.joined, Paths.only_if, RightsText.granted_name, RightsText.granted_words, RightsText.grantee_text, RightsText.is_all, RightsText.remark_text, Roles.flag_text, Roles.given_literal, Roles.limit_text, Sequences.max_text, Sequences.min_text, Sequences.type_words, Tables.given_default, Tables.table_lines}
 unfoldable pub use Rattle.ddl_write.specs.{Keys.added_check_text, Keys.foreign_text, Keys.index_text, Keys.key_text, Paths.path, RightsText.comment_text, RightsText.grant_text, RightsText.revoke_text, RightsText.right_list, RightsText.rights_text, RightsText.with_commas, Roles.changes_text, Roles.connect_text, Roles.database_text, Roles.member_text, Roles.role_text, Sequences.bound, Sequences.owned_by_text, Sequences.sequence_text, Sequences.usual_max, Sequences.usual_min, Sequences.value_text, Spelling.domain_check_text, Spelling.owned_object, Spelling.owner_text, Spelling.schema_text, Spelling.set_text, Spelling.setting_text, Tables.check_text, Tables.column_text, Tables.domain_text, Tables.enum_text, Tables.table_text, Views.space_before, Views.view_text}

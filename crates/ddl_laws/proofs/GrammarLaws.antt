@@ -1,6 +1,6 @@
 -- The grammar of statements has the laws of a part: what is read is spelled so, what is spelled so is read, and where
 -- reading stops nothing goes on.
-use Rattle.ddl_laws.proofs.Common.{◌≡◌, Bool, true, false, ◌||◌, List, [], ◌∷◌, Some, None, refl, ap, codes, ℕ, ◌+◌, ◌^◌, pos, arith, ◌++◌, append-nil, append_assoc, Ok, Err, sym, ◌∙◌, inl, inr, not, Result, Option, subst, not-true, not-false, is_utf8, chars, encode, ◌==◌, is_some, is_keyword_of, name_of, literal_of, Lexeme, is_word, is_sign, source, starts, Runs, run, runs_of, seen, Part, Reading, Stop, stop, choose_at, ◌then◌, Many, no_more, many, passes, ◌◂◌, Like, Lawful, Begins, Apart, Avoids, comma, name_in, name_value, is_name, qualified, literal, is_literal, text_in, literal_value, many_laws, CanEnd, Shorter, run_none, machine_laws, a_word, a_sign, name_laws, qualified_laws, sign_is, words_apart, qualified_begins, literal_laws, literal_begins, word_no_sign, sign_no_word, signs_apart, free, stop_no_type, sign_no_name, sign_no_literal, Headed, lawful_seen, lawful_ended, lawful_next, headed_sign, headed_seen, lawful_unless, lawful_word, lawful_sign, headed_word, lawful_either, headed_next, lawful_choose, lawful_then, one_word, lawful_worded, one_sign, ◌also◌, sign_kind, RestSpot, Begin, Deferrable, Initially, FirstOn, Update, UpdateNo, UpdateSet, SecondOn, Delete, DeleteNo, DeleteSet, Opened, Named, more_names, names_of, columns, either, if_name, is_long_by, rest_step, rest_long, rest_done, rest_goes_on, resting, key_rest, begins_foreign, foreign_rest, TokenKind, Number, Literal, digits_below, whole_number, First, Step, Both, Lower, Upper, ClauseSpot, Between, BehindAs, BehindStart, BehindIncrement, BehindNo, Due, BehindMinus, Clauses, with_number, reached, clause_first, kind_first, usual_first, step_first, begins_clause, first_reached, clausing, clauses_of, sequence_clauses, sequence_of, create_sequence, expression, nested, nest_step, nest_done, ends_run, default_text, is_end_kind, Inside, IsTooLong, shortened, short_word, if_last, whole_path, path_in, path_of, path_value, word_agrees, sign_agrees, name_agrees, literal_agrees, name_shortens, guarded_shortens, refused_shortens, word_no_text, Agrees, passes_like, starts-append, starts_kept, starts_again, Tells, Fits, left_of, long_of, told, lawful, named_by, expression_laws, expression_ends, expression_ends_bracket, default_text_laws, run_ends, one_of_laws, one_of_avoids, one_of_avoids_others, new_owner, owned_by, its_role, its_column, sequence_changed, sequence_change, altered_sequence, view_and_body, create_view, replace_view, begun_by, bracketed, index_made, index_body, index_parts, index_of, unique_index_of, create_index, create_unique_index, view_branch, more_relations, Shortens, one_laws, one_begins, seen_avoids, mark_begins, Check, Owner, check_body, primary_of, primary_body, unique_of, unique_body, foreign_of, foreign_body, constraint_body, added_of, added, default_of, new_default, own_change, table_change, table_changed, only_value, only_name, other_value, other_name, other_path, in_schema, key_word, behind_only, only_changed, altered_table, listed_laws, CheckDef, create_enum, enum_of, attributes, typed, checking, domain_of, create_domain, more_elements, elements, parted, table_elements, table_of, create_table, named_check_is, checks_apart, typed_laws, attributes_end, sign_end, column_ends, elements_apart, named_check_free, LexFault, QName, lexemes, collected, whole_number_laws, zero_below, no_count_first, literal_path, truth, value_of_sequence, set_value, some_columns, copy_from, create_role, alter_role, create_database, create_schema, created, new_check, its_owner, one_more_check, domain_changed, domain_change, altered_domain, name_and_owner, path_and_owner, owned_name, owned_path, altered, set_config, catalog_calls, selected, equals_or_to, setting, more_commands, command, statement, word_like, sign_like}
+use Rattle.ddl_laws.proofs.Common.{grammar, ◌≡◌, Bool, true, false, ◌||◌, List, [], ◌∷◌, Some, None, refl, ap, codes, ℕ, ◌+◌, ◌^◌, pos, arith, ◌++◌, append-nil, append_assoc, Ok, Err, sym, ◌∙◌, inl, inr, not, Result, Option, subst, not-true, not-false, is_utf8, chars, encode, ◌==◌, is_some, is_keyword_of, name_of, literal_of, Lexeme, is_word, is_sign, source, starts, Runs, run, runs_of, seen, Part, Reading, Stop, stop, choose_at, ◌then◌, Many, no_more, many, passes, ◌◂◌, Like, Lawful, Begins, Apart, Avoids, comma, name_in, name_value, is_name, qualified, literal, is_literal, text_in, literal_value, many_laws, CanEnd, Shorter, run_none, machine_laws, a_word, a_sign, name_laws, qualified_laws, sign_is, words_apart, qualified_begins, literal_laws, literal_begins, word_no_sign, sign_no_word, signs_apart, free, stop_no_type, sign_no_name, sign_no_literal, Headed, lawful_seen, lawful_ended, lawful_next, headed_sign, headed_seen, lawful_unless, lawful_word, lawful_sign, headed_word, lawful_either, headed_next, lawful_choose, lawful_then, one_word, lawful_worded, one_sign, ◌also◌, sign_kind, RestSpot, Begin, Deferrable, Initially, FirstOn, Update, UpdateNo, UpdateSet, SecondOn, Delete, DeleteNo, DeleteSet, Opened, Named, more_names, names_of, columns, either, if_name, is_long_by, rest_step, rest_long, rest_done, rest_goes_on, resting, key_rest, begins_foreign, foreign_rest, TokenKind, Number, Literal, digits_below, whole_number, First, Step, Both, Lower, Upper, ClauseSpot, Between, BehindAs, BehindStart, BehindIncrement, BehindNo, Due, BehindMinus, Clauses, with_number, reached, clause_first, kind_first, usual_first, step_first, begins_clause, first_reached, clausing, clauses_of, sequence_clauses, sequence_of, create_sequence, expression, nested, nest_step, nest_done, ends_run, default_text, is_end_kind, Inside, IsTooLong, shortened, short_word, if_last, whole_path, path_in, path_of, path_value, word_agrees, sign_agrees, name_agrees, literal_agrees, name_shortens, guarded_shortens, refused_shortens, word_no_text, Agrees, passes_like, starts-append, starts_kept, starts_again, Tells, Fits, left_of, long_of, told, lawful, named_by, expression_laws, expression_ends, expression_ends_bracket, default_text_laws, run_ends, one_of_laws, one_of_avoids, one_of_avoids_others, new_owner, owned_by, its_role, its_column, sequence_changed, sequence_change, altered_sequence, view_and_body, create_view, replace_view, begun_by, bracketed, index_made, index_body, index_parts, index_of, unique_index_of, create_index, create_unique_index, view_branch, more_relations, Shortens, one_laws, one_begins, seen_avoids, mark_begins, Check, Owner, check_body, primary_of, primary_body, unique_of, unique_body, foreign_of, foreign_body, constraint_body, added_of, added, default_of, new_default, own_change, table_change, table_changed, only_value, only_name, other_value, other_name, other_path, in_schema, key_word, behind_only, only_changed, altered_table, listed_laws, CheckDef, create_enum, enum_of, attributes, typed, checking, domain_of, create_domain, more_elements, elements, parted, table_elements, table_of, create_table, named_check_is, checks_apart, typed_laws, attributes_end, sign_end, column_ends, elements_apart, named_check_free, LexFault, QName, lexemes, collected, whole_number_laws, zero_below, no_count_first, literal_path, truth, value_of_sequence, set_value, some_columns, copy_from, create_role, alter_role, create_database, create_schema, created, new_check, its_owner, one_more_check, domain_changed, domain_change, altered_domain, name_and_owner, path_and_owner, owned_name, owned_path, altered, set_config, catalog_calls, selected, equals_or_to, setting, more_commands, command, statement, word_like, sign_like}
 use Rattle.ddl_parts.proofs.Lemmas.{listed}
 use Rattle.ddl_parts.specs.Parts.{one_more}
 use Rattle.ddl_admin.proofs.{CommentLaws.comment_on_laws, RoleLaws.create_role_laws, RoleLaws.alter_role_laws, DatabaseLaws.create_database_laws}
@@ -76,22 +76,16 @@ rest_shorter m s t none = record { undone = λ l. absurd cc; takes = λ l. absur
 resting_ends : (s : RestSpot) → CanEnd (resting s)
 resting_ends s = record { finish = rest_finish; last = λ x. (rest_ended s x).0; finished = λ x. (rest_ended s x).1; done = λ x. (rest_ended s x).2; covers = rest_covers; shorter = rest_shorter s }
 
-start_goes : (s x : RestSpot) (us : List Lexeme) (last : RestSpot) (b : Bool) → run (resting s) (only_if b x) us ≡ Some last → b ≡ true
-start_goes s x us last b e = grind (arith, run_none)
-
-one_goes : (s x y : RestSpot) (us : List Lexeme) (last : RestSpot) (b c : Bool) → run (resting s) (either b x c y) us ≡ Some last → (b || c) ≡ true
-one_goes s x y us last b c e = grind (arith, start_goes)
-
 begins_by : (s : RestSpot) (test : Lexeme → Bool) → rest_done s ≡ false → ((t : Lexeme) (us : List Lexeme) (last : RestSpot) → run (resting s) (Some s) (t ∷ us) ≡ Some last → test t ≡ true) → Begins test (runs_of (resting s))
 begins_by s test undone first = grind arith
 
 rest_begins : Begins (is_word (codes "deferrable")) (runs_of (resting Begin))
 unfolding rest_step rest_done
-rest_begins = begins_by Begin (is_word (codes "deferrable")) refl (λ t us last. start_goes Begin Deferrable us last (is_word (codes "deferrable") t))
+rest_begins = grind (arith, begins_by, run_none)
 
 foreign_begins : Begins begins_foreign (runs_of (resting Foreign))
 unfolding rest_step rest_done begins_foreign
-foreign_begins = begins_by Foreign begins_foreign refl (λ t us last. one_goes Foreign FirstOn Deferrable us last (is_word (codes "on") t) (is_word (codes "deferrable") t))
+foreign_begins = grind (arith, begins_by, run_none)
 
 some_rest : (s : RestSpot) (test : Lexeme → Bool) → Agrees test → Begins test (runs_of (resting s)) → Headed test (seen source (runs_of (resting s)))
 some_rest s test agrees begins = let h : Headed test (runs_of (resting s)) = record { laws = machine_laws (resting s) (resting_ends s); begins = begins; agrees = agrees } in headed_seen source h
@@ -287,11 +281,7 @@ default_ends = run_ends true 59 refl
 
 own_change_laws : Lawful own_change
 unfolding own_change added new_default
-own_change_laws =
-    let constraint = lawful_seen added_of (lawful_word (codes "constraint") refl (lawful_next name_laws (lawful_ended 59 constraint_body_laws constraint_ends) (λ t. refl))) in
-    let value = lawful_word (codes "set") refl (lawful_word (codes "default") refl (lawful_ended 59 default_text_laws default_ends)) in
-    one_of_laws (record { key = codes "add"; part = added }) (record { key = codes "alter"; part = new_default } ∷ []) refl
-    (constraint also lawful_seen default_of (lawful_word (codes "column") refl (lawful_next name_laws value (λ t. refl))))
+own_change_laws = search (grammar, constraint_body_laws, constraint_ends, default_text_laws, default_ends) depth 30 fits 4000
 
 own_change_avoids : Avoids (is_word (codes "owner")) own_change
 unfolding own_change
@@ -396,11 +386,7 @@ short_path x w e = absurd cc
 
 path_shortens : Shortens path_value
 unfolding path_value literal_value
-path_shortens = record { long = λ t e. (inr e, short_path t.kind t.word e); none = none }
-  where
-    none : (t : Lexeme) → IsTooLong t → path_value t ≡ Err false → path_value (shortened t) ≡ Err false
-    none t (inl e) f = ap path_of (word_no_text t e)
-    none t (inr e) f = absurd (cc (e, f))
+path_shortens = grind (arith, short_path, word_no_text)
 
 literal_path_laws : Lawful literal_path
 unfolding reads
@@ -444,10 +430,7 @@ truth_laws = lawful_either (headed_seen (λ u. true) (one_word (codes "true") re
 
 set_value_laws : Lawful set_value
 unfolding set_value whole_number truth
-set_value_laws =
-    let truth_end = lawful_ended 59 (lawful_ended 41 truth_laws (λ t e. refl)) (free (is_sign 59)) in
-    let values = lawful_next literal_path_laws (lawful_sign 44 (lawful_next whole_number_laws (lawful_sign 44 truth_end) (λ t. refl))) (λ t. refl) in
-    lawful_seen value_of_sequence (lawful_sign 40 values)
+set_value_laws = search (grammar, truth_laws, literal_path_laws, whole_number_laws) depth 30 fits 3000
 
 -- ---- CREATE ..
 

@@ -1,5 +1,5 @@
 -- GRANT and REVOKE: each part of their grammar with the text that it is written in.
-use Rattle.ddl_laws.proofs.Common.{◌≡◌, ℕ, Bool, true, false, not, cond, ◌&&◌, List, [], ◌∷◌, ◌++◌, map, append_assoc, append-nil, Option, Some, None, Result, Ok, Err, refl, sym, ap, subst, ◌∙◌, ◌⊎◌, inl, inr, codes, flat_map, is_utf8, chars, encode, and_parts, not-true, TokenKind, Word, is_keyword_of, name_of, written_kind, written_name, IsName, Rights, Granted, Stmt, no_rights, has_rights, Lexeme, is_word, is_sign, spelled, comma, Part, ◌then◌, ◌▸◌, name, name_value, name_in, joined, only_if, is_all, with_commas, right_list, rights_text, granted_words, granted_name, grantee_text, with_right, only, within, kind_rights, goes_with, right_first, wanted_first, wanted, joining, right_behind, more_rights, all_of, rights_from, kind_has, having, kind_with, rights_on, object, on_object, rights_and_object, grantee_of, grantee, truth_first, set_behind, inherit_and_set, others_behind, options, with_options, granted_by, member, member_of, membership, grant_option, to_grantee, from_grantee, grant_rights, revoke_rights, first, behind_first, granted, revoked, Behind, Anything, Words, Safe, End, admits, covers, through, admitted, looser, Opens, then_opens, Closes, ends_with, ends_append, AllCame, came_front, came_behind, Follows, IsPut, put_as, joined-append, none, space, name_token, value_name, Written, Kinds, given_or, or_given, meets, is_bare_word, Says, word_said, name_said, is_key, comma_as, ending, mark_as, name_as, path_as, then_as, then_puts, lead_as, word_then, end_as, seen_as, is_as, like_as, pieces_as, choose_as, heard_as, also_as, AllFit, items_pieces, many_as, lone_as, IsWritable}
+use Rattle.ddl_laws.proofs.Common.{arith, ◌≡◌, ℕ, Bool, true, false, not, cond, ◌&&◌, List, [], ◌∷◌, ◌++◌, map, append_assoc, append-nil, Option, Some, None, Result, Ok, Err, refl, sym, ap, subst, ◌∙◌, ◌⊎◌, inl, inr, codes, flat_map, is_utf8, chars, encode, and_parts, not-true, TokenKind, Word, is_keyword_of, name_of, written_kind, written_name, IsName, Rights, Granted, Stmt, no_rights, has_rights, Lexeme, is_word, is_sign, spelled, comma, Part, ◌then◌, ◌▸◌, name, name_value, name_in, joined, only_if, is_all, with_commas, right_list, rights_text, granted_words, granted_name, grantee_text, with_right, only, within, kind_rights, goes_with, right_first, wanted_first, wanted, joining, right_behind, more_rights, all_of, rights_from, kind_has, having, kind_with, rights_on, object, on_object, rights_and_object, grantee_of, grantee, truth_first, set_behind, inherit_and_set, others_behind, options, with_options, granted_by, member, member_of, membership, grant_option, to_grantee, from_grantee, grant_rights, revoke_rights, first, behind_first, granted, revoked, Behind, Anything, Words, Safe, End, admits, covers, through, admitted, looser, Opens, then_opens, Closes, ends_with, ends_append, AllCame, came_front, came_behind, Follows, IsPut, put_as, joined-append, none, space, name_token, value_name, Written, Kinds, given_or, or_given, meets, is_bare_word, Says, word_said, name_said, is_key, comma_as, ending, mark_as, name_as, path_as, then_as, then_puts, lead_as, word_then, end_as, seen_as, is_as, like_as, pieces_as, choose_as, heard_as, also_as, AllFit, items_pieces, many_as, lone_as, IsWritable}
 use Rattle.cat_model.specs.{declared.grant.Grantee.Grantee, Lexemes.same_text}
 use Rattle.ddl_write.specs.Roles.{truth as truth_word}
 use Rattle.ddl_rights.proofs.{RightsLaws.object_on, RightsLaws.right_word, RightsLaws.wanted_is, RightSets.has_some, RightSets.has_it, RightSets.kind_some, RightSets.kind_whole, RightSets.all_is, RightSets.listed_is, RightSets.some_listed, RightSets.written_word, RightSets.words_are, RightSets.AllGo, RightSets.all_go}
@@ -178,8 +178,7 @@ kind_is w None k e = absurd cc
 kind_is w (Some j) k e = by (kind_has w j) refl e
   where
     by : (b : Bool) → kind_has w j ≡ b → cond b (Some j) None ≡ Some k → kind_has w k ≡ true
-    by true is f = let same : j ≡ k = cc in subst (λ (x : Kind). kind_has w x ≡ true) same is
-    by false is f = absurd cc
+    by b e f = grind arith
 
 unfoldable pub kind_with_as : (w : Wanted) → Written (kind_with w)
 kind_with_as w = word_said space (λ k. kind_has w k ≡ true) (λ k. kind_has w k ≡ true) (λ k has. kind_written k) (kind_says w) (λ t k e. kind_is w (kind_first (t ∷ [])) k (told_is (having w (kind_first (t ∷ []))) k e))
@@ -254,8 +253,7 @@ unfolding grantee_of
 grantee_is n is = by (same_text n (codes "public")) refl
   where
     by : (b : Bool) → same_text n (codes "public") ≡ b → IsGrantee (cond b grantees.Public (grantees.Role n))
-    by true e = tt
-    by false e = (is, e)
+    by b e = grind arith
 
 -- a role by its name, and all roles by a word
 abbrev pub either_name : Written name
@@ -385,8 +383,7 @@ pub first_made : (t : Lexeme) (x : First) → named_by (wanted_first (t ∷ []))
 first_made t x e = by (name_value t) refl e
   where
     follows : (o : Option Wanted) → wanted_first (t ∷ []) ≡ o → CanFollow o
-    follows None is = tt
-    follows (Some w) is = wanted_some (t ∷ []) w is
+    follows o e = grind (arith, wanted_some)
 
     by : (v : Result (List ℕ) Bool) → name_value t ≡ v → named_by (wanted_first (t ∷ [])) v ≡ Ok x → IsFirst x
     by (Ok n) is e = let same : (n, wanted_first (t ∷ [])) ≡ x = cc in subst IsFirst same (value_name t n is, follows (wanted_first (t ∷ [])) refl)
@@ -461,8 +458,7 @@ unfolding rights_text
 rights_opened o r is are = by (is_all o r) refl
   where
     by : (b : Bool) → is_all o r ≡ b → IsOpened o r (cond b (codes "ALL") (right_list r))
-    by true e = all_opened o r is e
-    by false e = list_opened o r is are
+    by b e = grind (arith, all_opened, list_opened)
 
 pub spelled_regrouped : (a b c : List ℕ) → (a ++ (b ++ [])) ++ c ≡ a ++ (b ++ c)
 spelled_regrouped a b c = simp (append_assoc, append-nil)

@@ -292,30 +292,11 @@ clauses_keep o k = grind arith
 
 pub sequence_clauses_yield : Yields AreGiven sequence_clauses
 unfolding sequence_clauses
-sequence_clauses_yield  = grind (arith, clauses_keep, run_keeps, keeps)
-
--- ---- the usual numbers
-
-pub usual_min_is : (kind : SequenceKind) (step : ℤ) → IsInt (usual_min kind step)
-unfolding usual_min
-usual_min_is kind step = grind arith
-
-pub usual_max_is : (kind : SequenceKind) (step : ℤ) → IsInt (usual_max kind step)
-unfolding usual_max
-usual_max_is kind step = grind arith
-
-pub given_is : (usual : ℤ) (o : Option ℤ) → IsInt usual → IsGiven o → IsInt (given_or usual o)
-given_is usual o u k = grind arith
-
-pub bound_given : (usual : ℤ) (b : Bound) → IsInt usual → IsBound b → IsInt (bound_or usual b)
-bound_given usual b u k = grind arith
-
-pub start_is : (step min max : ℤ) → IsInt min → IsInt max → IsInt (usual_start step min max)
-start_is step min max a b = grind arith
+sequence_clauses_yield = grind (arith, clauses_keep, run_keeps, keeps)
 
 pub writable : (q : QName) (c : Clauses) → IsPath q → AreGiven c → IsWritable (sequence_of q c)
-unfolding sequence_of
-writable q c path k = grind (arith, bound_given, usual_min_is, usual_max_is, given_is, start_is)
+unfolding sequence_of usual_min usual_max
+writable q c path k = grind arith
 
 -- ---- the statement
 
