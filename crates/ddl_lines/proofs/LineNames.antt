@@ -49,15 +49,12 @@ drop_line zero bytes all = all
 drop_line (suc n) [] all = refl
 drop_line (suc n) (b ∷ bytes) all = drop_line n bytes (and_parts (in_line b) (list_all in_line bytes) all).1
 
-small_byte : (b : ℕ) → in_line b ≡ true → in_line (to_ascii_lowercase b) ≡ true
-unfolding in_line
-small_byte b is = grind (arith, nat_tests)
-
 small_line : (bytes : List ℕ) → OneLine bytes → OneLine (map to_ascii_lowercase bytes)
+unfolding in_line
 small_line [] all = refl
 small_line (b ∷ bytes) all =
     let h = and_parts (in_line b) (list_all in_line bytes) all in
-    and_from (in_line (to_ascii_lowercase b)) (list_all in_line (map to_ascii_lowercase bytes)) (small_byte b h.0) (small_line bytes h.1)
+    and_from (in_line (to_ascii_lowercase b)) (list_all in_line (map to_ascii_lowercase bytes)) (grind (arith, nat_tests)) (small_line bytes h.1)
 
 unless_line : (skip : Bool) (b : ℕ) (rest : List ℕ) → in_line b ≡ true → OneLine rest → OneLine (unless skip b rest)
 unless_line skip b rest is all = grind arith
@@ -69,13 +66,9 @@ undoubled_line q second (b ∷ rest) all =
     let h = and_parts (in_line b) (list_all in_line rest) all in
     unless_line (second && b == q) b (undoubled q (not second && b == q) rest) h.0 (undoubled_line q (not second && b == q) rest h.1)
 
-inside_line : (word : List ℕ) → OneLine word → OneLine (inside word)
-unfolding inside
-inside_line word all = take_line (length word - 2) (drop 1 word) (drop_line 1 word all)
-
 named_line : (kind : TokenKind) (word n : List ℕ) → OneLine word → name_of kind word ≡ Some n → OneLine n
-unfolding name_of
-named_line kind word n all e = grind (arith, small_line, undoubled_line, inside_line)
+unfolding inside name_of
+named_line kind word n all e = grind (arith, small_line, undoubled_line, take_line, drop_line)
 
 -- ---- the name of a line
 

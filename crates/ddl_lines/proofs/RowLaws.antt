@@ -10,10 +10,6 @@ use Rattle.ddl_lines.specs.declared.copy_rows.Rows.{Rows}
 row_by : (ends stops : Bool) (start end next a b c : ℕ) → Row start end next ≡ cond ends End (cond stops Stop (Row a b c)) → (end ≡ b) × (next ≡ c)
 row_by ends stops start end next a b c e = grind arith
 
-pub row_shape : (text : List ℕ) (at start end next : ℕ) → Row start end next ≡ line_at text at → (end ≡ at + len_of (drop at text)) × (next ≡ min (at + len_of (drop at text) + 1) (length text))
-unfolding line_at
-row_shape text at start end next e = row_by (eqb at (length text)) (bytes_eq (take (len_of (drop at text)) (drop at text)) end_mark) start end next at (at + len_of (drop at text)) (min (at + len_of (drop at text) + 1) (length text)) e
-
 -- a line feed stands behind a line, or the end of the text
 feed_behind : (rest : List ℕ) → len_of rest < length rest → take (len_of rest + 1) rest ≡ take (len_of rest) rest ++ newline ∷ []
 feed_behind [] lt = absurd (omega arith)
@@ -49,8 +45,9 @@ fed text at end next le e n lt =
 -- the rows from one place on, up to another, and those behind it
 pub goes_on : (text : List ℕ) (from at start end next : ℕ) → from ≤ at → at ≤ length text → IsNextLine text at (Row start end next) → Row start end next ≡ line_at text at → end ≢ length text
     → rows_in (drop from text) ≡ slice_range text from at ++ rows_in (drop at text) → rows_in (drop from text) ≡ slice_range text from next ++ rows_in (drop next text)
+unfolding line_at
 goes_on text from at start end next low le h exact differs so_far =
-    let shape = row_shape text at start end next exact in
+    let shape = (row_by (eqb at (length text)) (bytes_eq (take (len_of (drop at text)) (drop at text)) end_mark) start end next at (at + len_of (drop at text)) (min (at + len_of (drop at text) + 1) (length text)) exact) in
     let lt : end < length text = omega (arith, h.2, h.4, differs) in
     let after : next ≡ end + 1 = omega (arith, shape, lt) in
     so_far ∙ ap (λ (x : List ℕ). slice_range text from at ++ x) (first_row text at start end next h ∙ ap (λ (x : List ℕ). x ++ rows_in (drop next text)) (fed text at end next le shape.0 after lt))
@@ -87,19 +84,17 @@ length_slice text a b low high = let cut = length-drop a text in omega (arith, c
 abbrev copied_to : List ℕ → ℕ → Copied
 copied_to rows n = record { rows = rows; end = n }
 
-pub are_copied : (text : List ℕ) (from end : ℕ) (rows : List ℕ) → rows_in (drop from text) ≡ rows → min (from + length rows + 3) (length text) ≡ end → rows_from text from ≡ record { rows = rows; end = end }
-unfolding rows_from
-are_copied text from end rows is place = ap (copied text from) is ∙ ap (λ n. copied_to rows n) place
-
 -- the rows up to where a line ends them
 pub between : {E : Type 0} (text : List ℕ) (from at : ℕ) (r : Result Rows E) → from ≤ at → at ≤ length text → rows_in (drop from text) ≡ slice_range text from at → IfOk r (λ r. seen r ≡ record { rows = slice_range text from at; end = min (at + 3) (length text) })
     → IfOk r (λ r. rows_from text from ≡ seen r)
-between text from at r low high rows h = grind (arith, length_slice, are_copied)
+unfolding rows_from
+between text from at r low high rows h = grind (arith, length_slice)
 
 -- all that is left of the text, where its last line has no line feed
 pub whole : (text : List ℕ) (from end : ℕ) (rows : List ℕ) → from ≤ length text → end ≡ length text → rows_in (drop from text) ≡ drop from text ++ newline ∷ [] → rows ≡ slice_range text from (length text) ++ newline ∷ []
     → rows_from text from ≡ record { rows = rows; end = end }
+unfolding rows_from
 whole text from end rows low same e made =
     let is : rows_in (drop from text) ≡ rows = e ∙ sym (made ∙ ap (λ (x : List ℕ). x ++ newline ∷ []) (take_rest text from)) in
     let size : length rows ≡ length text - from + 1 = omega (arith, ap (λ (x : List ℕ). length x) (sym is ∙ e), length-append (drop from text) (newline ∷ []), length-drop from text) in
-    are_copied text from end rows is (min-eq_right (omega (arith, size)) ∙ sym same)
+    (ap (copied text from) is ∙ ap (λ n. copied_to rows n) (min-eq_right (omega (arith, size)) ∙ sym same))

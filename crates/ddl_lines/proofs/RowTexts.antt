@@ -13,14 +13,10 @@ Plain line = ByRecursion (λ b. eqb b newline ≡ false) line
 abbrev IsLine : List ℕ → Type 0
 IsLine line = Plain line × (bytes_eq line end_mark ≡ false)
 
--- one more byte
-onto_plain : (b : ℕ) (ls : List (List ℕ)) → eqb b newline ≡ false → ByRecursion Plain ls → ByRecursion Plain (onto_first b ls)
-onto_plain b ls other all = grind arith
-
 lines_plain : (text : List ℕ) → ByRecursion Plain (lines text)
 unfolding lines
 lines_plain [] = tt
-lines_plain (b ∷ rest) = grind (arith, onto_plain, (lines_plain rest))
+lines_plain (b ∷ rest) = grind (arith, (lines_plain rest))
 
 before_are_lines : (ls : List (List ℕ)) → ByRecursion Plain ls → ByRecursion IsLine (before_end_mark ls)
 before_are_lines [] all = tt
@@ -74,13 +70,9 @@ rows_again bytes =
 
 -- ---- rows behind a place
 
-by_read : (text : List ℕ) (at : ℕ) (rest : List ℕ) (c : Copied) → rows_by text at rest ≡ Ok c → AreRows c.rows
-unfolding rows_from
-by_read text at rest c e = grind (arith, no_rows, rows_again)
-
 pub read_are_rows : (text : List ℕ) (at : ℕ) (c : Copied) → rows_behind text at ≡ Ok c → AreRows c.rows
-unfolding rows_behind rows_at
-read_are_rows text at c e = let place = at + prefix_len is_between (drop at text) in by_read text place (drop place text) c e
+unfolding rows_at rows_behind rows_from
+read_are_rows text at c e = let place = at + prefix_len is_between (drop at text) in (grind (arith, no_rows, rows_again))
 
 by_bounds : (text : List ℕ) (at : ℕ) (rest : List ℕ) (c : Copied) → at ≤ length text → rows_by text at rest ≡ Ok c → (at ≤ c.end) × (c.end ≤ length text)
 unfolding rows_from
@@ -99,16 +91,12 @@ rows_bounds text at c le e =
 by_feed : (text more : List ℕ) (at : ℕ) (rest : List ℕ) → rest ≡ newline ∷ more → rows_by text at rest ≡ Ok (rows_from text (at + 1))
 by_feed text more at rest is = ap (rows_by text at) is
 
-from_feed : (text more : List ℕ) (at : ℕ) → drop at text ≡ newline ∷ more → rows_behind text at ≡ Ok (rows_from text (at + 1))
-unfolding rows_behind rows_at is_between
-from_feed text more at is = grind arith
-
 abbrev copied_as : List ℕ → ℕ → Copied
 copied_as rows n = record { rows = rows; end = n }
 
 pub rows_read_back : (front rows rest : List ℕ) → AreRows rows → rows_behind (front ++ (newline ∷ (rows ++ (end_mark ++ (newline ∷ rest))))) (length front)
     ≡ Ok (record { rows = rows; end = length front + 1 + length rows + 3 })
-unfolding rows_from rows_in
+unfolding is_between rows_at rows_behind rows_from rows_in
 rows_read_back front rows rest are =
     let behind : List ℕ = rows ++ (end_mark ++ (newline ∷ rest)) in
     let text : List ℕ = front ++ (newline ∷ behind) in
@@ -118,4 +106,4 @@ rows_read_back front rows rest are =
     let read : rows_in behind ≡ rows = rows_are_first rows (end_mark ++ (newline ∷ rest)) are ∙ ap (λ (x : List (List ℕ)). rows ++ with_feeds x) (ended rest) ∙ append-nil rows in
     let size : length text ≡ at + suc (length rows + suc (suc (suc (length rest)))) = length-append front (newline ∷ behind) ∙ ap (λ n. at + suc n) (length-append rows (end_mark ++ (newline ∷ rest))) in
     let high : min (at + 1 + length rows + 3) (length text) ≡ at + 1 + length rows + 3 = omega (arith, size) in
-    from_feed text behind at feed ∙ ap (λ (x : List ℕ). Ok (copied text (at + 1) x)) (ap rows_in here ∙ read) ∙ ap (λ n. Ok (copied_as rows n)) high
+    (grind arith) ∙ ap (λ (x : List ℕ). Ok (copied text (at + 1) x)) (ap rows_in here ∙ read) ∙ ap (λ n. Ok (copied_as rows n)) high
