@@ -34,20 +34,20 @@ one_more (first ∷ more) true word = rw (flat_map-append (λ (w : List ℕ). co
 
 -- the words of the rights that are there
 abbrev pub words_of : List Right → List (List ℕ)
-words_of rights = flat_map (λ right. word_there right.is_there right.word.now) rights
+words_of rights = flat_map (λ right. word_there right.0 right.1.now) rights
 
-pub words_with : (rights : List Right) (right : Right) → words_of (rights ++ right ∷ []) ≡ words_of rights ++ word_there right.is_there right.word.now
+pub words_with : (rights : List Right) (right : Right) → words_of (rights ++ right ∷ []) ≡ words_of rights ++ word_there right.0 right.1.now
 words_with rights right =
-    flat_map-append (λ (r : Right). word_there r.is_there r.word.now) rights (right ∷ []) ∙ ap (λ (l : List (List ℕ)). words_of rights ++ l) (append-nil (word_there right.is_there right.word.now))
+    flat_map-append (λ (r : Right). word_there r.0 r.1.now) rights (right ∷ []) ∙ ap (λ (l : List (List ℕ)). words_of rights ++ l) (append-nil (word_there right.0 right.1.now))
 
-pub words_at : (rights : List Right) (i : ℕ) (d : Right) → i < length rights → words_of (take (i + 1) rights) ≡ words_of (take i rights) ++ word_there (get_or rights i d).is_there (get_or rights i d).word.now
+pub words_at : (rights : List Right) (i : ℕ) (d : Right) → i < length rights → words_of (take (i + 1) rights) ≡ words_of (take i rights) ++ word_there (get_or rights i d).0 (get_or rights i d).1.now
 words_at rights i d below = ap words_of (take_more rights i d below) ∙ words_with (take i rights) (get_or rights i d)
 
 pub one_right_at : (rights : List Right) (i : ℕ) (d : Right) → i < length rights
     → with_commas (words_of (take (i + 1) rights))
-    ≡ with_commas (words_of (take i rights)) ++ (only_if (any_word (words_of (take i rights)) && (get_or rights i d).is_there) (codes ",") ++ only_if (get_or rights i d).is_there (get_or rights i d).word.now)
-one_right_at rights i d below = ap with_commas (words_at rights i d below) ∙ one_more (words_of (take i rights)) (get_or rights i d).is_there (get_or rights i d).word.now
+    ≡ with_commas (words_of (take i rights)) ++ (only_if (any_word (words_of (take i rights)) && (get_or rights i d).0) (codes ",") ++ only_if (get_or rights i d).0 (get_or rights i d).1.now)
+one_right_at rights i d below = ap with_commas (words_at rights i d below) ∙ one_more (words_of (take i rights)) (get_or rights i d).0 (get_or rights i d).1.now
 
 pub any_right_at : (rights : List Right) (i : ℕ) (d : Right) → i < length rights
-    → any_word (words_of (take (i + 1) rights)) ≡ (any_word (words_of (take i rights)) || (get_or rights i d).is_there)
-any_right_at rights i d below = ap any_word (words_at rights i d below) ∙ any_more (words_of (take i rights)) (get_or rights i d).is_there (get_or rights i d).word.now
+    → any_word (words_of (take (i + 1) rights)) ≡ (any_word (words_of (take i rights)) || (get_or rights i d).0)
+any_right_at rights i d below = ap any_word (words_at rights i d below) ∙ any_more (words_of (take i rights)) (get_or rights i d).0 (get_or rights i d).1.now

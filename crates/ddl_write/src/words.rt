@@ -1,74 +1,71 @@
 //! Texts, piece by piece.
-ghost use Rattle.std.specs.Prelude.{◌≡◌, ◌++◌, List, ℕ, OnOk, OnErr, codes};
+ghost use Rattle.std.specs.Prelude.{◌≡◌, ◌++◌, OnOk};
 ghost use Rattle.std.specs.Fmt.{signed_decimal};
 ghost use Rattle.std.specs.List.{flat_map};
 ghost use Rattle.sql_lex.specs.Written.{written_name, written_literal};
-ghost use Rattle.ddl_write.specs.Paths.{path, listed, only_if};
 ghost use Rattle.ddl_write.specs.Keys.{rest_text};
-ghost use Rattle.ddl_write.specs.RightsText.{remark_text};
-ghost use Rattle.ddl_write.specs.Roles.{flag_text, limit_text, given_literal, given_name};
+ghost use Rattle.ddl_write.specs.Paths.{path};
+ghost use Rattle.ddl_write.specs.Sequences.{bound, max_text, min_text};
 ghost use Rattle.ddl_write.specs.Pieces.{text_of};
 ghost use Rattle.ddl_write.specs.Outcome.{Extends};
 
-use crate::rights::{put_granted, put_grantee};
-use crate::roles::{encoding_words, inherit_words, truth};
-use crate::sequences::{called_words, put_max, put_min, type_words};
-use crate::tables::{put_checks, put_given_default, put_labels, put_type};
-use crate::views::put_body;
-use cat_model::{CheckDef, Encoding, Granted, Grantee, QName, SequenceKind, TypeName};
+use crate::lists::{Put, put_check, put_each, put_lines, put_names};
+use crate::rights::put_rights;
+use crate::sequences::{is_usual_max, is_usual_min};
+use crate::views::space_before;
+use cat_model::{CheckDef, Granted, Grantee, Owned, QName, Rights, SequenceKind, TypeName};
 use copy_text::{Name, Text};
 use itoa::Buffer;
 use sql_lex::{write_literal, write_name};
 use std::alloc::AllocError;
 
+/// What appending text answers.
+pub(crate) type Written = Result<(), AllocError>;
+
 /// A piece of a statement's text.
 #[derive(Clone, Copy)]
 pub(crate) enum Piece<'a> {
-    /// Words, signs and kept texts as they are.
+    /// Words and signs as they are.
     Words(&'a [u8]),
-    /// A kept text.
-    Text(&'a Text),
     /// Words under a condition.
     OnlyIf(bool, &'a [u8]),
+    /// A kept text.
+    Text(&'a Text),
+    /// A kept text behind a space, or none.
+    Rest(&'a Text),
+    /// A view's body.
+    Body(&'a Text),
     /// A name.
     Name(&'a Name),
     /// Words and a name, where there is one.
     GivenName(&'a [u8], &'a Option<Name>),
-    /// A qualified name.
-    Path(&'a QName),
     /// Names with commas, in brackets.
     Names(&'a [Name]),
-    /// A number.
-    Number(&'a i64),
-    /// The type of a sequence, but for bigint.
-    Type(SequenceKind),
-    /// The least number of a sequence, behind its type and step.
-    Min(SequenceKind, &'a i64, &'a i64),
-    /// The greatest number of a sequence, behind its type and step.
-    Max(SequenceKind, &'a i64, &'a i64),
-    /// Whether a sequence's value was given out, and the closing bracket.
-    Called(bool),
-    /// Words and a literal, where there is one.
-    GivenLiteral(&'a [u8], &'a Option<Text>),
+    /// A qualified name.
+    Path(&'a QName),
     /// A qualified name in a literal.
     PathLiteral(&'a QName),
-    /// What a comment is.
-    Remark(&'a Option<Text>),
-    /// What follows, behind a space.
-    Rest(&'a Text),
+    /// Words and a literal.
+    Literal(&'a [u8], &'a Text),
+    /// Words and a literal, where there is one.
+    GivenLiteral(&'a [u8], &'a Option<Text>),
+    /// A number.
+    Number(&'a i64),
+    /// The least number of a sequence with this step, where it isn't the usual one.
+    Min(SequenceKind, &'a i64, &'a i64),
+    /// The greatest number of a sequence with this step, where it isn't the usual one.
+    Max(SequenceKind, &'a i64, &'a i64),
     /// An attribute of a role, where it is named.
     Flag(&'a [u8], Option<bool>),
     /// The limit of connections, where it is named.
     Limit(Option<i64>),
-    /// TRUE or FALSE.
-    Truth(bool),
-    /// INHERIT of a membership, where it is named.
-    Inherit(Option<bool>),
-    /// The encoding of a database, where it is named.
-    Encoding(Option<Encoding>),
-    /// A view's body.
-    Body(&'a Text),
-    /// What rights are granted on.
+    /// What a comment is.
+    Remark(&'a Option<Text>),
+    /// What gets an owner.
+    Owned(&'a Owned),
+    /// Rights on an object.
+    Rights(&'a Granted, Rights),
+    /// What they are granted on.
     On(&'a Granted),
     /// Whom they are granted to.
     Whom(&'a Grantee),
@@ -76,14 +73,25 @@ pub(crate) enum Piece<'a> {
     TypeName(&'a TypeName),
     /// DEFAULT and an expression, where there is one.
     Default(&'a Option<Text>),
+    /// A check with its name.
+    Check(&'a Name, &'a Text),
     /// Checks, each behind the same words.
     Checks(&'a [u8], &'a [CheckDef]),
     /// The labels of an enum, each in a line.
     Labels(&'a [Text]),
 }
 
+/// Two texts.
+fn put_both(first: &[u8], second: &[u8], out: &mut Vec<u8>) -> Written
+    ensures ok { OnOk result (out.new.items ≡ out.old.items ++ (first.now ++ second.now)) }
+    ensures kept { Extends out.old.items out.new.items }
+{
+    out.extend_from_slice(first)?;
+    out.extend_from_slice(second)
+}
+
 /// Words and a name.
-pub(crate) fn put_named(words: &[u8], name: &Name, out: &mut Vec<u8>) -> Result<(), AllocError>
+fn put_named(words: &[u8], name: &Name, out: &mut Vec<u8>) -> Written
     ensures ok { OnOk result (out.new.items ≡ out.old.items ++ (words.now ++ written_name name.now)) }
     ensures kept { Extends out.old.items out.new.items }
 {
@@ -93,7 +101,7 @@ pub(crate) fn put_named(words: &[u8], name: &Name, out: &mut Vec<u8>) -> Result<
 
 /// Words and a qualified name.
 #[tactic(auto, unfolding(crate::specs::Paths::path))]
-pub(crate) fn put_path(words: &[u8], q: &QName, out: &mut Vec<u8>) -> Result<(), AllocError>
+fn put_path(words: &[u8], q: &QName, out: &mut Vec<u8>) -> Written
     ensures ok { OnOk result (out.new.items ≡ out.old.items ++ (words.now ++ path q.now)) }
     ensures kept { Extends out.old.items out.new.items }
 {
@@ -103,54 +111,8 @@ pub(crate) fn put_path(words: &[u8], q: &QName, out: &mut Vec<u8>) -> Result<(),
     write_name(q.name.as_bytes(), out)
 }
 
-/// Words and a literal.
-pub(crate) fn put_literal(words: &[u8], text: &Text, out: &mut Vec<u8>) -> Result<(), AllocError>
-    ensures ok { OnOk result (out.new.items ≡ out.old.items ++ (words.now ++ written_literal text.now)) }
-    ensures kept { Extends out.old.items out.new.items }
-{
-    out.extend_from_slice(words)?;
-    write_literal(text.as_bytes(), out)
-}
-
-/// Words and a number.
-pub(crate) fn put_number(words: &[u8], number: i64, out: &mut Vec<u8>) -> Result<(), AllocError>
-    ensures ok { OnOk result (out.new.items ≡ out.old.items ++ (words.now ++ signed_decimal number)) }
-    ensures kept { Extends out.old.items out.new.items }
-{
-    let mut buffer = Buffer::new();
-    out.extend_from_slice(words)?;
-    out.extend_from_slice(buffer.format(number).as_bytes())
-}
-
-/// Further names of a list.
-fn put_more_names(names: &[Name], out: &mut Vec<u8>) -> Result<(), AllocError>
-    ensures ok { OnOk result (out.new.items ≡ out.old.items ++ flat_map (λ n. codes ", " ++ written_name n) names.now) }
-    ensures kept { Extends out.old.items out.new.items }
-{
-    for name in names {
-        put_named(b", ", name, out)?;
-    }
-    Ok(())
-}
-
-/// Names with commas, in brackets.
-#[tactic(auto, unfolding(crate::specs::Paths::listed))]
-fn put_names(names: &[Name], out: &mut Vec<u8>) -> Result<(), AllocError>
-    ensures ok { OnOk result (out.new.items ≡ out.old.items ++ listed names.now) }
-    ensures kept { Extends out.old.items out.new.items }
-{
-    match names {
-        [] => out.extend_from_slice(b"()"),
-        [first, more @ ..] => {
-            put_named(b"(", first, out)?;
-            put_more_names(more, out)?;
-            out.extend_from_slice(b")")
-        }
-    }
-}
-
 /// A qualified name in a literal.
-fn put_path_literal(q: &QName, out: &mut Vec<u8>) -> Result<(), AllocError>
+fn put_path_literal(q: &QName, out: &mut Vec<u8>) -> Written
     ensures ok { OnOk result (out.new.items ≡ out.old.items ++ written_literal (path q.now)) }
     ensures kept { Extends out.old.items out.new.items }
 {
@@ -159,89 +121,125 @@ fn put_path_literal(q: &QName, out: &mut Vec<u8>) -> Result<(), AllocError>
     write_literal(&text, out)
 }
 
-fn put_remark(text: &Option<Text>, out: &mut Vec<u8>) -> Result<(), AllocError>
-    ensures ok { OnOk result (out.new.items ≡ out.old.items ++ remark_text text.now) }
+/// Words and a literal.
+fn put_literal(words: &[u8], text: &Text, out: &mut Vec<u8>) -> Written
+    ensures ok { OnOk result (out.new.items ≡ out.old.items ++ (words.now ++ written_literal text.now)) }
     ensures kept { Extends out.old.items out.new.items }
 {
-    match text {
-        None => out.extend_from_slice(b" IS NULL"),
-        Some(text) => put_literal(b" IS ", text, out),
+    out.extend_from_slice(words)?;
+    write_literal(text.as_bytes(), out)
+}
+
+/// Words and a number.
+fn put_number(words: &[u8], number: i64, out: &mut Vec<u8>) -> Written
+    ensures ok { OnOk result (out.new.items ≡ out.old.items ++ (words.now ++ signed_decimal number)) }
+    ensures kept { Extends out.old.items out.new.items }
+{
+    let mut buffer = Buffer::new();
+    put_both(words, buffer.format(number).as_bytes(), out)
+}
+
+/// Words without a number where it is the usual one, else other words and the number.
+#[tactic(auto, unfolding(crate::specs::Sequences::bound))]
+fn put_bound(usual: bool, without: &[u8], words: &[u8], number: &i64, out: &mut Vec<u8>) -> Written
+    ensures ok { OnOk result (out.new.items ≡ out.old.items ++ bound usual without.now words.now number.now) }
+    ensures kept { Extends out.old.items out.new.items }
+{
+    if usual {
+        out.extend_from_slice(without)
+    } else {
+        put_number(words, *number, out)
     }
 }
 
-fn put_rest(rest: &Text, out: &mut Vec<u8>) -> Result<(), AllocError>
+/// MINVALUE and the number, or NO MINVALUE.
+fn put_min(kind: SequenceKind, step: &i64, number: &i64, out: &mut Vec<u8>) -> Written
+    ensures ok { OnOk result (out.new.items ≡ out.old.items ++ min_text kind step.now number.now) }
+    ensures kept { Extends out.old.items out.new.items }
+{
+    let usual = is_usual_min(kind, step, number);
+    put_bound(usual, b"\n    NO MINVALUE", b"\n    MINVALUE ", number, out)
+}
+
+/// MAXVALUE and the number, or NO MAXVALUE.
+fn put_max(kind: SequenceKind, step: &i64, number: &i64, out: &mut Vec<u8>) -> Written
+    ensures ok { OnOk result (out.new.items ≡ out.old.items ++ max_text kind step.now number.now) }
+    ensures kept { Extends out.old.items out.new.items }
+{
+    let usual = is_usual_max(kind, step, number);
+    put_bound(usual, b"\n    NO MAXVALUE", b"\n    MAXVALUE ", number, out)
+}
+
+impl<'a> Put for Piece<'a> {
+    ghost text = { text_of };
+
+    #[tactic(auto, unfolding(crate::specs::Tables::type_text, crate::specs::Spelling::owned_object))]
+    fn put(&self, out: &mut Vec<u8>) -> Written {
+        match *self {
+            Piece::OnlyIf(false, _)
+            | Piece::GivenName(_, None)
+            | Piece::GivenLiteral(_, None)
+            | Piece::Flag(_, None)
+            | Piece::Limit(None)
+            | Piece::Default(None) => Ok(()),
+            Piece::Words(words) | Piece::OnlyIf(true, words) => out.extend_from_slice(words),
+            Piece::Text(text) => out.extend_from_slice(text.as_bytes()),
+            Piece::Rest(rest) => put_rest(rest, out),
+            Piece::Body(body) => put_both(space_before(body.as_bytes()), body.as_bytes(), out),
+            Piece::Name(name) => write_name(name.as_bytes(), out),
+            Piece::GivenName(words, Some(name)) => put_named(words, name, out),
+            Piece::Names(names) => put_names(names, out),
+            Piece::Path(q) => put_path(b"", q, out),
+            Piece::PathLiteral(q) => put_path_literal(q, out),
+            Piece::Literal(words, text) => put_literal(words, text, out),
+            Piece::GivenLiteral(words, Some(text)) => put_literal(words, text, out),
+            Piece::Number(number) => put_number(b"", *number, out),
+            Piece::Min(kind, step, number) => put_min(kind, step, number, out),
+            Piece::Max(kind, step, number) => put_max(kind, step, number, out),
+            Piece::Flag(word, Some(true)) => put_both(b" ", word, out),
+            Piece::Flag(word, Some(false)) => put_both(b" NO", word, out),
+            Piece::Limit(Some(limit)) => put_number(b" CONNECTION LIMIT ", limit, out),
+            Piece::Remark(None) => out.extend_from_slice(b" IS NULL"),
+            Piece::Remark(Some(text)) => put_literal(b" IS ", text, out),
+            Piece::Owned(Owned::Schema(name)) => put_named(b"SCHEMA ", name, out),
+            Piece::Owned(Owned::Type(q)) => put_path(b"TYPE ", q, out),
+            Piece::Owned(Owned::Domain(q)) => put_path(b"DOMAIN ", q, out),
+            Piece::Owned(Owned::Table(q)) => put_path(b"TABLE ", q, out),
+            Piece::Owned(Owned::Sequence(q)) => put_path(b"SEQUENCE ", q, out),
+            Piece::Owned(Owned::View(q)) => put_path(b"VIEW ", q, out),
+            Piece::Owned(Owned::Database(name)) => put_named(b"DATABASE ", name, out),
+            Piece::Rights(object, rights) => put_rights(object, rights, out),
+            Piece::On(Granted::Table(q)) => put_path(b" ON TABLE ", q, out),
+            Piece::On(Granted::Sequence(q)) => put_path(b" ON SEQUENCE ", q, out),
+            Piece::On(Granted::Schema(name)) => put_named(b" ON SCHEMA ", name, out),
+            Piece::On(Granted::Type(q)) => put_path(b" ON TYPE ", q, out),
+            Piece::Whom(Grantee::Public) => out.extend_from_slice(b"PUBLIC"),
+            Piece::Whom(Grantee::Role(name)) => write_name(name.as_bytes(), out),
+            Piece::TypeName(TypeName::Words(words)) => out.extend_from_slice(words.as_bytes()),
+            Piece::TypeName(TypeName::Path(q)) => put_path(b"", q, out),
+            Piece::Default(Some(text)) => put_both(b" DEFAULT ", text.as_bytes(), out),
+            Piece::Check(name, text) => put_check(name, text, out),
+            Piece::Checks(words, checks) => put_each(words, checks, out),
+            Piece::Labels(labels) => put_lines(labels, out),
+        }
+    }
+}
+
+/// A text behind a space, or none.
+fn put_rest(rest: &Text, out: &mut Vec<u8>) -> Written
     ensures ok { OnOk result (out.new.items ≡ out.old.items ++ rest_text rest.now) }
     ensures kept { Extends out.old.items out.new.items }
 {
     match rest.as_bytes() {
         [] => Ok(()),
-        bytes => {
-            out.push(b' ')?;
-            out.extend_from_slice(bytes)
-        }
-    }
-}
-
-fn put_flag(word: &[u8], flag: Option<bool>, out: &mut Vec<u8>) -> Result<(), AllocError>
-    ensures ok { OnOk result (out.new.items ≡ out.old.items ++ flag_text word.now flag) }
-    ensures kept { Extends out.old.items out.new.items }
-{
-    let before: &[u8] = match flag {
-        None => return Ok(()),
-        Some(true) => b" ",
-        Some(false) => b" NO",
-    };
-    out.extend_from_slice(before)?;
-    out.extend_from_slice(word)
-}
-
-/// One piece.
-fn put_piece(piece: &Piece<'_>, out: &mut Vec<u8>) -> Result<(), AllocError>
-    ensures ok { OnOk result (out.new.items ≡ out.old.items ++ text_of piece.now) }
-    ensures kept { Extends out.old.items out.new.items }
-{
-    match *piece {
-        Piece::Words(words) | Piece::OnlyIf(true, words) => out.extend_from_slice(words),
-        Piece::OnlyIf(false, _)
-        | Piece::GivenName(_, None)
-        | Piece::GivenLiteral(_, None)
-        | Piece::Limit(None) => Ok(()),
-        Piece::Name(name) => write_name(name.as_bytes(), out),
-        Piece::GivenName(words, Some(name)) => put_named(words, name, out),
-        Piece::Path(q) => put_path(b"", q, out),
-        Piece::Names(names) => put_names(names, out),
-        Piece::Number(number) => put_number(b"", *number, out),
-        Piece::GivenLiteral(words, Some(text)) => put_literal(words, text, out),
-        Piece::PathLiteral(q) => put_path_literal(q, out),
-        Piece::Remark(text) => put_remark(text, out),
-        Piece::Rest(rest) => put_rest(rest, out),
-        Piece::Flag(word, flag) => put_flag(word, flag, out),
-        Piece::Limit(Some(limit)) => put_number(b" CONNECTION LIMIT ", limit, out),
-        Piece::Text(text) => out.extend_from_slice(text.as_bytes()),
-        Piece::Type(kind) => out.extend_from_slice(type_words(kind)),
-        Piece::Min(kind, step, number) => put_min(kind, step, number, out),
-        Piece::Max(kind, step, number) => put_max(kind, step, number, out),
-        Piece::Called(called) => out.extend_from_slice(called_words(called)),
-        Piece::Truth(flag) => out.extend_from_slice(truth(flag)),
-        Piece::Inherit(inherit) => out.extend_from_slice(inherit_words(inherit)),
-        Piece::Encoding(encoding) => out.extend_from_slice(encoding_words(encoding)),
-        Piece::Body(body) => put_body(body, out),
-        Piece::On(object) => put_granted(object, out),
-        Piece::Whom(grantee) => put_grantee(grantee, out),
-        Piece::TypeName(type_name) => put_type(type_name, out),
-        Piece::Default(default) => put_given_default(default, out),
-        Piece::Checks(words, checks) => put_checks(words, checks, out),
-        Piece::Labels(labels) => put_labels(labels, out),
+        bytes => put_both(b" ", bytes, out),
     }
 }
 
 /// Pieces one after another.
-pub(crate) fn put_all(pieces: &[Piece<'_>], out: &mut Vec<u8>) -> Result<(), AllocError>
+pub(crate) fn put_all(pieces: &[Piece<'_>], out: &mut Vec<u8>) -> Written
     ensures ok { OnOk result (out.new.items ≡ out.old.items ++ flat_map text_of pieces.now) }
     ensures kept { Extends out.old.items out.new.items }
 {
-    for piece in pieces {
-        put_piece(piece, out)?;
-    }
-    Ok(())
+    put_each(b"", pieces, out)
 }

@@ -1,21 +1,23 @@
 //! Statements as texts.
-ghost use Rattle.std.specs.Prelude.{◌≡◌, ◌++◌, take, vec_len, OnOk, OnErr};
-ghost use Rattle.ddl_write.specs.Spelling.{path, owned_object, schema_text, set_text, setting_text, owner_text, domain_check_text, spelling};
-ghost use Rattle.sql_lex.specs.Written.{written_name};
+ghost use Rattle.std.specs.Prelude.{◌≡◌, ◌++◌, OnOk, OnErr};
+ghost use Rattle.ddl_write.specs.Spelling.{spelling, set_text, owner_text, domain_check_text};
+ghost use Rattle.ddl_write.specs.Keys.{key_text, foreign_text, added_check_text, index_text};
+ghost use Rattle.ddl_write.specs.RightsText.{grant_text, revoke_text, comment_text};
+ghost use Rattle.ddl_write.specs.Roles.{changes_text, truth, inherit_text, member_text, encoding_text, database_text};
+ghost use Rattle.ddl_write.specs.RowsText.{copy_text};
+ghost use Rattle.ddl_write.specs.Sequences.{called_words, type_words, sequence_text, owned_by_text, value_text};
+ghost use Rattle.ddl_write.specs.Tables.{enum_text, domain_text, table_text};
+ghost use Rattle.ddl_write.specs.Views.{view_text, default_text};
 ghost use Rattle.ddl_write.specs.Outcome.{Extends};
 
 use crate::fault::WriteStmtError;
-use crate::keys::{put_check, put_foreign, put_index, put_key};
-use crate::rights::{put_comment, put_grant, put_revoke};
-use crate::roles::{put_changes, put_connect, put_database, put_member, put_role};
-use crate::rows::put_copy;
-use crate::sequences::{put_owned_by, put_sequence, put_value};
-use crate::tables::{put_domain, put_enum, put_named_check, put_table};
-use crate::views::{put_default, put_view};
-use crate::words::{put_literal, put_named, put_path};
-use cat_model::{Owned, QName, Stmt};
+use crate::lists::put_elements;
+use crate::words::Written;
+use cat_model::{
+    CheckDef, ColumnDef, Commented, Encoding, Granted, Grantee, Items, Owned, QName, Rights,
+    RoleChanges, SequenceKind, Stmt, TypeName,
+};
 use copy_text::{Name, Text};
-use sql_lex::write_name;
 use std::alloc::AllocError;
 
 /// Appends the one written spelling of a statement, with its semicolon and a newline.
@@ -28,33 +30,40 @@ pub fn write_stmt(stmt: &Stmt, out: &mut Vec<u8>) -> Result<(), WriteStmtError>
     ensures err { OnErr result (out.new.items ≡ out.old.items) }
 {
     let len = out.len();
-    let written = put_stmt(stmt, out);
-    if written.is_err() {
-        out.truncate(len);
+    match put_stmt(stmt, out) {
+        Ok(()) => Ok(()),
+        Err(AllocError) => {
+            out.truncate(len);
+            Err(WriteStmtError::Memory)
+        }
     }
-    written
 }
 
 /// The same, where an error may leave some of the text.
-#[tactic(auto, unfolding(crate::specs::Spelling::spelling))]
-fn put_stmt(stmt: &Stmt, out: &mut Vec<u8>) -> Result<(), WriteStmtError>
+#[tactic(auto, unfolding(crate::specs::Spelling::spelling, crate::specs::Spelling::schema_text, crate::specs::Spelling::setting_text, crate::specs::Roles::role_text, crate::specs::Roles::connect_text))]
+fn put_stmt(stmt: &Stmt, out: &mut Vec<u8>) -> Written
     ensures ok { OnOk result (out.new.items ≡ out.old.items ++ spelling stmt.now) }
     ensures kept { Extends out.old.items out.new.items }
 {
     match stmt {
-        Stmt::CreateSchema { name } => put_schema(name, out)?,
-        Stmt::CreateEnum { q, labels } => put_enum(q, labels.as_slice(), out)?,
+        Stmt::CreateSchema { name } => {
+            put!(out; Words(b"CREATE SCHEMA "), Name(name), Words(b";\n"))
+        }
+        Stmt::CreateEnum { q, labels } => put_enum(q, labels.as_slice(), out),
         Stmt::CreateDomain {
             q,
             base,
             not_null,
             default,
             checks,
-        } => put_domain(q, base, *not_null, default, checks.as_slice(), out)?,
+        } => put_domain(q, base, *not_null, default, checks.as_slice(), out),
         Stmt::CreateTable { q, columns, checks } => {
-            put_table(q, columns.as_slice(), checks.as_slice(), out)?
+            put_table(q, columns.as_slice(), checks.as_slice(), out)
         }
-        Stmt::SetConfig { name, value } => put_setting(name, value, out)?,
+        Stmt::SetConfig { name, value } => {
+            put!(out; Literal(b"SELECT pg_catalog.set_config(", name), Literal(b", ", value),
+                Words(b", false);\n"))
+        }
         Stmt::CreateSequence {
             q,
             kind,
@@ -64,24 +73,24 @@ fn put_stmt(stmt: &Stmt, out: &mut Vec<u8>) -> Result<(), WriteStmtError>
             max,
             cache,
             cycle,
-        } => put_sequence(q, *kind, start, step, min, max, cache, *cycle, out)?,
-        Stmt::OwnedBy { q, table, column } => put_owned_by(q, table, column, out)?,
-        Stmt::SetVal { q, value, called } => put_value(q, value, *called, out)?,
-        Stmt::CreateView { q, body } => put_view(b"CREATE VIEW ", q, body, out)?,
-        Stmt::ReplaceView { q, body } => put_view(b"CREATE OR REPLACE VIEW ", q, body, out)?,
-        Stmt::SetDefault { q, column, text } => put_default(q, column, text, out)?,
+        } => put_sequence(q, *kind, start, step, min, max, cache, *cycle, out),
+        Stmt::OwnedBy { q, table, column } => put_owned_by(q, table, column, out),
+        Stmt::SetVal { q, value, called } => put_value(q, value, *called, out),
+        Stmt::CreateView { q, body } => put_view(b"CREATE VIEW ", q, body, out),
+        Stmt::ReplaceView { q, body } => put_view(b"CREATE OR REPLACE VIEW ", q, body, out),
+        Stmt::SetDefault { q, column, text } => put_default(q, column, text, out),
         Stmt::AddPrimary {
             q,
             name,
             columns,
             rest,
-        } => put_key(b" PRIMARY KEY ", q, name, columns.as_slice(), rest, out)?,
+        } => put_key(b" PRIMARY KEY ", q, name, columns.as_slice(), rest, out),
         Stmt::AddUnique {
             q,
             name,
             columns,
             rest,
-        } => put_key(b" UNIQUE ", q, name, columns.as_slice(), rest, out)?,
+        } => put_key(b" UNIQUE ", q, name, columns.as_slice(), rest, out),
         Stmt::AddForeign {
             q,
             name,
@@ -89,48 +98,42 @@ fn put_stmt(stmt: &Stmt, out: &mut Vec<u8>) -> Result<(), WriteStmtError>
             parent,
             parent_columns,
             rest,
-        } => put_foreign(
-            q,
-            name,
-            columns.as_slice(),
-            parent,
-            parent_columns.as_slice(),
-            rest,
-            out,
-        )?,
-        Stmt::AddCheck { q, name, text } => put_check(q, name, text, out)?,
+        } => put_foreign(q, name, columns, parent, parent_columns, rest, out),
+        Stmt::AddCheck { q, name, text } => put_added_check(q, name, text, out),
         Stmt::CreateIndex {
             q,
             name,
             method,
             rest,
-        } => put_index(b"CREATE INDEX ", q, name, method, rest, out)?,
+        } => put_index(b"CREATE INDEX ", q, name, method, rest, out),
         Stmt::CreateUniqueIndex {
             q,
             name,
             method,
             rest,
-        } => put_index(b"CREATE UNIQUE INDEX ", q, name, method, rest, out)?,
+        } => put_index(b"CREATE UNIQUE INDEX ", q, name, method, rest, out),
         Stmt::CopyRows { q, columns, rows } => {
-            put_copy(q, columns.as_slice(), rows.as_slice(), out)?
+            put_copy(q, columns.as_slice(), rows.as_slice(), out)
         }
-        Stmt::Set { name, value } => put_set(name, value, out)?,
-        Stmt::AddDomainCheck { q, name, text } => put_domain_check(q, name, text, out)?,
+        Stmt::Set { name, value } => put_set(name, value, out),
+        Stmt::AddDomainCheck { q, name, text } => put_domain_check(q, name, text, out),
         Stmt::Grant {
             object,
             rights,
             grantee,
             option,
-        } => put_grant(object, *rights, grantee, *option, out)?,
+        } => put_grant(object, *rights, grantee, *option, out),
         Stmt::Revoke {
             object,
             rights,
             grantee,
-        } => put_revoke(object, *rights, grantee, out)?,
-        Stmt::Comment { object, text } => put_comment(object, text, out)?,
-        Stmt::OwnerTo { object, role } => put_owner(object, role, out)?,
-        Stmt::CreateRole { name } => put_role(name, out)?,
-        Stmt::AlterRole { name, changes } => put_changes(name, changes, out)?,
+        } => put_revoke(object, *rights, grantee, out),
+        Stmt::Comment { object, text } => put_comment(object, text, out),
+        Stmt::OwnerTo { object, role } => put_owner(object, role, out),
+        Stmt::CreateRole { name } => {
+            put!(out; Words(b"CREATE ROLE "), Name(name), Words(b";\n"))
+        }
+        Stmt::AlterRole { name, changes } => put_changes(name, changes, out),
         Stmt::GrantRole {
             role,
             member,
@@ -138,86 +141,371 @@ fn put_stmt(stmt: &Stmt, out: &mut Vec<u8>) -> Result<(), WriteStmtError>
             admin,
             inherit,
             set,
-        } => put_member(role, member, grantor, *admin, *inherit, *set, out)?,
-        Stmt::CreateDatabase { name, encoding } => put_database(name, *encoding, out)?,
-        Stmt::Connect { name } => put_connect(name, out)?,
+        } => put_member(role, member, grantor, *admin, *inherit, *set, out),
+        Stmt::CreateDatabase { name, encoding } => put_database(name, *encoding, out),
+        Stmt::Connect { name } => { put!(out; Words(b"\\connect "), Name(name), Words(b"\n")) }
     }
+}
+
+/// CREATE TYPE .. AS ENUM.
+#[tactic(auto, unfolding(crate::specs::Tables::enum_text))]
+fn put_enum<'a>(q: &'a QName, labels: &'a [Text], out: &mut Vec<u8>) -> Written
+    ensures ok { OnOk result (out.new.items ≡ out.old.items ++ enum_text q.now labels.now) }
+    ensures kept { Extends out.old.items out.new.items }
+{
+    put!(out; Words(b"CREATE TYPE "), Path(q), Words(b" AS ENUM ("), Labels(labels), Words(b");\n"))
+}
+
+/// CREATE DOMAIN.
+#[tactic(auto, unfolding(crate::specs::Tables::domain_text))]
+fn put_domain<'a>(
+    q: &'a QName,
+    base: &'a TypeName,
+    not_null: bool,
+    default: &'a Option<Text>,
+    checks: &'a [CheckDef],
+    out: &mut Vec<u8>,
+) -> Written
+    ensures ok { OnOk result (out.new.items ≡ out.old.items ++ domain_text q.now base.now not_null default.now checks.now) }
+    ensures kept { Extends out.old.items out.new.items }
+{
+    put!(out; Words(b"CREATE DOMAIN "), Path(q), Words(b" AS "), TypeName(base),
+        OnlyIf(not_null, b" NOT NULL"), Default(default), Checks(b"\n\t", checks), Words(b";\n"))
+}
+
+/// CREATE TABLE.
+#[tactic(auto, unfolding(crate::specs::Tables::table_text))]
+fn put_table(q: &QName, columns: &[ColumnDef], checks: &[CheckDef], out: &mut Vec<u8>) -> Written
+    ensures ok { OnOk result (out.new.items ≡ out.old.items ++ table_text q.now columns.now checks.now) }
+    ensures kept { Extends out.old.items out.new.items }
+{
+    put!(out; Words(b"CREATE TABLE "), Path(q), Words(b" ("))?;
+    put_elements(columns, checks, out)?;
+    out.extend_from_slice(b");\n")?;
     Ok(())
 }
 
-#[tactic(auto, unfolding(crate::specs::Spelling::schema_text))]
-fn put_schema(name: &Name, out: &mut Vec<u8>) -> Result<(), AllocError>
-    ensures ok { OnOk result (out.new.items ≡ out.old.items ++ schema_text name.now) }
+/// CREATE SEQUENCE.
+#[tactic(auto, unfolding(crate::specs::Sequences::sequence_text))]
+fn put_sequence<'a>(
+    q: &'a QName,
+    kind: SequenceKind,
+    start: &'a i64,
+    step: &'a i64,
+    min: &'a i64,
+    max: &'a i64,
+    cache: &'a i64,
+    cycle: bool,
+    out: &mut Vec<u8>,
+) -> Written
+    ensures ok { OnOk result (out.new.items ≡ out.old.items ++ sequence_text q.now kind start.now step.now min.now max.now cache.now cycle) }
     ensures kept { Extends out.old.items out.new.items }
 {
-    out.extend_from_slice(b"CREATE SCHEMA ")?;
-    write_name(name.as_bytes(), out)?;
-    out.extend_from_slice(b";\n")
+    put!(out; Words(b"CREATE SEQUENCE "), Path(q), Words(type_words(kind)),
+        Words(b"\n    START WITH "), Number(start), Words(b"\n    INCREMENT BY "), Number(step),
+        Min(kind, step, min), Max(kind, step, max),
+        Words(b"\n    CACHE "), Number(cache), OnlyIf(cycle, b"\n    CYCLE"), Words(b";\n"))
 }
 
+/// ALTER SEQUENCE .. OWNED BY.
+#[tactic(auto, unfolding(crate::specs::Sequences::owned_by_text))]
+fn put_owned_by<'a>(q: &'a QName, table: &'a QName, column: &'a Name, out: &mut Vec<u8>) -> Written
+    ensures ok { OnOk result (out.new.items ≡ out.old.items ++ owned_by_text q.now table.now column.now) }
+    ensures kept { Extends out.old.items out.new.items }
+{
+    put!(out; Words(b"ALTER SEQUENCE "), Path(q), Words(b" OWNED BY "), Path(table), Words(b"."),
+        Name(column), Words(b";\n"))
+}
+
+/// SELECT pg_catalog.setval.
+#[tactic(auto, unfolding(crate::specs::Sequences::value_text))]
+fn put_value<'a>(q: &'a QName, value: &'a i64, called: bool, out: &mut Vec<u8>) -> Written
+    ensures ok { OnOk result (out.new.items ≡ out.old.items ++ value_text q.now value.now called) }
+    ensures kept { Extends out.old.items out.new.items }
+{
+    put!(out; Words(b"SELECT pg_catalog.setval("), PathLiteral(q), Words(b", "), Number(value),
+        Words(called_words(called)), Words(b";\n"))
+}
+
+/// CREATE VIEW or CREATE OR REPLACE VIEW, by its first words.
+#[tactic(auto, unfolding(crate::specs::Views::view_text))]
+fn put_view<'a>(words: &'a [u8], q: &'a QName, body: &'a Text, out: &mut Vec<u8>) -> Written
+    ensures ok { OnOk result (out.new.items ≡ out.old.items ++ view_text words.now q.now body.now) }
+    ensures kept { Extends out.old.items out.new.items }
+{
+    put!(out; Words(words), Path(q), Words(b" AS\n"), Body(body), Words(b";\n"))
+}
+
+/// ALTER TABLE .. ALTER COLUMN .. SET DEFAULT.
+#[tactic(auto, unfolding(crate::specs::Views::default_text))]
+fn put_default<'a>(q: &'a QName, column: &'a Name, text: &'a Text, out: &mut Vec<u8>) -> Written
+    ensures ok { OnOk result (out.new.items ≡ out.old.items ++ default_text q.now column.now text.now) }
+    ensures kept { Extends out.old.items out.new.items }
+{
+    put!(out; Words(b"ALTER TABLE ONLY "), Path(q), Words(b" ALTER COLUMN "), Name(column),
+        Words(b" SET DEFAULT "), Text(text), Words(b";\n"))
+}
+
+/// ADD CONSTRAINT .. PRIMARY KEY or UNIQUE, by these words.
+#[tactic(auto, unfolding(crate::specs::Keys::key_text))]
+fn put_key<'a>(
+    words: &'a [u8],
+    q: &'a QName,
+    name: &'a Name,
+    columns: &'a [Name],
+    rest: &'a Text,
+    out: &mut Vec<u8>,
+) -> Written
+    ensures ok { OnOk result (out.new.items ≡ out.old.items ++ key_text words.now q.now name.now columns.now rest.now) }
+    ensures kept { Extends out.old.items out.new.items }
+{
+    put!(out; Words(b"ALTER TABLE ONLY "), Path(q), Words(b"\n    ADD CONSTRAINT "), Name(name),
+        Words(words), Names(columns), Rest(rest), Words(b";\n"))
+}
+
+/// ADD CONSTRAINT .. FOREIGN KEY.
+#[tactic(auto, unfolding(crate::specs::Keys::foreign_text))]
+fn put_foreign<'a>(
+    q: &'a QName,
+    name: &'a Name,
+    columns: &'a Items<Name>,
+    parent: &'a QName,
+    parent_columns: &'a Items<Name>,
+    rest: &'a Text,
+    out: &mut Vec<u8>,
+) -> Written
+    ensures ok { OnOk result (out.new.items ≡ out.old.items ++ foreign_text q.now name.now columns.now parent.now parent_columns.now rest.now) }
+    ensures kept { Extends out.old.items out.new.items }
+{
+    put!(out; Words(b"ALTER TABLE ONLY "), Path(q), Words(b"\n    ADD CONSTRAINT "), Name(name),
+        Words(b" FOREIGN KEY "), Names(columns.as_slice()), Words(b" REFERENCES "), Path(parent),
+        Names(parent_columns.as_slice()), Rest(rest), Words(b";\n"))
+}
+
+/// ADD CONSTRAINT .. CHECK.
+#[tactic(auto, unfolding(crate::specs::Keys::added_check_text))]
+fn put_added_check<'a>(q: &'a QName, name: &'a Name, text: &'a Text, out: &mut Vec<u8>) -> Written
+    ensures ok { OnOk result (out.new.items ≡ out.old.items ++ added_check_text q.now name.now text.now) }
+    ensures kept { Extends out.old.items out.new.items }
+{
+    put!(out; Words(b"ALTER TABLE ONLY "), Path(q), Words(b"\n    ADD CONSTRAINT "), Name(name),
+        Words(b" CHECK ("), Text(text), Words(b");\n"))
+}
+
+/// CREATE INDEX or CREATE UNIQUE INDEX, by its first words.
+#[tactic(auto, unfolding(crate::specs::Keys::index_text))]
+fn put_index<'a>(
+    words: &'a [u8],
+    q: &'a QName,
+    name: &'a Name,
+    method: &'a Name,
+    rest: &'a Text,
+    out: &mut Vec<u8>,
+) -> Written
+    ensures ok { OnOk result (out.new.items ≡ out.old.items ++ index_text words.now q.now name.now method.now rest.now) }
+    ensures kept { Extends out.old.items out.new.items }
+{
+    put!(out; Words(words), Name(name), Words(b" ON "), Path(q), Words(b" USING "), Name(method),
+        Words(b" "), Text(rest), Words(b";\n"))
+}
+
+/// COPY with its rows; no columns stand for all.
+#[tactic(auto, unfolding(crate::specs::RowsText::copy_text))]
+fn put_copy<'a>(q: &'a QName, columns: &'a [Name], rows: &'a [u8], out: &mut Vec<u8>) -> Written
+    ensures ok { OnOk result (out.new.items ≡ out.old.items ++ copy_text q.now columns.now rows.now) }
+    ensures kept { Extends out.old.items out.new.items }
+{
+    match columns {
+        [] =>
+            put!(out; Words(b"COPY "), Path(q), Words(b" FROM stdin;\n"), Words(rows), Words(b"\\.\n")),
+        columns => put!(out; Words(b"COPY "), Path(q), Words(b" "), Names(columns),
+            Words(b" FROM stdin;\n"), Words(rows), Words(b"\\.\n")),
+    }
+}
+
+/// SET.
 #[tactic(auto, unfolding(crate::specs::Spelling::set_text))]
-fn put_set(name: &Name, value: &Text, out: &mut Vec<u8>) -> Result<(), AllocError>
+fn put_set<'a>(name: &'a Name, value: &'a Text, out: &mut Vec<u8>) -> Written
     ensures ok { OnOk result (out.new.items ≡ out.old.items ++ set_text name.now value.now) }
     ensures kept { Extends out.old.items out.new.items }
 {
-    out.extend_from_slice(b"SET ")?;
-    write_name(name.as_bytes(), out)?;
-    out.extend_from_slice(b" = ")?;
-    out.extend_from_slice(value.as_bytes())?;
-    out.extend_from_slice(b";\n")
+    put!(out; Words(b"SET "), Name(name), Words(b" = "), Text(value), Words(b";\n"))
 }
 
-#[tactic(auto, unfolding(crate::specs::Spelling::setting_text))]
-fn put_setting(name: &Text, value: &Text, out: &mut Vec<u8>) -> Result<(), AllocError>
-    ensures ok { OnOk result (out.new.items ≡ out.old.items ++ setting_text name.now value.now) }
-    ensures kept { Extends out.old.items out.new.items }
-{
-    put_literal(b"SELECT pg_catalog.set_config(", name, out)?;
-    put_literal(b", ", value, out)?;
-    out.extend_from_slice(b", false);\n")?;
-    Ok(())
-}
-
-#[tactic(auto, unfolding(crate::specs::Spelling::owner_text))]
-fn put_owner(object: &Owned, role: &Name, out: &mut Vec<u8>) -> Result<(), AllocError>
-    ensures ok { OnOk result (out.new.items ≡ out.old.items ++ owner_text object.now role.now) }
-    ensures kept { Extends out.old.items out.new.items }
-{
-    out.extend_from_slice(b"ALTER ")?;
-    put_owned(object, out)?;
-    out.extend_from_slice(b" OWNER TO ")?;
-    write_name(role.as_bytes(), out)?;
-    out.extend_from_slice(b";\n")
-}
-
-#[tactic(auto, unfolding(crate::specs::Spelling::owned_object))]
-fn put_owned(object: &Owned, out: &mut Vec<u8>) -> Result<(), AllocError>
-    ensures ok { OnOk result (out.new.items ≡ out.old.items ++ owned_object object.now) }
-    ensures kept { Extends out.old.items out.new.items }
-{
-    match object {
-        Owned::Schema(name) => put_named(b"SCHEMA ", name, out),
-        Owned::Type(q) => put_path(b"TYPE ", q, out),
-        Owned::Domain(q) => put_path(b"DOMAIN ", q, out),
-        Owned::Table(q) => put_path(b"TABLE ", q, out),
-        Owned::Sequence(q) => put_path(b"SEQUENCE ", q, out),
-        Owned::View(q) => put_path(b"VIEW ", q, out),
-        Owned::Database(name) => put_named(b"DATABASE ", name, out),
-    }
-}
-
+/// ALTER DOMAIN .. ADD.
 #[tactic(auto, unfolding(crate::specs::Spelling::domain_check_text))]
-fn put_domain_check(
-    q: &QName,
-    name: &Name,
-    text: &Text,
-    out: &mut Vec<u8>,
-) -> Result<(), AllocError>
+fn put_domain_check<'a>(q: &'a QName, name: &'a Name, text: &'a Text, out: &mut Vec<u8>) -> Written
     ensures ok { OnOk result (out.new.items ≡ out.old.items ++ domain_check_text q.now name.now text.now) }
     ensures kept { Extends out.old.items out.new.items }
 {
-    put_path(b"ALTER DOMAIN ", q, out)?;
-    put_named_check(b"\n    ADD ", name, text, out)?;
-    out.extend_from_slice(b";\n")?;
-    Ok(())
+    put!(out; Words(b"ALTER DOMAIN "), Path(q), Words(b"\n    ADD "), Check(name, text), Words(b";\n"))
+}
+
+/// GRANT.
+#[tactic(auto, unfolding(crate::specs::RightsText::grant_text))]
+fn put_grant<'a>(
+    object: &'a Granted,
+    rights: Rights,
+    grantee: &'a Grantee,
+    option: bool,
+    out: &mut Vec<u8>,
+) -> Written
+    ensures ok { OnOk result (out.new.items ≡ out.old.items ++ grant_text object.now rights grantee.now option) }
+    ensures kept { Extends out.old.items out.new.items }
+{
+    put!(out; Words(b"GRANT "), Rights(object, rights), On(object), Words(b" TO "), Whom(grantee),
+        OnlyIf(option, b" WITH GRANT OPTION"), Words(b";\n"))
+}
+
+/// REVOKE.
+#[tactic(auto, unfolding(crate::specs::RightsText::revoke_text))]
+fn put_revoke<'a>(
+    object: &'a Granted,
+    rights: Rights,
+    grantee: &'a Grantee,
+    out: &mut Vec<u8>,
+) -> Written
+    ensures ok { OnOk result (out.new.items ≡ out.old.items ++ revoke_text object.now rights grantee.now) }
+    ensures kept { Extends out.old.items out.new.items }
+{
+    put!(out; Words(b"REVOKE "), Rights(object, rights), On(object), Words(b" FROM "), Whom(grantee),
+        Words(b";\n"))
+}
+
+/// OWNER TO.
+#[tactic(auto, unfolding(crate::specs::Spelling::owner_text))]
+fn put_owner<'a>(object: &'a Owned, role: &'a Name, out: &mut Vec<u8>) -> Written
+    ensures ok { OnOk result (out.new.items ≡ out.old.items ++ owner_text object.now role.now) }
+    ensures kept { Extends out.old.items out.new.items }
+{
+    put!(out; Words(b"ALTER "), Owned(object), Words(b" OWNER TO "), Name(role), Words(b";\n"))
+}
+
+/// ALTER ROLE.
+#[tactic(auto, unfolding(crate::specs::Roles::changes_text))]
+fn put_changes<'a>(name: &'a Name, changes: &'a RoleChanges, out: &mut Vec<u8>) -> Written
+    ensures ok { OnOk result (out.new.items ≡ out.old.items ++ changes_text name.now changes.now) }
+    ensures kept { Extends out.old.items out.new.items }
+{
+    put!(out; Words(b"ALTER ROLE "), Name(name), Words(b" WITH"),
+        Flag(b"SUPERUSER", changes.superuser), Flag(b"INHERIT", changes.inherit),
+        Flag(b"CREATEROLE", changes.create_role), Flag(b"CREATEDB", changes.create_db),
+        Flag(b"LOGIN", changes.login), Flag(b"REPLICATION", changes.replication),
+        Flag(b"BYPASSRLS", changes.bypass_rls), Limit(changes.limit),
+        GivenLiteral(b" PASSWORD ", &changes.password),
+        GivenLiteral(b" VALID UNTIL ", &changes.valid_until), Words(b";\n"))
+}
+
+/// GRANT of a role.
+#[tactic(auto, unfolding(crate::specs::Roles::member_text))]
+fn put_member<'a>(
+    role: &'a Name,
+    member: &'a Name,
+    grantor: &'a Option<Name>,
+    admin: bool,
+    inherit: Option<bool>,
+    set: bool,
+    out: &mut Vec<u8>,
+) -> Written
+    ensures ok { OnOk result (out.new.items ≡ out.old.items ++ member_text role.now member.now grantor.now admin inherit set) }
+    ensures kept { Extends out.old.items out.new.items }
+{
+    put!(out; Words(b"GRANT "), Name(role), Words(b" TO "), Name(member), Words(b" WITH ADMIN "),
+        Words(truth(admin)), Words(inherit_words(inherit)), Words(b", SET "), Words(truth(set)),
+        GivenName(b" GRANTED BY ", grantor), Words(b";\n"))
+}
+
+/// CREATE DATABASE.
+#[tactic(auto, unfolding(crate::specs::Roles::database_text))]
+fn put_database<'a>(name: &'a Name, encoding: Option<Encoding>, out: &mut Vec<u8>) -> Written
+    ensures ok { OnOk result (out.new.items ≡ out.old.items ++ database_text name.now encoding) }
+    ensures kept { Extends out.old.items out.new.items }
+{
+    put!(out; Words(b"CREATE DATABASE "), Name(name), Words(b" WITH TEMPLATE = template0"),
+        Words(encoding_words(encoding)), Words(b";\n"))
+}
+
+/// COMMENT ON.
+#[tactic(auto, unfolding(crate::specs::RightsText::comment_text))]
+fn put_comment<'a>(object: &'a Commented, text: &'a Option<Text>, out: &mut Vec<u8>) -> Written
+    ensures ok { OnOk result (out.new.items ≡ out.old.items ++ comment_text object.now text.now) }
+    ensures kept { Extends out.old.items out.new.items }
+{
+    match object {
+        Commented::Schema(name) => {
+            put!(out; Words(b"COMMENT ON SCHEMA "), Name(name), Remark(text), Words(b";\n"))
+        }
+        Commented::Type(q) => {
+            put!(out; Words(b"COMMENT ON TYPE "), Path(q), Remark(text), Words(b";\n"))
+        }
+        Commented::Domain(q) => {
+            put!(out; Words(b"COMMENT ON DOMAIN "), Path(q), Remark(text), Words(b";\n"))
+        }
+        Commented::Table(q) => {
+            put!(out; Words(b"COMMENT ON TABLE "), Path(q), Remark(text), Words(b";\n"))
+        }
+        Commented::View(q) => {
+            put!(out; Words(b"COMMENT ON VIEW "), Path(q), Remark(text), Words(b";\n"))
+        }
+        Commented::Sequence(q) => {
+            put!(out; Words(b"COMMENT ON SEQUENCE "), Path(q), Remark(text), Words(b";\n"))
+        }
+        Commented::Index(q) => {
+            put!(out; Words(b"COMMENT ON INDEX "), Path(q), Remark(text), Words(b";\n"))
+        }
+        Commented::Column(q, column) => {
+            put!(out; Words(b"COMMENT ON COLUMN "), Path(q), Words(b"."), Name(column), Remark(text),
+                Words(b";\n"))
+        }
+        Commented::Constraint(q, name) => {
+            put!(out; Words(b"COMMENT ON CONSTRAINT "), Name(name), Words(b" ON "), Path(q),
+                Remark(text), Words(b";\n"))
+        }
+    }
+}
+
+/// The words of a sequence's type, but for bigint.
+fn type_words(kind: SequenceKind) -> &'static [u8]
+    ensures { result.now ≡ type_words kind }
+{
+    match kind {
+        SequenceKind::SmallInt => b"\n    AS smallint",
+        SequenceKind::Integer => b"\n    AS integer",
+        SequenceKind::BigInt => b"",
+    }
+}
+
+/// Whether a sequence's value was given out, and the closing bracket.
+fn called_words(called: bool) -> &'static [u8]
+    ensures { result.now ≡ called_words called }
+{
+    if called { b", true)" } else { b", false)" }
+}
+
+/// TRUE or FALSE.
+fn truth(flag: bool) -> &'static [u8]
+    ensures { result.now ≡ truth flag }
+{
+    if flag { b"TRUE" } else { b"FALSE" }
+}
+
+/// INHERIT of a membership, where it is named.
+fn inherit_words(inherit: Option<bool>) -> &'static [u8]
+    ensures { result.now ≡ inherit_text inherit }
+{
+    match inherit {
+        None => b"",
+        Some(true) => b", INHERIT TRUE",
+        Some(false) => b", INHERIT FALSE",
+    }
+}
+
+/// The encoding of a database, where it is named.
+fn encoding_words(encoding: Option<Encoding>) -> &'static [u8]
+    ensures { result.now ≡ encoding_text encoding }
+{
+    match encoding {
+        None => b"",
+        Some(Encoding::Utf8) => b" ENCODING = 'UTF8'",
+    }
 }

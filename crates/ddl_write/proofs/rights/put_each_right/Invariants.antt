@@ -7,5 +7,5 @@ use Rattle.ddl_write.proofs.rights.put_each_right.Given as goal
 
 abbrev pub invariant-loop-right : goal.invariant-loop-right
 invariant-loop-right l =
-    (l.out.items ≡ l.initial.out.items ++ with_commas (flat_map (λ right. word_there right.is_there right.word.now) (take l.right-index l.rights)))
-    × (l.any ≡ any_word (flat_map (λ right. word_there right.is_there right.word.now) (take l.right-index l.rights)))
+    (l.out.items ≡ l.initial.out.items ++ with_commas (flat_map (λ right. word_there right.0 right.1.now) (take l.right-index l.rights)))
+    × (l.any ≡ any_word (flat_map (λ right. word_there right.0 right.1.now) (take l.right-index l.rights)))

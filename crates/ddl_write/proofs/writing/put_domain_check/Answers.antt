@@ -4,5 +4,4 @@ use Rattle.ddl_write.proofs.writing.put_domain_check.Goals as goal
 
 pub returns-clause-ok : goal.returns-clause-ok
 unfolding domain_check_text
-returns-clause-ok c =
-    rw (c.in_ok-extend_from_slice.ensures.items, c.in_ok-put_named_check.ensures.ok, c.in_ok-put_path.ensures.ok) (simp append_assoc)
+returns-clause-ok c = simp append_assoc c.put_all.ensures.ok

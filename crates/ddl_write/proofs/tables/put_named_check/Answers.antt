@@ -1,8 +1,0 @@
-use Rattle.std.proofs.Common.{append_assoc}
-use Rattle.ddl_write.specs.Tables.{check_text}
-use Rattle.ddl_write.proofs.tables.put_named_check.Goals as goal
-
-pub returns-clause-ok : goal.returns-clause-ok
-unfolding check_text
-returns-clause-ok c =
-    rw (c.in_ok-extend_from_slice-4.ensures.items, c.in_ok-extend_from_slice-3.ensures.items, c.as_bytes.ensures.value, c.in_ok-extend_from_slice-2.ensures.items, c.in_ok-put_named.ensures.ok, c.in_ok-extend_from_slice.ensures.items) (simp append_assoc)
