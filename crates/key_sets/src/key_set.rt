@@ -1,6 +1,7 @@
 //! Numbers by their places, and other keys by their hashes.
-ghost use Rattle.std.specs.Prelude.{◌≡◌, ◌<◌, ◌||◌, List, ℕ, not, true, false, IfOk, OnOk, length, get_or, set};
+ghost use Rattle.std.specs.Prelude.{◌≡◌, ◌<◌, ◌||◌, ◌&&◌, List, ℕ, not, true, false, IfOk, IsTrue, OnOk, length, get_or, set};
 ghost use Rattle.cat_model.specs.Lexemes.{same_text};
+ghost use Rattle.key_sets.specs.Numbers.{is_numbered};
 ghost use Rattle.key_sets.specs.Holding.{holds};
 
 use crate::number::place_of;
@@ -45,6 +46,22 @@ impl<'t> KeySet<'t> {
             Some(place) => Ok(mark(&mut self.numbered, place)),
             None => Ok(self.others.insert(key)?),
         }
+    }
+
+    /// Adds a key that has a place and is new; whether it was added. Nothing of the key is held, and no memory is taken.
+    pub fn insert_number(&mut self, key: &[u8]) -> bool
+        ensures new { result ≡ (is_numbered (length self.old.numbered.items) key.now && not (holds self.old key.now)) }
+        ensures added { IsTrue result → (other : List ℕ) → holds self.new other ≡ (same_text key.now other || holds self.old other) }
+        ensures kept { result ≡ false → self.new ≡ self.old }
+    {
+        let Some(place) = place_of(key, self.numbered.len()) else {
+            return false;
+        };
+        if self.numbered[place] {
+            return false;
+        }
+        self.numbered[place] = true;
+        true
     }
 }
 
