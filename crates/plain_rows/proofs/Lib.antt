@@ -4,3 +4,4 @@ pub mod CopiedLines
 pub mod LineKeys
 pub mod Rising
 pub mod RisingLines
+mod PartLines

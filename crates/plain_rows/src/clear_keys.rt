@@ -88,7 +88,7 @@ pub(crate) fn clear_key_set<'t>(
 }
 
 /// Whether the key of each line of a text without an escape is one of these.
-pub(crate) fn clear_keys_are_among(
+pub fn clear_keys_are_among(
     columns: &TableColumns,
     place: usize,
     text: &[u8],

@@ -63,8 +63,8 @@ fn fitting_piece<'t>(
     None
 }
 
-// The key of a text's first line in the column at a place, and what stands behind the line, where the line fits the table.
-fn fitting_key<'t>(
+/// The key of a text's first line in the column at a place, and what stands behind the line, where the line fits the table.
+pub(crate) fn fitting_key<'t>(
     columns: &TableColumns,
     place: usize,
     text: TextAhead<'t>,

@@ -9,7 +9,10 @@ mod fitting;
 mod fused;
 mod keys;
 pub mod laws;
+mod parts;
 
+pub use clear_keys::clear_keys_are_among;
 pub use fitting::rows_fit;
 pub use fused::rows_fit_rising;
 pub use keys::{key_set, keys_are_among, keys_differ, keys_rise};
+pub use parts::{is_part, part_fits};
