@@ -1,3 +1,4 @@
 mod Holding
 mod Without
 mod Steps
+mod PartsSeen

@@ -78,7 +78,7 @@ module _ (m n : Named) (same : (k : Key) → is_rows k ≡ false → get m k ≡
 
 -- ---- all of a list
 
-all_append : {A : Type 0} (P : A → Type 0) (xs ys : List A) → AllByRecursion P xs → AllByRecursion P ys → AllByRecursion P (xs ++ ys)
+pub all_append : {A : Type 0} (P : A → Type 0) (xs ys : List A) → AllByRecursion P xs → AllByRecursion P ys → AllByRecursion P (xs ++ ys)
 all_append P [] ys one other = other
 all_append P (x ∷ xs) ys one other = (one.0, all_append P xs ys one.1 other)
 

@@ -122,7 +122,10 @@ fn constraint_parts<'m>(
     }
 }
 
-fn foreign_parts<'m>(key: &'m Key, value: &'m Value) -> Option<(&'m [Name], &'m QName, &'m [Name])>
+pub(crate) fn foreign_parts<'m>(
+    key: &'m Key,
+    value: &'m Value,
+) -> Option<(&'m [Name], &'m QName, &'m [Name])>
     ensures { option_map {U = Parts} (λ p. (p.0.now, p.1.now, p.2.now)) result ≡ option_map parts (foreign_in (key.now, value.now)) }
 {
     match key {

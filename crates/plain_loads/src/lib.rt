@@ -7,6 +7,8 @@ mod foreigns;
 mod lines;
 mod meeting;
 mod parents;
+mod trying;
 mod uniques;
 
 pub use meeting::rows_meet;
+pub use trying::{KnownKeys, TableTrial, begin_trial};

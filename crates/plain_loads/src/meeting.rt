@@ -54,7 +54,7 @@ fn primary_in(value: &Value) -> Option<&[Name]>
 }
 
 // The columns of the first primary key among these; none where there is none.
-fn primary_columns<'m>(constraints: &[(&'m Key, &'m Value)]) -> &'m [Name]
+pub(crate) fn primary_columns<'m>(constraints: &[(&'m Key, &'m Value)]) -> &'m [Name]
     ensures { result.now ≡ primary_columns (map (deref_pair {K = TheKey} {X = TheValue}) constraints.now) }
 {
     for i in 0..constraints.len() {
@@ -76,7 +76,10 @@ fn columns_in(found: Option<&Value>) -> Option<&[Column]>
 }
 
 // The columns of a table that is there.
-fn table_columns<'m>(named: &'m NamedMap, q: &QName) -> Result<Option<&'m [Column]>, AllocError>
+pub(crate) fn table_columns<'m>(
+    named: &'m NamedMap,
+    q: &QName,
+) -> Result<Option<&'m [Column]>, AllocError>
     ensures { IfOk result (λ found. IfSome found (λ columns. get named.now (key.Rel q.now) ≡ Some (value.Table columns.now))) }
 {
     let key = Key::Rel(q.clone()?);
@@ -86,7 +89,7 @@ fn table_columns<'m>(named: &'m NamedMap, q: &QName) -> Result<Option<&'m [Colum
 }
 
 // The constraints of a table.
-fn constraints_of<'m>(
+pub(crate) fn constraints_of<'m>(
     named: &'m NamedMap,
     q: &QName,
 ) -> Result<Vec<(&'m Key, &'m Value)>, AllocError>
@@ -96,7 +99,10 @@ fn constraints_of<'m>(
 }
 
 // The indexes of a table.
-fn indexes_of<'m>(named: &'m NamedMap, q: &QName) -> Result<Vec<(&'m Key, &'m Value)>, AllocError>
+pub(crate) fn indexes_of<'m>(
+    named: &'m NamedMap,
+    q: &QName,
+) -> Result<Vec<(&'m Key, &'m Value)>, AllocError>
     ensures { IfOk result (λ found. map (deref_pair {K = TheKey} {X = TheValue}) found.items ≡ indexes_of named.now q.now) }
 {
     entries_of(named, Class::Indexes(q.clone()?))
@@ -161,7 +167,7 @@ fn path_meets(
 }
 
 // Whether a table has this many columns.
-fn has_columns(named: &NamedMap, q: &QName, many: usize) -> Result<bool, AllocError>
+pub(crate) fn has_columns(named: &NamedMap, q: &QName, many: usize) -> Result<bool, AllocError>
     ensures { IfOk result (λ has. IsTrue has → (columns : List TheColumn) → get named.now (key.Rel q.now) ≡ Some (value.Table columns) → length columns ≡ many) }
 {
     match table_columns(named, q)? {

@@ -45,7 +45,7 @@ fn is_table_at(book: &Book<'_>, path: &QName, row: &ClassRow) -> bool
 }
 
 // The oid of the first table of a path.
-fn first_table(book: &Book<'_>, path: &QName) -> Option<u32>
+pub(crate) fn first_table(book: &Book<'_>, path: &QName) -> Option<u32>
     ensures { result ≡ first_table book.now path.now book.now.pg_class }
 {
     first_among(book, path, book.tables().pg_class.as_slice())

@@ -69,7 +69,7 @@ fn rows_differ(
     }
 }
 
-fn is_place(found: Option<usize>, place: usize) -> bool
+pub(crate) fn is_place(found: Option<usize>, place: usize) -> bool
     ensures { IsTrue result → found ≡ Some place }
 {
     found == Some(place)
@@ -144,7 +144,7 @@ fn index_columns(alloc: Global, value: &Value) -> Result<Option<Items<Name>>, Al
 }
 
 // The columns of what keeps rows apart.
-fn unique_columns(
+pub(crate) fn unique_columns(
     alloc: Global,
     key: &Key,
     value: &Value,
