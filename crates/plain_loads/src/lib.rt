@@ -11,4 +11,4 @@ mod trying;
 mod uniques;
 
 pub use meeting::rows_meet;
-pub use trying::{KnownKeys, TableTrial, begin_trial};
+pub use trying::{KnownKeys, TableTrial, bare_map, begin_trial};

@@ -221,7 +221,7 @@ fn named_meets(
 }
 
 // Whether texts hold rows of their tables.
-fn have_rows(alloc: Global, cat: &WellFormed, rows: &DataSet) -> Result<bool, AllocError>
+pub(crate) fn have_rows(alloc: Global, cat: &WellFormed, rows: &DataSet) -> Result<bool, AllocError>
     ensures { IfOk result (λ have. IsTrue have → values_fault cat.now rows.now ≡ None) }
 {
     match check_values(alloc, cat.rows(), rows) {

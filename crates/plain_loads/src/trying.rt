@@ -18,26 +18,33 @@ ghost use Rattle.cat_model.specs.Tables.{orphan};
 ghost use Rattle.cat_model.specs.Trees.{same_path};
 ghost use Rattle.cat_names.specs.DataSets.{TextsByOid};
 ghost use Rattle.rows_named.specs.Tables.{first_table};
-ghost use Rattle.table_rows.specs.Values.{text_of};
+ghost use Rattle.cat_load.specs.Loads.{rows_fault};
+ghost use Rattle.table_rows.specs.Tables.{table_oids};
+ghost use Rattle.table_rows.specs.Values.{text_of, values_fault};
 ghost use Rattle.row_keys.specs.ByPlaces.{place_in};
 ghost use Rattle.plain_rows.specs.Lines.{LineFits, line_keys, none_again};
 ghost use Rattle.plain_rows.specs.Parts.{AreApart};
 ghost use Rattle.plain_loads.specs.declared.trying.KnownKeys.{KnownKeys as TheKnownKeys};
-ghost use Rattle.plain_loads.specs.Meeting.{Differ, HasParents, constraints_of, indexes_of, parent_text};
+ghost use Rattle.plain_loads.specs.Meeting.{Differ, HasParents, TableTakes, constraints_of, indexes_of, parent_text};
 ghost use Rattle.plain_loads.specs.Trying.{IsKnown, Judges, LinkHolds, Seen, Tries};
 
 use crate::foreigns::foreign_parts;
-use crate::meeting::{constraints_of, has_columns, indexes_of, primary_columns, table_columns};
+use crate::meeting::{
+    constraints_of, has_columns, have_rows, indexes_of, primary_columns, table_columns,
+};
 use crate::parents::{columns_under, first_table};
 use crate::uniques::{is_place, one_place, unique_columns};
 use cat_book::Book;
 use cat_model::{Column, Key, QName, Value};
+use cat_names::DataSet;
+use cat_naming::catalogue_map;
 use copy_text::Name;
 use eng_map::NamedMap;
 use field_values::TableColumns;
 use key_sets::KeySet;
 use plain_rows::{clear_keys_are_among, is_part, part_fits, rows_fit};
 use std::alloc::{AllocError, Global};
+use well_formed::WellFormed;
 
 /// The numbers that the lines of a table's text have as keys in one column.
 #[derive(Drop)]
@@ -73,6 +80,20 @@ struct Trying<'t, 'b, 'k> {
     named: &'t NamedMap,
     book: &'t Book<'b>,
     known: &'k [KnownKeys],
+}
+
+/// The catalogue by names, with no table's rows, that tables are tried with: where each table takes the text that stands for it,
+/// the texts hold rows of the tables, which meet them. `None` where no text at all doesn't do for a table. The error is that memory
+/// ran out.
+pub fn bare_map(alloc: Global, cat: &WellFormed) -> Result<Option<NamedMap>, AllocError>
+    ensures hold { IfOk result (λ found. IfSome found (λ named. (texts : TextsByOid) → AllByRecursion (TableTakes named cat.now texts) (table_oids cat.now) → values_fault cat.now texts ≡ None)) }
+    ensures meet { IfOk result (λ found. IfSome found (λ named. (texts : TextsByOid) → AllByRecursion (TableTakes named cat.now texts) (table_oids cat.now) → rows_fault cat.now texts ≡ None)) }
+{
+    let none = DataSet::new(alloc);
+    if !have_rows(alloc, cat, &none)? {
+        return Ok(None);
+    }
+    Ok(Some(catalogue_map(alloc, cat.rows(), &none)?))
 }
 
 // ---- unique keys
