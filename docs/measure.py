@@ -6,7 +6,7 @@ files; and psql, pg_dump -Fc, pg_restore -l and pg_restore -d on archives of 1,0
 
 PROGRAM is the built program (or ./pgtools), FOLDER a folder for what is made, with 3 GB of room. Each line tells the
 seconds on the clock, the processor seconds and the most memory in MB of one run; each command is run three times, but
-those on entries once.
+pg_catcmp and cmp in turn, nine times each, and those on entries once.
 """
 import os
 import shutil
@@ -94,7 +94,10 @@ def rows(program, folder):
     print(f"folder: {size(at['made'])} bytes")
     run("cp -r", ["cp", "-r", at["made"], at["copy"]], lambda: fresh("copy"))
     run("cp -r, sync", ["sh", "-c", f"cp -r {at['made']} {at['copy']} && sync {at['copy']}/* {at['copy']}/data/*"], lambda: fresh("copy"))
-    run("pg_catcmp", [program, "pg_catcmp", at["made"], at["copy"]])
+    compared = ["sh", "-c", f"for f in {at['made']}/data/*; do cmp $f {at['copy']}/data/$(basename $f); done"]
+    for _ in range(9):
+        run("pg_catcmp", [program, "pg_catcmp", at["made"], at["copy"]], times=1)
+        run("cmp", compared, times=1)
     run("pg_dump", [program, "pg_dump", at["made"]], None, os.path.join(folder, "dump.sql"))
     for kind, name in (("p", "file.sql"), ("c", "file.dump"), ("d", "directory")):
         target = os.path.join(folder, name)
@@ -102,7 +105,6 @@ def rows(program, folder):
         run(f"pg_dump -F{kind} -f", [program, "pg_dump", f"-F{kind}", "-f", target, at["made"]])
     restored = [program, "pg_restore", "-d", at["back"], os.path.join(folder, "file.dump")]
     run("pg_restore -d", restored, lambda: opening("back"))
-    run("cmp", ["sh", "-c", f"for f in {at['made']}/data/*; do cmp $f {at['copy']}/data/$(basename $f); done"])
 
 
 def main(program, folder, what=None):

@@ -1,2 +1,3 @@
 pub mod Finding
 mod Looking
+pub use Rattle.type_ends.proofs.Reached

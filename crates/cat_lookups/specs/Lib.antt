@@ -1,2 +1,3 @@
 pub mod Found
 pub mod Beside
+pub use Rattle.type_ends.specs.Ends

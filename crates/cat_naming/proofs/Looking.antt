@@ -13,7 +13,7 @@ use Rattle.cat_rows.specs.declared.constraints.ConstraintRow.{ConstraintRow}
 use Rattle.row_texts.specs.TypeTexts.{type_named}
 use Rattle.oid_groups.specs.Groups.{group_of}
 use Rattle.oid_groups.proofs.Rows.{rows_of_group}
-use Rattle.type_ends.specs.Ends.{resolved, resolved_within}
+use Rattle.cat_lookups.specs.Ends.{resolved, resolved_within}
 use Rattle.cat_lookups.specs.Beside.{check_keys}
 use Rattle.cat_naming.specs.Types.{check_of, checks_of}
 use Rattle.cat_lookups.proofs.Finding.{by_one_number, given_at}

@@ -10,7 +10,7 @@ use Rattle.cat_model.specs.declared.object.Object.TheVariants as object
 use Rattle.cat_model.specs.declared.key.Key.TheVariants as key
 use Rattle.cat_model.specs.declared.value.Value.TheVariants as value
 use Rattle.cat_names.specs.Naming.{Entry}
-use Rattle.plain_tables.specs.Comments.{is_whole}
+use Rattle.constraint_table.specs.Comments.{is_whole}
 use Rattle.cat_book.specs.Paths.{path_of, schema_of, class_path_of}
 use Rattle.cat_lookups.specs.Found.{column_name, constraint_of}
 

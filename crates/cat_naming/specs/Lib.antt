@@ -8,3 +8,5 @@ pub mod Rights
 pub mod Texts
 pub mod Examples
 pub mod ValueExamples
+pub use Rattle.cat_lookups.specs.Found
+pub use Rattle.cat_lookups.specs.Ends

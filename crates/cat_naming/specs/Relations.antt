@@ -25,7 +25,7 @@ use Rattle.cat_names.specs.Lookups.{same_oid, role_name, is_no_oid}
 use Rattle.cat_names.specs.Naming.{Entry, under}
 use Rattle.cat_book.specs.Paths.{class_path, class_path_of}
 use Rattle.row_texts.specs.SequenceTypes.{sequence_kind}
-use Rattle.text_tables.specs.Sequences.{numbers}
+use Rattle.constraint_table.specs.Sequences.{numbers}
 use Rattle.row_texts.specs.ViewTexts.{view_body}
 use Rattle.oid_groups.specs.Orders.{by_number}
 use Rattle.cat_lookups.specs.Found.{column_name, table_of_index}

@@ -26,7 +26,7 @@ use Rattle.cat_book.specs.Paths.{type_path}
 use Rattle.row_texts.specs.DefaultTexts.{default_said}
 use Rattle.row_texts.specs.TypeTexts.{type_named}
 use Rattle.constraint_table.specs.Said.{statement_said}
-use Rattle.type_ends.specs.Ends.{labels_of, resolved}
+use Rattle.cat_lookups.specs.Ends.{labels_of, resolved}
 
 -- what stands under a path; nothing where an oid leads to no row
 abbrev pub under_path : Option QName → (QName → List Entry) → List Entry

@@ -3,7 +3,7 @@ ghost use Rattle.std.specs.Prelude.{◌≡◌, [], ◌∷◌, ◌++◌, OnOk};
 ghost use Rattle.std.specs.List.{flat_map};
 ghost use Rattle.cat_model.specs.declared.key.Key.TheVariants as key;
 ghost use Rattle.cat_model.specs.declared.value.Value.TheVariants as value;
-ghost use Rattle.text_tables.specs.Sequences.{numbers};
+ghost use Rattle.constraint_table.specs.Sequences.{numbers};
 ghost use Rattle.cat_naming.specs.Relations.{owner_entries, sequence_entries, body_entries};
 
 use crate::entries::{Entries, push_entry};

@@ -3,7 +3,7 @@ ghost use Rattle.std.specs.Prelude.{◌≡◌, Some, IfOk};
 ghost use Rattle.std.specs.Option.{option_and_then};
 ghost use Rattle.cat_model.specs.TypeEffects.{as_it_is};
 ghost use Rattle.row_texts.specs.TypeTexts.{type_named};
-ghost use Rattle.type_ends.specs.Ends.{resolved};
+ghost use Rattle.cat_lookups.specs.Ends.{resolved};
 ghost use Rattle.cat_naming.specs.Types.{typed};
 ghost use Rattle.row_texts.specs.DefaultTexts.{default_said};
 

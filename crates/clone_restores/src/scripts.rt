@@ -2,7 +2,7 @@
 ghost use Rattle.std.specs.Prelude.{◌≡◌, ℕ, Some, IfErr, IfOk};
 ghost use Rattle.cat_model.specs.Values.{Bytes};
 ghost use Rattle.cat_names.specs.Naming.{boot as boot_role};
-ghost use Rattle.opening_sound.specs.Export.{CanBeExported};
+ghost use Rattle.script_runs.specs.Export.{CanBeExported};
 ghost use Rattle.dump_ports.specs.Tree.{Tree};
 ghost use Rattle.openings.specs.Openings.{export_named};
 ghost use Rattle.restore_tools.specs.Standing.{CountsReads, CountsWrites};

@@ -5,7 +5,7 @@ ghost use Rattle.clone_tools.specs.Runs.{HasEnded, HasAnswered};
 ghost use Rattle.clone_tools.specs.Due.{clone_due};
 ghost use Rattle.clone_words.specs.declared.asked.CloneAsked.{CloneAsked as TheClone};
 ghost use Rattle.clone_tools.specs.Halves.{AreHalves, IsUntold, IsTelling};
-ghost use Rattle.dump_targets.specs.Targets.{IsOutside};
+ghost use Rattle.dump_tools.specs.Targets.{IsOutside};
 ghost use Rattle.dump_ports.specs.Tree.{Tree};
 ghost use Rattle.dump_tools.specs.Due.{IsFinal, counts, Counted, CountsStep};
 ghost use Rattle.dump_tools.specs.Outputs.{world};

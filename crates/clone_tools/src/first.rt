@@ -1,7 +1,7 @@
 //! The first half of a clone: a dump, written to a file or a directory.
 ghost use Rattle.std.specs.Prelude.{◌≡◌, ◌≤◌, ℕ, Some, Ok, length, IfErr, OnOk};
 ghost use Rattle.dump_ports.specs.Tree.{Tree};
-ghost use Rattle.dump_targets.specs.Targets.{IsOutside};
+ghost use Rattle.dump_tools.specs.Targets.{IsOutside};
 ghost use Rattle.dump_tools.specs.Due.{dump_due, counts, CountsStep};
 ghost use Rattle.dump_tools.specs.Works.{plan_of_work, IsReady};
 ghost use Rattle.clone_tools.specs.Halves.{HasPut, HasPutPart, HasNotPut};

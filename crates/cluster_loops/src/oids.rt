@@ -3,7 +3,7 @@ ghost use Rattle.std.specs.Prelude.{◌≡◌, ◌^◌, ◌<◌, IfOk};
 ghost use Rattle.cat_model.specs.declared.key.Key.TheVariants as key;
 ghost use Rattle.cat_model.specs.KeyEffects.{index_path};
 ghost use Rattle.entry_ids.specs.Ids.{oid_of, of_keys};
-ghost use Rattle.named_objects.specs.Oids.{type_oid};
+ghost use Rattle.entry_ids.specs.Oids.{type_oid};
 ghost use Rattle.object_ids.specs.Slots.{check, label};
 
 use crate::let_go::let_go_slot;

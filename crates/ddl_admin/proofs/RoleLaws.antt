@@ -1,5 +1,5 @@
 -- CREATE ROLE and ALTER ROLE have the laws of a part.
-use Rattle.ddl_admin.proofs.Common.{ℕ, List, [], ◌∷◌, ◌++◌, refl, codes, is_sign, Lawful, Apart, name_laws, literal_laws, free, lawful_seen, lawful_word, lawful_ended, lawful_next}
+use Rattle.ddl_admin.proofs.Common.{ℕ, List, [], ◌∷◌, refl, codes, is_sign, Lawful, Apart, name_laws, literal_laws, free, lawful_seen, lawful_word, lawful_ended, lawful_next}
 use Rattle.ddl_admin.proofs.{Telling.sign_no_words, ChoiceLaws.IsOptional, ChoiceLaws.before_is, ChoiceLaws.seen_is, ChoiceLaws.clause_is, ChoiceLaws.flag_is}
 use Rattle.ddl_admin.specs.Roles.{create_role, later_flags, role_flags, role_settings, changes_by, role_changes, alter_role}
 use Rattle.ddl_numbers.proofs.NumberLaws.{whole_number_laws, whole_number_ends}

@@ -1,6 +1,6 @@
 -- A default is written with the tokens that it has, with NOT NULL behind it or without; and what is read of a text as a
 -- default can be written.
-use Rattle.ddl_forms.proofs.Common.{◌≡◌, ℕ, ◌+◌, ◌-◌, Bool, true, false, cond, List, [], ◌∷◌, ◌++◌, length, length-append, append_assoc, append-nil, take, drop, Option, Some, None, refl, sym, ap, subst, ◌∙◌, ◌⊎◌, arith, inl, inr, codes, option_and_then, is_utf8, chars, encode, and_parts, and_from, take_at, drop_at, TokenKind, Word, Sign, MetaLine, begins_word, in_word, is_digit, is_keyword_of, Bracket, Spot, First, FirstNot, LaterNot, Inside, Closed as Shut, Lexeme, spelled, source, is_word, is_sign, run, Runs, Nest, nested, nest_step, nest_done, ends_run, behind_kind, behind_not, behind_null, behind_other, is_inside, moved, step_by, default_and_null, are_not_null, without_not_null, words_apart, nest, run_none, semicolon, IsDefaultText}
+use Rattle.ddl_forms.proofs.Common.{◌≡◌, ℕ, ◌+◌, ◌-◌, Bool, true, false, cond, List, [], ◌∷◌, ◌++◌, length, length-append, append_assoc, append-nil, take, drop, Option, Some, None, refl, sym, ap, subst, ◌∙◌, ◌⊎◌, arith, inl, inr, codes, option_and_then, is_utf8, chars, encode, and_parts, and_from, take_at, drop_at, TokenKind, begins_word, in_word, is_digit, is_keyword_of, Bracket, Spot, First, LaterNot, Inside, Closed as Shut, Lexeme, spelled, source, is_word, is_sign, run, Runs, Nest, nested, nest_step, nest_done, ends_run, behind_kind, behind_not, behind_null, behind_other, is_inside, moved, step_by, default_and_null, are_not_null, without_not_null, words_apart, nest, run_none, semicolon, IsDefaultText}
 use Rattle.ddl_write.specs.Paths.{only_if}
 use Rattle.ddl_forms.proofs.{Standing.Stood, Standing.placed, Kept.AllCame, Kept.AllPlain, Kept.came_front, Kept.spelled-append, Tokens.space, Tokens.word_token, Tokens.a_word, RunTexts.not_some, RunTexts.run-append, RunTexts.placed-append, RunTexts.plain_last, RunTexts.run_kept, RunTexts.run_read, Behind.Words, Behind.Safe, Behind.admits, Behind.admitted, Putting.Follows, Putting.IsPut, Putting.same_text, Written.Written, Written.leaf_as, Written.pieces_as, Written.run_put, Closing.only_last, Expressions.nested_plain}
 

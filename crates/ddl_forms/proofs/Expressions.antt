@@ -1,6 +1,6 @@
 -- The text of an expression, or of a default, is written with the tokens that it has.
-use Rattle.ddl_forms.proofs.Common.{arith, ℕ, Bool, true, false, List, [], ◌∷◌, refl, Bracket, Spot, is_sign, is_word, nested, nest_step, nest_done, ends_run, step_by, expression, default_text}
-use Rattle.ddl_forms.proofs.{Tokens.Gap, Tokens.space, RunTexts.IsPlainMachine, RunTexts.GoesByWords, RunTexts.plain_by, Written.Written, Written.run_as}
+use Rattle.ddl_forms.proofs.Common.{arith, ℕ, Bool, true, false, List, is_sign, is_word, nested, nest_step, nest_done, ends_run, expression, default_text}
+use Rattle.ddl_forms.proofs.{Tokens.Gap, Tokens.space, RunTexts.IsPlainMachine, Written.Written, Written.run_as}
 
 -- ---- the tokens of a run
 

@@ -1,5 +1,5 @@
 -- Written texts are laid out in tokens that stand wherever they are put.
-use Rattle.ddl_forms.proofs.Common.{arith, ◌≡◌, ℕ, ◌+◌, true, false, List, [], ◌∷◌, ◌++◌, length, append_assoc, append-nil, refl, sym, ap, subst, ◌∙◌, ◌⊎◌, inl, inr, Lexeme, spelled, Part, ◌then◌, joined, semicolon}
+use Rattle.ddl_forms.proofs.Common.{arith, ◌≡◌, ℕ, ◌+◌, true, false, List, [], ◌∷◌, ◌++◌, length, append_assoc, append-nil, refl, sym, ap, subst, ◌∙◌, ◌⊎◌, Lexeme, spelled, Part, ◌then◌, joined, semicolon}
 use Rattle.ddl_forms.proofs.{Behind.Behind, Behind.admits, Closing.only_last, Kept.AllCame, Kept.spelled-append, RunTexts.placed-append, RunTexts.last_more, Standing.Stands, Standing.Stood, Standing.placed}
 
 -- the others stand, and have no semicolon but the last

@@ -1,5 +1,5 @@
 -- Tokens that are read as they are wherever they stand: the tokens of a text that is made of them are they.
-use Rattle.ddl_forms.proofs.Common.{◌≡◌, ℕ, zero, suc, ◌+◌, ◌-◌, ◌<◌, ◌≤◌, Bool, true, false, not, cond, ◌||◌, List, [], ◌∷◌, ◌++◌, length, length-append, append_assoc, append-nil, take, drop, Some, None, Ok, refl, sym, ap, subst, ◌∙◌, arith, ◌==◌, slice_range, take_at, drop_at, and_parts, not-true, TokenKind, next_token_of, next_at_end, spelling, token_at, IsTokenAt, Piece, Lexeme, spelled, is_sign, is_sign_kind, lexeme_of, lexemes, Collected, collected, collected_within, collected_by, nothing_more, preceded, semicolon}
+use Rattle.ddl_forms.proofs.Common.{◌≡◌, ℕ, zero, suc, ◌+◌, ◌-◌, ◌<◌, ◌≤◌, Bool, true, false, not, cond, ◌||◌, List, [], ◌∷◌, ◌++◌, length, length-append, append_assoc, append-nil, Some, None, Ok, refl, sym, ap, subst, ◌∙◌, arith, ◌==◌, slice_range, take_at, drop_at, and_parts, not-true, TokenKind, next_token_of, next_at_end, spelling, token_at, IsTokenAt, Piece, Lexeme, spelled, is_sign, is_sign_kind, lexeme_of, lexemes, Collected, collected, collected_within, collected_by, nothing_more, preceded, semicolon}
 use Rattle.ddl_forms.proofs.Closing.{ends_with, only_last}
 
 -- ---- what stands

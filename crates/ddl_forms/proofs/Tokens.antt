@@ -1,5 +1,5 @@
 -- The tokens of which written statements are made, and that each stands wherever it is put.
-use Rattle.ddl_forms.proofs.Common.{◌≡◌, ◌≢◌, ℕ, ◌+◌, Bool, true, false, not, cond, ◌&&◌, List, [], ◌∷◌, ◌++◌, length, Option, Some, None, Result, Ok, Err, ◌||◌, ◌⊎◌, refl, sym, ap, subst, ◌∙◌, arith, inl, inr, ◌==◌, nat_lt, All, list_all, list_any, AllByRecursion as ByRecursion, is_utf8, IsUtf8, chars, str_to_ascii_lowercase, str_eq_ignore_ascii_case, bytes_eq-Decides, encode, cases_Bool, and_parts, or_parts, not-true, ne_eqb, nat_tests, recursion_from_All, All-from_recursion, is_utf8-from_IsUtf8, IsUtf8-from_is_utf8, TokenKind, Word, QuotedName, Literal, Sign, is_blank, is_digit, begins_word, in_word, next_is, IsWord, goes_on, name_of, literal_of, is_keyword_of, is_reserved, begins_bare, in_bare, is_bare, quoted, written_name, written_literal, IsTokenAt, written_kind, word_free, spelling_is_read, name_is_read, literal_is_read, IsName, Lexeme, is_word, is_sign_kind, name_in, name_value, text_in, literal_value, and_false}
+use Rattle.ddl_forms.proofs.Common.{◌≡◌, ◌≢◌, ℕ, ◌+◌, Bool, true, false, not, cond, ◌&&◌, List, [], ◌∷◌, ◌++◌, length, Option, Some, None, Result, Ok, Err, ◌||◌, ◌⊎◌, refl, sym, ap, subst, ◌∙◌, arith, inl, inr, ◌==◌, nat_lt, All, list_any, AllByRecursion as ByRecursion, is_utf8, IsUtf8, chars, str_to_ascii_lowercase, str_eq_ignore_ascii_case, bytes_eq-Decides, encode, cases_Bool, and_parts, or_parts, not-true, ne_eqb, nat_tests, recursion_from_All, All-from_recursion, is_utf8-from_IsUtf8, IsUtf8-from_is_utf8, TokenKind, Word, QuotedName, Literal, Sign, is_blank, is_digit, begins_word, in_word, next_is, IsWord, goes_on, name_of, literal_of, is_keyword_of, is_reserved, begins_bare, is_bare, quoted, written_name, written_literal, IsTokenAt, written_kind, word_free, spelling_is_read, name_is_read, literal_is_read, IsName, Lexeme, is_word, is_sign_kind, name_in, name_value, text_in, literal_value, and_false}
 use Rattle.sql_lex.specs.Bytes.{is_sign}
 use Rattle.ddl_forms.proofs.{Standing.is_safe, Standing.GapStands, Standing.Stands, Behind.Words, Behind.parts_words, Behind.admits, Kept.Begun, Kept.begun_some, Kept.safe_ends, Passed.Passed, Passed.nothing_passed, Passed.blanks_passed}
 

@@ -2,7 +2,7 @@
 -- a text as a type can be written.
 use Rattle.ddl_forms.proofs.Common.{◌≡◌, ℕ, Bool, true, false, cond, List, [], ◌∷◌, ◌++◌, append-nil, Option, Some, None, Result, Ok, Err, is_ok, refl, sym, ap, subst, ◌∙◌, option_and_then, arith, TokenKind, name_of, is_keyword_of, IsName, QName, TypeName, Lexeme, spelled, source, is_sign, is_sign_kind, is_word, run, Runs, lexemes, collected, name_in, name_value, qualified, TypeSpot, Begin, FirstWord, Schema, Dotted, Path, typing, type_step, type_done, is_type_word, is_number, if_name, only_if, named, type_of, type_part, path, IsPath, IsTypeText, IsType, passes_true as passed, run_none}
 use Rattle.ddl_write.specs.Tables.{type_text}
-use Rattle.ddl_forms.proofs.{Behind.Words, Behind.Safe, Behind.admits, Behind.admitted, Kept.AllCame, Tokens.Gap, Tokens.value_name, RunTexts.IsPlainMachine, RunTexts.GoesByWords, RunTexts.plain_by, RunTexts.not_some, RunTexts.kinds, RunTexts.run_read, Putting.Follows, Putting.IsPut, Putting.same_text, Putting.put_as, Written.Written, Written.leaf_as, Written.path_as, Written.run_put}
+use Rattle.ddl_forms.proofs.{Behind.Words, Behind.Safe, Behind.admits, Behind.admitted, Kept.AllCame, Tokens.Gap, Tokens.value_name, RunTexts.IsPlainMachine, RunTexts.not_some, RunTexts.kinds, RunTexts.run_read, Putting.Follows, Putting.IsPut, Putting.same_text, Putting.put_as, Written.Written, Written.leaf_as, Written.path_as, Written.run_put}
 use Rattle.cat_model.specs.declared.type_name.TypeName.TheVariants as type_name
 
 -- ---- the machine

@@ -1,6 +1,6 @@
 -- What the proofs of this crate start from.
-pub use Rattle.ddl_parts.proofs.Lemmas.{grammar, Agrees, AllByRecursion, Apart, Avoids, Begins, Bool, CanEnd, CheckDef, Collected, ColumnDef, Decides-int_eq, Encoding, Err, Fits, Granted, Headed, IsMetaLine, IsName, IsText, IsTooLong, IsUtf8, IsUtf8-append, IsUtf8-from_is_utf8, Lawful, LexFault, Lexeme, Like, List, Literal, Many, MetaLine, None, Number, Ok, Option, Part, QName, Reading, Result, Rights, Runs, Shortens, Shorter, Some, Stmt, Stop, Stopped, Tells, Token, TokenKind, Utf8, Word, [], a_sign, a_word, and_from, and_parts, ap, append-nil, append_assoc, arith, before_end_mark, cases_Bool, choose, choose_at, codes, collected_by, comma, cond, default_text_laws, drop_all, end_mark, expression_ends, expression_ends_bracket, expression_laws, false, flat_map, free, gives, guarded_shortens, has_rights, headed_next, headed_seen, headed_sign, headed_word, if_last, inl, inr, is_end_kind, is_name_kind, is_sign_kind, is_some, is_utf8-from_IsUtf8, item_of, lawful, lawful_choose, lawful_either, lawful_ended, lawful_next, lawful_seen, lawful_sign, lawful_then, lawful_unless, lawful_word, lawful_worded, left_of, length, length-append, lexeme_of, lexemes, lies_behind, lines_nil, list_all, list_all-append, listed_laws, listing, literal, literal_agrees, literal_begins, literal_laws, long_of, machine_laws, many, many_laws, map, mark_begins, name, name_agrees, name_begins, name_laws, name_shortens, named_by, negsuc, nested, never, next_at_end, no_more, no_rights, not, not-false, not-true, nothing, nothing_more, one_begins, one_laws, one_of_avoids, one_of_avoids_others, one_of_laws, one_sign, one_word, option_and_then, optional, or_right, passes, passes_like, passes_true, path_of, pos, preceded, qualified, qualified_begins, qualified_laws, refl, refused_shortens, run, run_ends, run_none, runs_of, seen, seen_avoids, short_word, shortened, sign_agrees, sign_is, sign_no_literal, sign_no_name, sign_no_word, signed_decimal, signs_apart, slice_index, source, spelled, spelling_is_read, start_of, starts, starts-append, starts_again, starts_kept, stop, stop_no_type, str_to_ascii_lowercase, subst, suc, sym, token_at, token_sound, told, true, value_of, whole_path, word_agrees, word_no_sign, word_no_text, words_apart, zero, ℕ, ℤ, ◌&&◌, ◌++◌, ◌+◌, ◌-◌, ◌<◌, ◌==◌, ◌^◌, ◌also◌, ◌then◌, ◌||◌, ◌∙◌, ◌∷◌, ◌≡◌, ◌≤◌, ◌⊎◌, ◌▸◌, ◌◂◌, word_like, sign_like}
-unfoldable pub use Rattle.ddl_parts.proofs.Lemmas.{begins_line, begins_word, begun, chars, closed, collected, collected_within, comment_end, default_and_null, default_text, doubled, encode, ends_run, escape_end, expression, fraction_end, goes_on, in_line, in_utf8, in_word, inside, is_bare, is_blank, is_digit, is_keyword_of, is_literal, is_name, is_number, is_reserved, is_sign, is_sound, is_type_word, is_utf8, is_word, lines, literal_of, literal_value, many_at, marks_escapes, name_in, name_of, name_value, nest_done, nest_step, next_is, next_token_of, next_within, number_end, path_in, path_value, piece_at, quote_end, quoted, run_end, scan, spelling, text_in, type_done, type_long, type_of, type_part, type_step, undoubled, without_not_null, written_kind, written_literal, written_name}
+pub use Rattle.ddl_parts.proofs.Lemmas.{grammar, Agrees, AllByRecursion, Apart, Avoids, Begins, Bool, CanEnd, CheckDef, Collected, ColumnDef, Encoding, Err, Fits, Granted, Headed, IsMetaLine, IsName, IsText, IsTooLong, IsUtf8, IsUtf8-append, IsUtf8-from_is_utf8, Lawful, LexFault, Lexeme, Like, List, Literal, Many, MetaLine, None, Number, Ok, Option, Part, QName, Reading, Result, Rights, Shortens, Shorter, Some, Stmt, Stop, Stopped, Tells, Token, TokenKind, Utf8, Word, [], a_sign, a_word, and_from, and_parts, ap, append-nil, append_assoc, arith, before_end_mark, cases_Bool, choose, choose_at, codes, collected_by, comma, cond, default_text_laws, drop_all, end_mark, expression_ends, expression_ends_bracket, expression_laws, false, flat_map, free, gives, guarded_shortens, has_rights, headed_next, headed_seen, headed_sign, headed_word, inl, inr, is_name_kind, is_sign_kind, is_some, is_utf8-from_IsUtf8, item_of, lawful, lawful_choose, lawful_either, lawful_ended, lawful_next, lawful_seen, lawful_sign, lawful_then, lawful_unless, lawful_word, lawful_worded, left_of, length, length-append, lexeme_of, lexemes, lies_behind, lines_nil, list_all, list_all-append, listed_laws, listing, literal, literal_agrees, literal_begins, literal_laws, long_of, machine_laws, many, many_laws, map, mark_begins, name, name_agrees, name_begins, name_laws, name_shortens, named_by, nested, never, next_at_end, no_more, no_rights, not, not-false, not-true, nothing, nothing_more, one_begins, one_laws, one_of_avoids, one_of_avoids_others, one_of_laws, one_sign, one_word, option_and_then, optional, or_right, passes, passes_like, passes_true, path_of, pos, preceded, qualified, qualified_begins, qualified_laws, refl, refused_shortens, run, run_ends, run_none, runs_of, seen, seen_avoids, short_word, shortened, sign_agrees, sign_is, sign_no_literal, sign_no_name, sign_no_word, signed_decimal, signs_apart, slice_index, source, spelled, spelling_is_read, start_of, starts, starts-append, starts_again, starts_kept, stop, stop_no_type, str_to_ascii_lowercase, subst, suc, sym, token_at, token_sound, told, true, value_of, whole_path, word_agrees, word_no_sign, word_no_text, words_apart, zero, ℕ, ℤ, ◌&&◌, ◌++◌, ◌+◌, ◌-◌, ◌<◌, ◌==◌, ◌^◌, ◌also◌, ◌then◌, ◌||◌, ◌∙◌, ◌∷◌, ◌≡◌, ◌≤◌, ◌⊎◌, ◌▸◌, ◌◂◌, word_like, sign_like}
+unfoldable pub use Rattle.ddl_parts.proofs.Lemmas.{begins_line, begins_word, begun, chars, closed, collected, collected_within, comment_end, default_and_null, default_text, doubled, encode, ends_run, escape_end, expression, fraction_end, goes_on, in_line, in_utf8, in_word, inside, is_blank, is_digit, is_keyword_of, is_literal, is_name, is_number, is_reserved, is_sign, is_sound, is_type_word, is_utf8, is_word, lines, literal_of, literal_value, many_at, marks_escapes, name_in, name_of, name_value, nest_done, nest_step, next_is, next_token_of, next_within, number_end, path_in, path_value, piece_at, quote_end, quoted, run_end, scan, spelling, text_in, type_done, type_long, type_of, type_part, type_step, undoubled, without_not_null, written_kind, written_literal, written_name}
 pub use Rattle.ddl_write.specs.{Keys.rest_text, Paths.joined, Paths.only_if, RightsText.granted_name, RightsText.granted_words, RightsText.grantee_text, RightsText.is_all, RightsText.remark_text, Roles.flag_text, Roles.given_literal, Roles.limit_text, Sequences.max_text, Sequences.min_text, Sequences.type_words, Tables.given_default, Tables.table_lines}
 unfoldable pub use Rattle.ddl_write.specs.{Keys.added_check_text, Keys.foreign_text, Keys.index_text, Keys.key_text, Paths.path, RightsText.comment_text, RightsText.grant_text, RightsText.revoke_text, RightsText.right_list, RightsText.rights_text, RightsText.with_commas, Roles.changes_text, Roles.connect_text, Roles.database_text, Roles.member_text, Roles.role_text, Sequences.bound, Sequences.owned_by_text, Sequences.sequence_text, Sequences.usual_max, Sequences.usual_min, Sequences.value_text, Spelling.domain_check_text, Spelling.owned_object, Spelling.owner_text, Spelling.schema_text, Spelling.set_text, Spelling.setting_text, Tables.check_text, Tables.column_text, Tables.domain_text, Tables.enum_text, Tables.table_text, Views.space_before, Views.view_text}
 pub use Rattle.ddl_admin.specs.{Databases.utf8_in, Roles.changes_by}
@@ -10,9 +10,9 @@ pub use Rattle.ddl_laws.specs.{Readings.FailsAt, Readings.IsLine, Readings.IsLon
 pub use Rattle.ddl_lines.proofs.RowTexts.{read_are_rows, rows_bounds, rows_read_back}
 pub use Rattle.ddl_lines.specs.{CopyRows.AreRows, CopyRows.Copied, CopyRows.with_feeds, MetaLines.IsSaid, MetaLines.Wrong, MetaLines.connected, MetaLines.named, MetaLines.one_name, MetaLines.unknown}
 pub use Rattle.ddl_numbers.proofs.NumberLaws.{count_begins, no_count_first, number_no_sign, whole_number_laws, zero_below}
-pub use Rattle.ddl_numbers.specs.Numbers.{count, count_first, counted, opposite}
+pub use Rattle.ddl_numbers.specs.Numbers.{count_first, counted, opposite}
 pub use Rattle.ddl_read.proofs.TableLaws.{attributes_end, checks_apart, column_ends, column_name_is, elements_apart, named_check_free, named_check_is, sign_end, typed_laws}
-pub use Rattle.ddl_read.specs.{AlterGrammar.BehindOnly, AlterGrammar.added_of, AlterGrammar.default_of, AlterGrammar.foreign_of, AlterGrammar.in_schema, AlterGrammar.key_word, AlterGrammar.only_changed, AlterGrammar.only_name, AlterGrammar.other_name, AlterGrammar.primary_of, AlterGrammar.table_changed, AlterGrammar.unique_of, Clauses.check_of, Columns.further, Columns.more_names, Columns.names_of, Grammar.catalog_calls, Grammar.domain_changed, Grammar.its_owner, Grammar.more_commands, Grammar.one_more_check, Grammar.owned_name, Grammar.owned_path, Grammar.semicolon, Reading.Whole, Reading.completed, Reading.fault_by, Reading.fault_of, Reading.first_start, Reading.is_line_kind, Reading.line_fault, Reading.line_in, Reading.line_said, Reading.listed, Reading.statements_at, Reading.statements_by, Reading.whole, Reading.whole_of, Reading.with_rows, Reading.◌>>=◌, RelationGrammar.begun_by, RelationGrammar.index_made, RelationGrammar.index_of, RelationGrammar.index_parts, RelationGrammar.its_column, RelationGrammar.its_role, RelationGrammar.more_relations, RelationGrammar.sequence_changed, RelationGrammar.unique_index_of, RelationGrammar.view_and_body, RelationGrammar.view_branch, Rests.either, Rests.if_name, Rests.is_long_by, Rests.resting, SequenceGrammar.begins_clause, SequenceGrammar.behind_no, SequenceGrammar.bound_or, SequenceGrammar.clauses_of, SequenceGrammar.clausing, SequenceGrammar.first_reached, SequenceGrammar.is_unsaid, SequenceGrammar.lower, SequenceGrammar.no_clauses, SequenceGrammar.numbered, SequenceGrammar.reached, SequenceGrammar.upper, SequenceGrammar.usual_start, SequenceGrammar.with_number, TableGrammar.Attributes, TableGrammar.checking, TableGrammar.column_name, TableGrammar.column_of, TableGrammar.domain_of, TableGrammar.element_at, TableGrammar.elements, TableGrammar.enum_of, TableGrammar.given, TableGrammar.more_elements, TableGrammar.not_null, TableGrammar.parted, TableGrammar.table_of, ValueGrammar.literal_path, ValueGrammar.value_of_sequence, declared.alters.Constraint.Constraint, declared.alters.Constraint.TheVariants.Check, declared.alters.Constraint.TheVariants.Foreign, declared.alters.Constraint.TheVariants.Primary, declared.alters.Constraint.TheVariants.Unique, declared.alters.TableChange.TableChange, declared.alters.TableChange.TheVariants.Added, declared.alters.TableChange.TheVariants.Default, declared.alters.TableChange.TheVariants.Owner, declared.fault.DdlFault.DdlFault, declared.located.Located.Located, declared.rests.RestSpot.RestSpot, declared.rests.RestSpot.TheVariants.Begin, declared.rests.RestSpot.TheVariants.Deferrable, declared.rests.RestSpot.TheVariants.Delete, declared.rests.RestSpot.TheVariants.DeleteNo, declared.rests.RestSpot.TheVariants.DeleteSet, declared.rests.RestSpot.TheVariants.FirstOn, declared.rests.RestSpot.TheVariants.Initially, declared.rests.RestSpot.TheVariants.Named, declared.rests.RestSpot.TheVariants.Opened, declared.rests.RestSpot.TheVariants.SecondOn, declared.rests.RestSpot.TheVariants.Update, declared.rests.RestSpot.TheVariants.UpdateNo, declared.rests.RestSpot.TheVariants.UpdateSet, declared.sequences.ClauseSpot.ClauseSpot, declared.sequences.ClauseSpot.TheVariants.BehindAs, declared.sequences.ClauseSpot.TheVariants.BehindIncrement, declared.sequences.ClauseSpot.TheVariants.BehindMinus, declared.sequences.ClauseSpot.TheVariants.BehindNo, declared.sequences.ClauseSpot.TheVariants.BehindStart, declared.sequences.ClauseSpot.TheVariants.Between, declared.sequences.ClauseSpot.TheVariants.Due, declared.sequences.Clauses.Clauses, declared.sequences.Field.TheVariants.Cache, declared.sequences.Field.TheVariants.First, declared.sequences.Field.TheVariants.Greatest, declared.sequences.Field.TheVariants.Least, declared.sequences.Field.TheVariants.Step, declared.sequences.Open.TheVariants.Both, declared.sequences.Open.TheVariants.Lower, declared.sequences.Open.TheVariants.Upper}
+pub use Rattle.ddl_read.specs.{AlterGrammar.BehindOnly, AlterGrammar.added_of, AlterGrammar.default_of, AlterGrammar.foreign_of, AlterGrammar.in_schema, AlterGrammar.key_word, AlterGrammar.only_changed, AlterGrammar.only_name, AlterGrammar.other_name, AlterGrammar.primary_of, AlterGrammar.table_changed, AlterGrammar.unique_of, Clauses.check_of, Columns.further, Columns.more_names, Columns.names_of, Grammar.catalog_calls, Grammar.domain_changed, Grammar.its_owner, Grammar.more_commands, Grammar.one_more_check, Grammar.owned_name, Grammar.owned_path, Grammar.semicolon, Reading.Whole, Reading.completed, Reading.fault_by, Reading.fault_of, Reading.first_start, Reading.is_line_kind, Reading.line_fault, Reading.line_in, Reading.line_said, Reading.listed, Reading.statements_at, Reading.statements_by, Reading.whole, Reading.whole_of, Reading.with_rows, Reading.◌>>=◌, RelationGrammar.begun_by, RelationGrammar.index_made, RelationGrammar.index_of, RelationGrammar.index_parts, RelationGrammar.its_column, RelationGrammar.its_role, RelationGrammar.more_relations, RelationGrammar.sequence_changed, RelationGrammar.unique_index_of, RelationGrammar.view_and_body, RelationGrammar.view_branch, Rests.if_name, Rests.is_long_by, Rests.resting, SequenceGrammar.begins_clause, SequenceGrammar.behind_no, SequenceGrammar.bound_or, SequenceGrammar.clauses_of, SequenceGrammar.clausing, SequenceGrammar.first_reached, SequenceGrammar.lower, SequenceGrammar.no_clauses, SequenceGrammar.numbered, SequenceGrammar.reached, SequenceGrammar.upper, SequenceGrammar.with_number, TableGrammar.Attributes, TableGrammar.checking, TableGrammar.column_name, TableGrammar.column_of, TableGrammar.domain_of, TableGrammar.element_at, TableGrammar.elements, TableGrammar.enum_of, TableGrammar.given, TableGrammar.more_elements, TableGrammar.not_null, TableGrammar.parted, TableGrammar.table_of, ValueGrammar.literal_path, ValueGrammar.value_of_sequence, declared.alters.Constraint.Constraint, declared.alters.Constraint.TheVariants.Check, declared.alters.Constraint.TheVariants.Foreign, declared.alters.Constraint.TheVariants.Primary, declared.alters.Constraint.TheVariants.Unique, declared.alters.TableChange.TableChange, declared.alters.TableChange.TheVariants.Added, declared.alters.TableChange.TheVariants.Default, declared.alters.TableChange.TheVariants.Owner, declared.fault.DdlFault.DdlFault, declared.located.Located.Located, declared.rests.RestSpot.RestSpot, declared.rests.RestSpot.TheVariants.Begin, declared.rests.RestSpot.TheVariants.Deferrable, declared.rests.RestSpot.TheVariants.Delete, declared.rests.RestSpot.TheVariants.DeleteNo, declared.rests.RestSpot.TheVariants.DeleteSet, declared.rests.RestSpot.TheVariants.FirstOn, declared.rests.RestSpot.TheVariants.Initially, declared.rests.RestSpot.TheVariants.Named, declared.rests.RestSpot.TheVariants.Opened, declared.rests.RestSpot.TheVariants.SecondOn, declared.rests.RestSpot.TheVariants.Update, declared.rests.RestSpot.TheVariants.UpdateNo, declared.rests.RestSpot.TheVariants.UpdateSet, declared.sequences.ClauseSpot.ClauseSpot, declared.sequences.ClauseSpot.TheVariants.BehindAs, declared.sequences.ClauseSpot.TheVariants.BehindIncrement, declared.sequences.ClauseSpot.TheVariants.BehindMinus, declared.sequences.ClauseSpot.TheVariants.BehindNo, declared.sequences.ClauseSpot.TheVariants.BehindStart, declared.sequences.ClauseSpot.TheVariants.Between, declared.sequences.ClauseSpot.TheVariants.Due, declared.sequences.Clauses.Clauses, declared.sequences.Field.TheVariants.Cache, declared.sequences.Field.TheVariants.First, declared.sequences.Field.TheVariants.Greatest, declared.sequences.Field.TheVariants.Least, declared.sequences.Field.TheVariants.Step, declared.sequences.Open.TheVariants.Both, declared.sequences.Open.TheVariants.Lower, declared.sequences.Open.TheVariants.Upper}
 pub use Rattle.ddl_rights.specs.{Grants.behind_first, Grants.first, Memberships.member_of, RightsGrammar.all_of, RightsGrammar.grantee, RightsGrammar.having, RightsGrammar.joining, RightsGrammar.kind_has, RightsGrammar.kind_rights, RightsGrammar.kind_with, RightsGrammar.more_rights, RightsGrammar.object, RightsGrammar.only, RightsGrammar.right_behind, RightsGrammar.rights_on, RightsGrammar.wanted, RightsGrammar.with_right, RightsGrammar.within}
 unfoldable pub use Rattle.ddl_admin.specs.{Comments.column_remarked, Comments.comment_on, Comments.commented_object, Comments.constraint_remarked, Comments.name_remarked, Comments.path_remarked, Comments.remark, Comments.remark_end, Databases.create_database, Databases.encoded, Databases.furthers, Databases.maybe_encoded, Databases.utf8_value, Roles.alter_role, Roles.create_role, Roles.later_flags, Roles.role_changes, Roles.role_flags, Roles.role_settings}
 unfoldable pub use Rattle.ddl_forms.proofs.{Expressions.default_as, Expressions.expression_as, Tokens.is_single, Written.is_bare_word, Written.is_key}

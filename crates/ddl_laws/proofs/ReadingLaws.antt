@@ -1,6 +1,6 @@
 -- A text reads as statements exactly where it is read so, and a fault is the first: reading fails where a text fails at a
 -- fault, at the same place.
-use Rattle.ddl_laws.proofs.Common.{◌≡◌, ℕ, zero, suc, ◌+◌, Bool, true, false, not, cond, List, [], ◌∷◌, ◌++◌, Option, Some, None, Result, Ok, Err, refl, sym, ap, ◌∙◌, length, ◌-◌, ◌<◌, ◌≤◌, subst, arith, append-nil, length-append, inl, inr, and_from, Token, LexFault, next_token_of, Stmt, Piece, Lexeme, is_sign, is_sign_kind, starts, is_word, start_of, lexeme_of, lexemes, value_of, gives, Collected, collected, collected_within, collected_by, semicolon, statement, command, created, altered, set_config, selected, setting, create_schema, altered_domain, domain_change, new_check, name_and_owner, path_and_owner, none as no_gap, Closes, only_last, nothing_left, collected_has, TokenKind, MetaLine, spelling, is_keyword_of, QName, lies_behind, Stop, Reading, Located, DdlFault, altered_sequence, sequence_change, owned_by, create_view, replace_view, index_body, create_index, create_unique_index, create_sequence, copy_from, truth, set_value, remark_end, name_remarked, path_remarked, column_remarked, constraint_remarked, commented_object, comment_on, create_role, alter_role, create_database, create_enum, create_domain, create_table, added, new_default, own_change, table_change, behind_only, altered_table, Copied, rows_behind, Wrong, meta_line, rows_bounds, ◌>>=◌, Whole, whole, whole_of, with_rows, completed, is_line_kind, line_in, line_at, line_fault, line_said, statements_at, listed, first_start, fault_of, statement_of, statements_by, statements_within, statements_of, fault_by, shortened, Stopped, IsStatement, IsLine, line_token, Reads, all_read, one_read, line_read, IsLongThere, IsStuck, FailsAt, no_token, stuck, no_rows, bad_line, later, later_line, granted, revoked}
+use Rattle.ddl_laws.proofs.Common.{◌≡◌, ℕ, zero, suc, ◌+◌, Bool, true, false, cond, List, [], ◌∷◌, ◌++◌, Option, Some, None, Result, Ok, Err, refl, sym, ap, ◌∙◌, length, ◌-◌, ◌<◌, ◌≤◌, subst, arith, append-nil, length-append, inl, inr, Token, LexFault, next_token_of, Stmt, Piece, Lexeme, is_sign, is_sign_kind, starts, is_word, start_of, lexeme_of, lexemes, value_of, gives, Collected, collected, collected_within, collected_by, semicolon, statement, command, created, altered, set_config, selected, setting, create_schema, altered_domain, domain_change, new_check, name_and_owner, path_and_owner, none as no_gap, Closes, only_last, nothing_left, collected_has, TokenKind, MetaLine, spelling, is_keyword_of, QName, lies_behind, Stop, Reading, Located, DdlFault, altered_sequence, sequence_change, owned_by, create_view, replace_view, index_body, create_index, create_unique_index, create_sequence, copy_from, truth, set_value, remark_end, name_remarked, path_remarked, column_remarked, constraint_remarked, commented_object, comment_on, create_role, alter_role, create_database, create_enum, create_domain, create_table, added, new_default, own_change, table_change, behind_only, altered_table, Copied, rows_behind, Wrong, meta_line, rows_bounds, ◌>>=◌, Whole, whole, whole_of, with_rows, completed, is_line_kind, line_in, line_at, line_fault, line_said, statements_at, listed, first_start, fault_of, statement_of, statements_by, statements_within, statements_of, fault_by, shortened, Stopped, IsStatement, IsLine, line_token, Reads, all_read, one_read, line_read, IsLongThere, IsStuck, FailsAt, no_token, stuck, no_rows, bad_line, later, later_line, granted, revoked}
 use Rattle.ddl_laws.proofs.{Whole.statement_as, GrammarLaws.statement_laws}
 use Rattle.ddl_read.specs.{Grammar.new_owner, Reading.told, Reading.no_more}
 use Rattle.cat_model.specs.declared.stmt.Stmt.TheVariants as stmt

@@ -1,5 +1,5 @@
 -- Written statements, joined, read as the same statements; and what is read of a text can be written.
-use Rattle.ddl_laws.proofs.Common.{cases_Bool, and_parts, and_from, or_right, drop_all, list_all-append, IsUtf8-append, IsUtf8-from_is_utf8, is_utf8-from_IsUtf8, ◌≡◌, ℕ, suc, ◌+◌, Bool, true, cond, not, ◌&&◌, ◌-◌, List, [], ◌∷◌, ◌++◌, length, length-append, append_assoc, append-nil, Option, Some, None, Result, Ok, Err, refl, sym, ap, subst, ◌∙◌, arith, ◌⊎◌, inl, inr, codes, ◌≤◌, ◌==◌, slice_index, list_all, AllByRecursion, is_utf8, IsUtf8, chars, encode, Token, LexFault, next_token_of, spelling as token_text, IsMetaLine, goes_on, is_reserved, token_at, written_kind, next_at_end, spelling_is_read, Piece, is_sign_kind, Lexeme, spelled, is_sign, start_of, name_value, is_name, is_name_kind, lexeme_of, lexemes, Collected, collected, collected_within, collected_by, nothing_more, preceded, name_begins, IsLine, IsStatement, Reads, all_read, one_read, line_read, line_token, a_name, Gap, passed, space, gap_stands, name_no_sign, name_means, none, newline, IsName, is_blank, in_line, next_is, begins_line, is_bare, doubled, quoted, written_name, MetaLine, connect_text, unknown, named, stands_alone, one_name, name_alone, connected, command_len, said_by, meta_line, IsSaid, Stmt, Located, semicolon, statement, Whole, whole, with_rows, completed, first_start, listed, statements_of, listed as listed_before, DdlFault, AreRows, Copied, rows_behind, rows_read_back, read_are_rows, end_mark, QName, nothing_follows, joined-append, IsWritable, AllWritable, spellings, said, ends_with, only_last, Stood, placed, collects, columns, AllCame, have_come, came_token}
+use Rattle.ddl_laws.proofs.Common.{cases_Bool, and_parts, and_from, or_right, drop_all, list_all-append, IsUtf8-append, IsUtf8-from_is_utf8, is_utf8-from_IsUtf8, ◌≡◌, ℕ, suc, ◌+◌, Bool, true, cond, ◌&&◌, ◌-◌, List, [], ◌∷◌, ◌++◌, length, length-append, append_assoc, append-nil, Option, Some, None, Result, Ok, Err, refl, sym, ap, subst, ◌∙◌, arith, ◌⊎◌, inl, inr, codes, ◌≤◌, ◌==◌, slice_index, list_all, AllByRecursion, is_utf8, IsUtf8, chars, encode, Token, LexFault, next_token_of, spelling as token_text, IsMetaLine, goes_on, token_at, written_kind, next_at_end, spelling_is_read, Piece, is_sign_kind, Lexeme, spelled, is_sign, start_of, name_value, is_name, is_name_kind, lexeme_of, lexemes, Collected, collected, collected_within, collected_by, nothing_more, preceded, name_begins, IsLine, IsStatement, Reads, all_read, one_read, line_read, line_token, a_name, Gap, passed, space, gap_stands, name_no_sign, name_means, none, newline, IsName, is_blank, in_line, next_is, begins_line, doubled, quoted, written_name, MetaLine, connect_text, unknown, named, stands_alone, one_name, name_alone, connected, command_len, said_by, meta_line, IsSaid, Stmt, Located, semicolon, statement, Whole, whole, with_rows, completed, first_start, listed, statements_of, listed as listed_before, DdlFault, AreRows, Copied, rows_behind, rows_read_back, read_are_rows, end_mark, QName, nothing_follows, joined-append, IsWritable, AllWritable, spellings, said, ends_with, only_last, Stood, placed, collects, columns, AllCame, have_come, came_token}
 use Rattle.ddl_parts.proofs.Lemmas.{newline as line_feed}
 use Rattle.ddl_write.specs.Spelling.{spelling}
 use Rattle.ddl_forms.proofs.{Passed.both_passed, Passed.feed_passed, Passed.comment_passed, Tokens.passes}

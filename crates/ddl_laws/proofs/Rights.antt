@@ -1,5 +1,5 @@
 -- GRANT and REVOKE: each part of their grammar with the text that it is written in.
-use Rattle.ddl_laws.proofs.Common.{arith, ◌≡◌, ℕ, Bool, true, false, not, cond, ◌&&◌, List, [], ◌∷◌, ◌++◌, map, append_assoc, append-nil, Option, Some, None, Result, Ok, Err, refl, sym, ap, subst, ◌∙◌, ◌⊎◌, inl, inr, codes, flat_map, is_utf8, chars, encode, and_parts, not-true, TokenKind, Word, is_keyword_of, name_of, written_kind, written_name, IsName, Rights, Granted, Stmt, no_rights, has_rights, Lexeme, is_word, is_sign, spelled, comma, Part, ◌then◌, ◌▸◌, name, name_value, name_in, joined, only_if, is_all, with_commas, right_list, rights_text, granted_words, granted_name, grantee_text, with_right, only, within, kind_rights, goes_with, right_first, wanted_first, wanted, joining, right_behind, more_rights, all_of, rights_from, kind_has, having, kind_with, rights_on, object, on_object, rights_and_object, grantee_of, grantee, truth_first, set_behind, inherit_and_set, others_behind, options, with_options, granted_by, member, member_of, membership, grant_option, to_grantee, from_grantee, grant_rights, revoke_rights, first, behind_first, granted, revoked, Behind, Anything, Words, Safe, End, admits, covers, through, admitted, looser, Opens, then_opens, Closes, ends_with, ends_append, AllCame, came_front, came_behind, Follows, IsPut, put_as, joined-append, none, space, name_token, value_name, Written, Kinds, given_or, or_given, meets, is_bare_word, Says, word_said, name_said, is_key, comma_as, ending, mark_as, name_as, path_as, then_as, then_puts, lead_as, word_then, end_as, seen_as, is_as, like_as, pieces_as, choose_as, heard_as, also_as, AllFit, items_pieces, many_as, lone_as, IsWritable}
+use Rattle.ddl_laws.proofs.Common.{arith, ◌≡◌, ℕ, Bool, true, false, not, cond, ◌&&◌, List, [], ◌∷◌, ◌++◌, map, append_assoc, append-nil, Option, Some, None, Result, Ok, Err, refl, sym, ap, subst, ◌∙◌, ◌⊎◌, inl, inr, codes, flat_map, is_utf8, chars, encode, and_parts, not-true, Word, is_keyword_of, name_of, written_kind, written_name, IsName, Rights, Granted, Stmt, no_rights, has_rights, Lexeme, is_word, is_sign, spelled, comma, Part, ◌then◌, ◌▸◌, name, name_value, name_in, joined, only_if, is_all, with_commas, right_list, rights_text, granted_words, granted_name, grantee_text, with_right, only, within, kind_rights, goes_with, right_first, wanted_first, wanted, joining, right_behind, more_rights, all_of, rights_from, kind_has, having, kind_with, rights_on, object, on_object, rights_and_object, grantee_of, grantee, truth_first, set_behind, inherit_and_set, others_behind, options, with_options, granted_by, member, member_of, membership, grant_option, to_grantee, from_grantee, grant_rights, revoke_rights, first, behind_first, granted, revoked, Behind, Anything, Words, Safe, End, admits, covers, through, admitted, looser, Opens, then_opens, Closes, ends_with, ends_append, AllCame, came_front, came_behind, Follows, IsPut, put_as, joined-append, none, space, name_token, value_name, Written, Kinds, given_or, or_given, meets, is_bare_word, Says, word_said, name_said, is_key, comma_as, ending, mark_as, name_as, path_as, then_as, then_puts, lead_as, word_then, end_as, seen_as, is_as, like_as, pieces_as, choose_as, heard_as, also_as, AllFit, items_pieces, many_as, lone_as, IsWritable}
 use Rattle.cat_model.specs.{declared.grant.Grantee.Grantee, Lexemes.same_text}
 use Rattle.ddl_write.specs.Roles.{truth as truth_word}
 use Rattle.ddl_rights.proofs.{RightsLaws.object_on, RightsLaws.right_word, RightsLaws.wanted_is, RightSets.has_some, RightSets.has_it, RightSets.kind_some, RightSets.kind_whole, RightSets.all_is, RightSets.listed_is, RightSets.some_listed, RightSets.written_word, RightSets.words_are, RightSets.AllGo, RightSets.all_go}

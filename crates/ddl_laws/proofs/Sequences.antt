@@ -1,5 +1,5 @@
 -- CREATE SEQUENCE with the text that it is written in: its clauses bring those so far on from one state to another.
-use Rattle.ddl_laws.proofs.Common.{◌≡◌, ℕ, ◌+◌, ◌<◌, ◌^◌, ℤ, pos, negsuc, Bool, true, false, cond, List, [], ◌∷◌, ◌++◌, append-nil, Option, Some, None, Result, Ok, refl, sym, ap, subst, ◌∙◌, ◌⊎◌, inl, inr, codes, option_and_then, arith, ◌&&◌, not, is_some, signed_decimal, Decides-int_eq, Word, is_keyword_of, QName, Lexeme, is_word, is_sign, never, spelled, starts, Part, stop, passes, run, seen, ◌then◌, ◌▸◌, path, joined, only_if as words_if, usual_min, usual_max, type_words, bound, min_text, max_text, count, count_first, count_value, counted, opposite, whole_number, count_begins, number_no_sign, First, Step, Least, Greatest, Cache, Both, Lower, Upper, ClauseSpot, Between, BehindAs, BehindStart, BehindIncrement, BehindNo, Due, BehindMinus, Clauses, no_clauses, is_unsaid, with_number, reached, behind_no, clause_first, kind_first, lower, upper, usual_first, numbered, step_first, clausing, first_reached, clauses_of, sequence_clauses, bound_or, usual_start, sequence_of, create_sequence, Anything, Words, Safe, End, admits, admitted, Opens, then_opens, passes_true as passed, number_as, positive_is, opposite_is, IsBelow, count_below, Follows, IsPut, Yields, followed, same_text, put_as, none_put, one_put, then_put, joined-append, is_safe_byte, Gap, space, indented, indent, Written, Kinds, not_closed, is_bare_word, bare_word, path_as, then_as, end_as, kind_as, IsInt, IsWritable}
+use Rattle.ddl_laws.proofs.Common.{◌≡◌, ℕ, ◌+◌, ◌<◌, ◌^◌, ℤ, pos, Bool, true, false, cond, List, [], ◌∷◌, ◌++◌, append-nil, Option, Some, None, Result, Ok, refl, sym, ap, subst, ◌∙◌, inl, codes, option_and_then, arith, signed_decimal, Word, is_keyword_of, QName, Lexeme, is_word, is_sign, never, spelled, starts, Part, stop, passes, run, ◌then◌, path, joined, only_if as words_if, usual_min, usual_max, type_words, bound, min_text, max_text, count_first, count_value, counted, opposite, whole_number, count_begins, number_no_sign, First, Step, Least, Greatest, Cache, Both, Lower, Upper, ClauseSpot, Between, BehindAs, BehindStart, BehindIncrement, BehindNo, Due, BehindMinus, Clauses, no_clauses, with_number, reached, behind_no, clause_first, kind_first, lower, upper, usual_first, numbered, step_first, clausing, first_reached, clauses_of, sequence_clauses, bound_or, sequence_of, create_sequence, Words, Safe, admits, admitted, Opens, then_opens, passes_true as passed, number_as, positive_is, opposite_is, IsBelow, count_below, Follows, IsPut, Yields, followed, same_text, put_as, none_put, one_put, then_put, joined-append, is_safe_byte, Gap, space, indented, indent, Written, Kinds, not_closed, is_bare_word, bare_word, path_as, then_as, end_as, kind_as, IsInt, IsWritable}
 use Rattle.std.specs.Ordering.{int_eq}
 use Rattle.cat_model.specs.{declared.constraint.SequenceKind.SequenceKind, declared.constraint.SequenceKind.TheVariants.SmallInt, declared.constraint.SequenceKind.TheVariants.Integer, declared.constraint.SequenceKind.TheVariants.BigInt}
 use Rattle.ddl_forms.proofs.{Putting.begun, Tokens.a_word}

@@ -1,6 +1,5 @@
 -- What a line with a backslash says is a name of one line.
-use Rattle.ddl_lines.proofs.Common.{◌≡◌, ◌≢◌, ℕ, zero, suc, ◌+◌, ◌-◌, Bool, true, false, cond, not, ◌&&◌, ◌||◌, List, [], ◌∷◌, length, map, take, drop, Option, Some, None, Result, Ok, Err, refl, ap, subst, ◌⊎◌, arith, inl, inr, ◌==◌, nat_lt, codes, list_all, list_any, AllByRecursion as ByRecursion, to_ascii_lowercase, is_utf8, and_parts, or_parts, cases_Bool, and_from, nat_tests, All-from_recursion, IsUtf8-from_is_utf8, IsName, TokenKind, Word, QuotedName, Literal, Number, Sign, MetaLine, in_line, unless, inside, undoubled, name_of, spelling, Stmt, Piece, name_in, name_value, is_name_kind, lexeme_of, collected, IsSaid, Wrong, unknown, named, command_len, stands_alone, one_name, name_alone, connected, said_by, meta_line}
-use Rattle.std.specs.Str.{bytes_eq}
+use Rattle.ddl_lines.proofs.Common.{◌≡◌, ◌≢◌, ℕ, zero, suc, ◌+◌, ◌-◌, Bool, true, false, cond, not, ◌&&◌, ◌||◌, List, [], ◌∷◌, length, map, take, drop, Option, Some, None, Result, Ok, Err, refl, ap, subst, ◌⊎◌, arith, inl, inr, ◌==◌, nat_lt, list_all, list_any, AllByRecursion as ByRecursion, to_ascii_lowercase, is_utf8, and_parts, or_parts, cases_Bool, and_from, nat_tests, All-from_recursion, IsUtf8-from_is_utf8, IsName, TokenKind, in_line, unless, inside, undoubled, name_of, spelling, Stmt, Piece, name_in, name_value, is_name_kind, lexeme_of, collected, IsSaid, Wrong, named, command_len, stands_alone, one_name, name_alone, connected, said_by, meta_line}
 use Rattle.cat_model.specs.declared.stmt.Stmt.TheVariants.{Connect}
 
 -- ---- a name is a name

@@ -1,5 +1,5 @@
 -- One token of a text lies in it.
-use Rattle.ddl_lines.proofs.Common.{◌≡◌, ℕ, ◌<◌, ◌≤◌, true, List, [], ◌∷◌, length, arith, leb-true, ltb-true, slice_index_or, and_parts, Piece, are_joined, are_joined_from}
+use Rattle.ddl_lines.proofs.Common.{◌≡◌, ℕ, ◌<◌, ◌≤◌, true, List, length, arith, slice_index_or, Piece, are_joined, are_joined_from}
 
 pub first_within : (limit : ℕ) (ps : List Piece) (d : Piece) → are_joined limit ps ≡ true → 0 < length ps → ((slice_index_or ps 0 d).token.start ≤ limit) × ((slice_index_or ps 0 d).token.end ≤ limit)
 unfolding are_joined are_joined_from

@@ -1,5 +1,5 @@
 -- The rows of a text, line by line.
-use Rattle.ddl_lines.proofs.Common.{◌≡◌, ◌≢◌, ℕ, suc, ◌+◌, ◌-◌, ◌<◌, ◌≤◌, min, Bool, true, false, cond, eqb, List, [], ◌∷◌, ◌++◌, length, take, drop, Result, Ok, Err, refl, sym, ap, ◌∙◌, arith, inl, inr, append_assoc, append-nil, length-append, slice_range, IfOk, cases_Bool, cond-false, take_rest, length-drop, length-take, drop_all, flat_map-cons, bytes_eq-Decides, newline, end_mark, lines, before_end_mark, line_at, IsNextLine, len_of, lines_nil, seam, seen, with_feeds, rows_in, Copied, copied, rows_from}
+use Rattle.ddl_lines.proofs.Common.{◌≡◌, ◌≢◌, ℕ, suc, ◌+◌, ◌-◌, ◌<◌, ◌≤◌, min, Bool, cond, eqb, List, [], ◌∷◌, ◌++◌, length, take, drop, Result, refl, sym, ap, ◌∙◌, arith, inl, inr, append_assoc, append-nil, length-append, slice_range, IfOk, cases_Bool, cond-false, take_rest, length-drop, length-take, drop_all, bytes_eq-Decides, newline, end_mark, before_end_mark, line_at, IsNextLine, len_of, lines_nil, seam, seen, with_feeds, rows_in, Copied, copied, rows_from}
 use Rattle.std.proofs.{Math.Nat.min-eq_right, lemmas.Bool.eqb-true}
 use Rattle.std.specs.Str.{bytes_eq}
 use Rattle.copy_text.specs.{declared.line.Line.TheVariants.Row, declared.line.Line.TheVariants.Stop, declared.line.Line.TheVariants.End, declared.line.Line.Line}

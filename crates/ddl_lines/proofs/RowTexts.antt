@@ -1,5 +1,5 @@
 -- Rows as a text: what is read are rows, and rows that are written are read back.
-use Rattle.ddl_lines.proofs.Common.{◌≡◌, ℕ, suc, ◌+◌, ◌≤◌, min, false, eqb, List, [], ◌∷◌, ◌++◌, length, drop, Ok, refl, sym, ap, subst, ◌∙◌, arith, inl, inr, append_assoc, append-nil, length-append, onto_first, prefix_len, AllByRecursion as ByRecursion, drop-append_seam, drop-append-add, cases_Bool, cond-false, length-drop, flat_map-cons, newline, end_mark, lines, before_end_mark, data_lines, lines_nil, is_between, with_feeds, rows_in, AreRows, Copied, copied, rows_from, rows_by, rows_at, rows_behind}
+use Rattle.ddl_lines.proofs.Common.{◌≡◌, ℕ, suc, ◌+◌, ◌≤◌, min, false, eqb, List, [], ◌∷◌, ◌++◌, length, drop, Ok, refl, sym, ap, ◌∙◌, arith, append_assoc, append-nil, length-append, onto_first, prefix_len, AllByRecursion as ByRecursion, drop-append_seam, drop-append-add, cond-false, length-drop, flat_map-cons, newline, end_mark, lines, before_end_mark, data_lines, lines_nil, is_between, with_feeds, rows_in, AreRows, Copied, copied, rows_from, rows_by, rows_at, rows_behind}
 use Rattle.std.proofs.{lemmas.Grind.flat_map-append, lemmas.List.Sums.prefix_len-le-length}
 use Rattle.std.specs.Str.{bytes_eq}
 

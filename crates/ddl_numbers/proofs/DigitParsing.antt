@@ -1,5 +1,5 @@
 -- What parsing digits gives is the number that they write.
-use Rattle.ddl_parts.proofs.Lemmas.{◌≡◌, ℕ, ◌<◌, ◌≤◌, ◌^◌, Bool, true, false, List, [], ◌∷◌, length, Some, None, Result, Ok, Err, refl, sym, ap, subst, ◌∙◌, arith, nat_lt, list_all, digit_value, IsUtf8, digits_value, AllDigits, IsNumeral, ParsesUnsigned, without_leading_plus, and_parts, lt-ltb, nat_tests, IsAscii-from_digits, OkIff-at_ok, IsUtf8-from_ascii, digit_value_digit, without_leading_plus_none, digit_from_value, is_digit}
+use Rattle.ddl_parts.proofs.Lemmas.{◌≡◌, ℕ, ◌<◌, ◌≤◌, ◌^◌, true, List, [], ◌∷◌, length, Some, None, Result, Ok, Err, arith, list_all, digit_value, IsUtf8, digits_value, AllDigits, ParsesUnsigned, without_leading_plus, and_parts, lt-ltb, IsAscii-from_digits, IsUtf8-from_ascii, is_digit}
 use Rattle.std.proofs.lemmas.Bool.{ltb-true}
 use Rattle.ddl_numbers.specs.Numbers.{digits_below}
 

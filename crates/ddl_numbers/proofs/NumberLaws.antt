@@ -1,5 +1,5 @@
 -- Whole numbers have the laws of a part.
-use Rattle.ddl_parts.proofs.Lemmas.{◌≡◌, ℕ, ◌+◌, ◌<◌, ◌^◌, pos, true, false, List, [], ◌∷◌, Option, Some, None, Ok, Err, option_and_then, refl, sym, ap, ◌∙◌, arith, lt-ltb, is_digit, TokenKind, Word, QuotedName, Literal, Number, Sign, MetaLine, Lexeme, is_sign, is_sign_kind, digits_of, seen, ◌▸◌, is_number, is_number_kind, Lawful, Begins, Apart, IsTooLong, shortened, short_word, sign_agrees, long_no_number, Shortens, one_laws, one_begins, seen_laws, seen_begins, lead_begins, choose_apart, sign_laws}
+use Rattle.ddl_parts.proofs.Lemmas.{◌≡◌, ℕ, ◌+◌, ◌<◌, ◌^◌, pos, true, false, List, [], ◌∷◌, Option, Some, None, Err, option_and_then, refl, sym, ap, ◌∙◌, arith, lt-ltb, is_digit, TokenKind, Number, Lexeme, is_sign, digits_of, seen, ◌▸◌, is_number, is_number_kind, Lawful, Begins, Apart, IsTooLong, shortened, short_word, sign_agrees, long_no_number, Shortens, one_laws, seen_laws, seen_begins, lead_begins, choose_apart, sign_laws}
 use Rattle.ddl_numbers.specs.Numbers.{digits_below, count_first, counted, count_value, count, opposite, whole_number}
 
 -- a number is no sign

@@ -1,6 +1,6 @@
 -- The token at a place, and a number that is read there.
-use Rattle.ddl_parts.proofs.Lemmas.{◌≡◌, ℕ, zero, suc, ◌+◌, ◌<◌, ◌≤◌, List, [], ◌∷◌, length, drop, Option, Some, None, Ok, refl, sym, ap, ◌∙◌, option_and_then, arith, Lexeme, digits_of, Reading, stop, first_by}
-use Rattle.ddl_numbers.specs.Numbers.{digits_below, count_first, counted, count_value, count}
+use Rattle.ddl_parts.proofs.Lemmas.{◌≡◌, ℕ, zero, suc, ◌+◌, ◌<◌, ◌≤◌, List, [], ◌∷◌, length, drop, Option, Some, None, Ok, refl, ap, ◌∙◌, arith, Lexeme, Reading, stop, first_by}
+use Rattle.ddl_numbers.specs.Numbers.{count_first, counted, count_value, count}
 
 -- the token at a place before the end
 pub record IsAt (ts : List Lexeme) (at : ℕ) : Type 0 where

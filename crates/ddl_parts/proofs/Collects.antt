@@ -1,6 +1,6 @@
 -- Tokens that are collected one by one: those so far and those behind are the statement's.
 use Rattle.std.proofs.Common.{lt-ltb}
-use Rattle.ddl_parts.proofs.Common.{◌≡◌, ℕ, zero, suc, ◌+◌, ◌-◌, ◌<◌, ◌≤◌, Bool, true, false, cond, List, [], ◌∷◌, ◌++◌, length, Option, Some, None, Result, Ok, Err, refl, sym, ap, ◌∙◌, arith, append_assoc, append-nil, le-leb, eq-eqb, leb-true, eqb-true, and_parts, and_from, Token, LexFault, next_token_of, Piece, is_sign_kind, are_joined, are_joined_from, Collected, preceded, nothing_more, collected_by, collected_within, collected}
+use Rattle.ddl_parts.proofs.Common.{◌≡◌, ℕ, zero, suc, ◌+◌, ◌-◌, ◌<◌, ◌≤◌, Bool, true, false, cond, List, [], ◌∷◌, ◌++◌, length, Option, Some, None, Result, Ok, Err, refl, sym, ap, ◌∙◌, arith, append_assoc, append-nil, and_parts, and_from, Token, LexFault, next_token_of, Piece, is_sign_kind, are_joined, are_joined_from, Collected, preceded, nothing_more, collected_by, collected_within, collected}
 
 -- tokens so far, before those behind
 abbrev pub behind : List Piece → Collected → Collected

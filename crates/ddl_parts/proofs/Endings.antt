@@ -1,5 +1,5 @@
 -- The last two tokens of a run.
-use Rattle.ddl_parts.proofs.Common.{◌≡◌, ◌+◌, ◌-◌, ◌≤◌, ℕ, List, [], ◌∷◌, ◌&&◌, length, take, drop, codes, refl, ap, ◌∙◌, arith, drop-take, length-drop, Lexeme, is_word, starts, are_not_null}
+use Rattle.ddl_parts.proofs.Common.{◌≡◌, ◌+◌, ◌-◌, ◌≤◌, ℕ, List, ◌&&◌, length, take, drop, codes, ap, ◌∙◌, arith, drop-take, length-drop, Lexeme, is_word, starts, are_not_null}
 use Rattle.ddl_parts.proofs.Slices.{drop_twice}
 
 last_two : (ts : List Lexeme) (from end : ℕ) → from + 2 ≤ end → drop (end - from - 2) (take (end - from) (drop from ts)) ≡ take 2 (drop (end - 2) ts)

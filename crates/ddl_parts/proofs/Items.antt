@@ -1,5 +1,5 @@
 -- Items that a loop reads, one after another: those so far and those behind the place are the whole.
-use Rattle.ddl_parts.proofs.Common.{◌≡◌, ℕ, zero, suc, ◌-◌, ◌<◌, Bool, true, false, List, [], ◌∷◌, ◌++◌, length, drop, Ok, Err, refl, sym, ap, ◌∙◌, append_assoc, append-nil, length-append, arith, ReadError, Halted, Memory, Lexeme, starts, Reading, ◌>>=◌, Items, GivesPart, Fails, halted}
+use Rattle.ddl_parts.proofs.Common.{◌≡◌, ℕ, zero, suc, ◌-◌, ◌<◌, Bool, true, false, List, [], ◌∷◌, ◌++◌, length, drop, Ok, sym, ap, ◌∙◌, append_assoc, append-nil, length-append, arith, ReadError, Lexeme, starts, Reading, ◌>>=◌, Items, GivesPart, Fails}
 use Rattle.ddl_parts.proofs.{Steps.gives, Repeated.AreApart, Repeated.begun_long, Repeated.from_none, Repeated.from_stop, Repeated.from_read}
 pub use Rattle.ddl_parts.proofs.Repeated.{items_from}
 

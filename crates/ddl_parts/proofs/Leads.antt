@@ -1,6 +1,6 @@
 -- The laws of words, signs, names and literals; key words that differ are told apart.
-use Rattle.ddl_parts.proofs.Common.{◌≡◌, ℕ, Bool, true, false, List, [], ◌∷◌, ◌++◌, Ok, refl, ap, ◌∙◌, ◌⊎◌, inl, inr, bytes_eq, codes, eq-eqb, arith, str_eq_ignore_ascii_case, str_to_ascii_lowercase, is_utf8, chars, encode, bytes_eq-Decides, next_is, TokenKind, Word, QuotedName, Literal, Sign, name_of, literal_of, is_keyword_of, undoubled, inside, QName, Lexeme, is_word, is_sign, is_sign_kind, starts, Part, choose, ◌then◌, ◌▸◌, ◌◂◌, Lawful, Begins, Avoids, Apart, name, name_value, name_in, is_name, is_name_kind, literal, literal_value, text_in, is_literal, is_literal_kind, qualified}
-use Rattle.ddl_parts.proofs.{Steps.starts_neither, Steps.avoids_never, Steps.avoids_begun, Shorter.is_far, Shorter.word_agrees, Shorter.sign_agrees, Shorter.name_shortens, Shorter.literal_shortens, Simple.one_laws, Simple.one_begins, Simple.seen_laws, Simple.seen_begins, Sequence.then_laws, Sequence.then_begins, Sequence.lead_laws, Sequence.close_laws}
+use Rattle.ddl_parts.proofs.Common.{◌≡◌, ℕ, Bool, true, false, List, [], ◌∷◌, refl, ap, ◌∙◌, bytes_eq, codes, eq-eqb, arith, str_eq_ignore_ascii_case, str_to_ascii_lowercase, is_utf8, chars, encode, bytes_eq-Decides, next_is, TokenKind, Word, QuotedName, Literal, Sign, name_of, literal_of, is_keyword_of, undoubled, inside, Lexeme, is_word, is_sign, is_sign_kind, Part, choose, ◌then◌, ◌▸◌, ◌◂◌, Lawful, Begins, Avoids, Apart, name, name_value, name_in, is_name, literal, literal_value, text_in, is_literal, qualified}
+use Rattle.ddl_parts.proofs.{Steps.avoids_never, Steps.avoids_begun, Shorter.is_far, Shorter.word_agrees, Shorter.sign_agrees, Shorter.name_shortens, Shorter.literal_shortens, Simple.one_laws, Simple.seen_laws, Simple.seen_begins, Sequence.then_laws, Sequence.then_begins, Sequence.lead_laws, Sequence.close_laws}
 
 -- ---- tokens that stand for something
 

@@ -1,5 +1,5 @@
 -- The laws of a run of tokens that a machine takes.
-use Rattle.ddl_parts.proofs.Common.{arith, ◌≡◌, Bool, true, false, cond, List, [], ◌∷◌, ◌++◌, Option, Some, None, Ok, Err, refl, sym, ap, subst, ◌∙◌, ◌⊎◌, inl, inr, Lexeme, starts, Reading, ◌>>=◌, Machine, run, ends, scan, scan_step, runs_of, IsTooLong, shortened, Like, Lawful}
+use Rattle.ddl_parts.proofs.Common.{arith, ◌≡◌, Bool, true, false, cond, List, [], ◌∷◌, ◌++◌, Option, Some, None, Ok, Err, refl, sym, ap, subst, ◌∙◌, inl, inr, Lexeme, starts, Reading, ◌>>=◌, Machine, run, ends, scan, scan_step, runs_of, IsTooLong, shortened, Like, Lawful}
 use Rattle.ddl_parts.proofs.{Steps.gives, Told.Told, Told.long_of, Told.lawful, Told.told_as, Told.named_by, Simple.head_is}
 
 -- A token that a state doesn't take: where it says that it is too long, it takes a shorter one, and else it doesn't take

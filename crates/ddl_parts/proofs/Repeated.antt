@@ -1,6 +1,6 @@
 -- The laws of any number of parts, one after another.
 use Rattle.ddl_parts.proofs.Common.{◌≡◌, ℕ, zero, suc, ◌<◌, ◌≤◌, Bool, true, false, cond, List, [], ◌∷◌, ◌++◌, length, Ok, Err, refl, sym, ap, subst, ◌∙◌, append_assoc, append-nil, length-append, arith, Lexeme, starts, Stop, Reading, ◌>>=◌, Items, Many, no_more, one_more, many, many_at, shortened, Lawful, Begins, Apart}
-use Rattle.ddl_parts.proofs.{Steps.Agrees, Steps.starts-append, Steps.starts_again, Steps.starts_apart, Steps.starts_covered, Told.Told, Told.Tells, Told.told, Told.lawful, Told.told_on, Told.named_by}
+use Rattle.ddl_parts.proofs.{Steps.Agrees, Steps.starts-append, Steps.starts_again, Steps.starts_covered, Told.Told, Told.Tells, Told.told, Told.lawful, Told.told_on, Told.named_by}
 
 -- What items need so that they can be told apart: each has the laws and begins with its own tokens, an item can't go on
 -- with the beginning of the next, and what `goes_on` leaves out begins no item and goes on with none.

@@ -1,5 +1,5 @@
 -- The laws of expressions and types.
-use Rattle.ddl_parts.proofs.Common.{◌≡◌, ℕ, Bool, true, false, cond, not, List, [], ◌∷◌, Option, Some, None, Result, Ok, Err, is_ok, refl, ap, subst, ◌∙◌, ◌||◌, codes, eqb-true, arith, ◌==◌, not-false, is_utf8, chars, encode, TokenKind, Word, Number, Sign, is_keyword_of, name_of, Lexeme, is_word, is_sign, is_sign_kind, source, run, runs_of, Lawful, Apart, name_value, name_in, Bracket, Spot, First, Inside, Nest, nested, nest_step, nest_done, ends_run, is_end_kind, step_by, behind_bounded, behind_kind, moved, expression, default_text, default_and_null, without_not_null, typing, type_step, type_done, type_long, type_goes_on, if_name, is_long_by, is_type_word, is_number, type_part, type_of, TypeSpot, Begin, FirstWord, Schema, Dotted, Path, Words, Opened, Counted, Further, Behind, Array, Ended, IsTooLong, shortened}
+use Rattle.ddl_parts.proofs.Common.{◌≡◌, ℕ, Bool, true, false, cond, not, List, [], ◌∷◌, Some, None, Result, is_ok, refl, ap, ◌∙◌, ◌||◌, codes, arith, ◌==◌, not-false, is_utf8, chars, encode, TokenKind, Number, is_keyword_of, name_of, Lexeme, is_word, is_sign, is_sign_kind, source, run, runs_of, Lawful, Apart, name_value, name_in, Bracket, Spot, First, Inside, Nest, nested, nest_step, nest_done, ends_run, is_end_kind, step_by, behind_bounded, behind_kind, moved, expression, default_text, default_and_null, without_not_null, typing, type_step, type_done, type_long, type_goes_on, if_name, is_long_by, is_type_word, is_number, type_part, type_of, TypeSpot, Begin, FirstWord, Schema, Dotted, Path, Words, Opened, Counted, Further, Behind, Array, Ended, IsTooLong, shortened}
 use Rattle.ddl_parts.proofs.{Simple.seen_laws, Shorter.word_like, Shorter.sign_like, Shorter.name_shortens, Machines.CanEnd, Machines.Shorter, Machines.machine_laws, Leads.a_word, Leads.a_sign}
 use Rattle.ddl_parts.specs.declared.runs.Bracket.TheVariants.{Round, Square}
 

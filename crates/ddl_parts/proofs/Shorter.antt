@@ -1,5 +1,5 @@
 -- A token that is too long and a shorter one in its place pass the same tests, and which of their values there are.
-use Rattle.ddl_parts.proofs.Common.{◌≡◌, ℕ, Bool, true, false, not, cond, ◌&&◌, ◌||◌, List, [], ◌∷◌, length, Option, Some, None, Result, Ok, Err, refl, sym, ap, ◌∙◌, ◌⊎◌, inl, inr, bytes_eq, codes, arith, ◌==◌, nat_lt, list_any, str_eq_ignore_ascii_case, str_to_ascii_lowercase, is_utf8, chars, encode, and_parts, not-true, bytes_eq-Decides, TokenKind, Word, QuotedName, Literal, Sign, name_of, literal_of, is_keyword_of, undoubled, inside, Lexeme, is_word, is_sign, name_in, name_value, is_name, text_in, literal_value, is_literal, IsTooLong, shortened, short_word, path_of, path_value, is_number, is_number_kind}
+use Rattle.ddl_parts.proofs.Common.{◌≡◌, ℕ, Bool, true, false, not, cond, ◌&&◌, ◌||◌, List, length, Option, Some, Result, Ok, Err, refl, sym, ap, ◌∙◌, inl, inr, bytes_eq, codes, arith, ◌==◌, nat_lt, list_any, str_eq_ignore_ascii_case, str_to_ascii_lowercase, is_utf8, chars, encode, and_parts, not-true, bytes_eq-Decides, TokenKind, Word, QuotedName, name_of, literal_of, is_keyword_of, undoubled, inside, Lexeme, is_word, is_sign, name_in, name_value, is_name, text_in, literal_value, is_literal, IsTooLong, shortened, short_word, path_of, path_value, is_number_kind}
 use Rattle.ddl_parts.proofs.{Steps.Agrees, Simple.Shortens}
 
 -- ---- tests

@@ -1,5 +1,5 @@
 -- The laws of one token, of no token, and of a value seen through another.
-use Rattle.ddl_parts.proofs.Common.{◌≡◌, Bool, true, false, List, [], ◌∷◌, ◌++◌, Result, Ok, Err, cond, refl, sym, ap, subst, ◌∙◌, ◌⊎◌, inl, inr, arith, Lexeme, starts, Part, Reading, one, one_at, first_by, seen, seen_at, nothing, wider, passes, mark, IsTooLong, shortened, Like, Lawful, Begins, Avoids}
+use Rattle.ddl_parts.proofs.Common.{◌≡◌, Bool, true, false, List, [], ◌∷◌, ◌++◌, Result, Ok, Err, cond, refl, sym, ap, subst, ◌∙◌, inl, inr, arith, Lexeme, starts, Part, Reading, one, one_at, first_by, seen, seen_at, nothing, wider, passes, mark, IsTooLong, shortened, Like, Lawful, Begins, Avoids}
 use Rattle.ddl_parts.proofs.{Steps.Agrees, Steps.starts_neither, Steps.gives, Told.Tells, Told.told, Told.lawful, Told.told_as, Told.named_by}
 
 -- ---- one token

@@ -1,5 +1,5 @@
 -- Slices of lists side by side, and the text of a run of tokens as a slice of the whole text.
-use Rattle.ddl_parts.proofs.Common.{◌≡◌, ℕ, zero, suc, ◌+◌, ◌-◌, ◌<◌, ◌≤◌, true, List, [], ◌∷◌, ◌++◌, length, take, drop, get_or, Some, None, Ok, refl, sym, ap, subst, ◌∙◌, arith, append-nil, leb-true, ltb-true, eqb-true, slice_range, list_all, IsUtf8, is_utf8, IsUtf8-append, IsUtf8-nil, IsUtf8-from_is_utf8, is_utf8-from_IsUtf8, and_parts, and_from, Token, next_token_of, spelling, Between, gap, IsNext, next_found, piece_word, Piece, Lexeme, spelled, source, lexeme_of, lexemes, are_joined, are_joined_from, is_sound, are_sound}
+use Rattle.ddl_parts.proofs.Common.{◌≡◌, ℕ, zero, suc, ◌+◌, ◌-◌, ◌<◌, ◌≤◌, true, List, [], ◌∷◌, ◌++◌, length, take, drop, get_or, Some, None, Ok, refl, sym, ap, subst, ◌∙◌, arith, append-nil, slice_range, list_all, IsUtf8, is_utf8, IsUtf8-append, IsUtf8-nil, IsUtf8-from_is_utf8, is_utf8-from_IsUtf8, and_parts, and_from, Token, next_token_of, spelling, Between, gap, IsNext, next_found, piece_word, Piece, Lexeme, spelled, source, lexeme_of, lexemes, are_joined, are_joined_from, is_sound, are_sound}
 use Rattle.sql_lex.specs.Answers.{nothing}
 
 -- ---- slices

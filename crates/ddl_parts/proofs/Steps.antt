@@ -1,5 +1,5 @@
 -- Steps of a reading, and the first of some tokens.
-use Rattle.ddl_parts.proofs.Common.{◌≡◌, Bool, true, false, ◌||◌, List, [], ◌∷◌, ◌++◌, Result, Ok, Err, refl, sym, ap, ◌∙◌, ◌⊎◌, inl, inr, arith, or_parts, Lexeme, starts, never, Stop, Part, Reading, IsTooLong, shortened, Like, Apart, Begins, Avoids}
+use Rattle.ddl_parts.proofs.Common.{◌≡◌, Bool, true, false, ◌||◌, List, [], ◌∷◌, ◌++◌, Result, Ok, Err, refl, ap, arith, Lexeme, starts, never, Stop, Part, Reading, IsTooLong, shortened, Like, Apart, Begins, Avoids}
 
 abbrev pub done : {A : Type 0} → A → Result A Stop
 done x = Ok x

@@ -1,5 +1,5 @@
 -- Tokens that are told apart, by their kinds and words.
-use Rattle.ddl_parts.proofs.Common.{◌≡◌, ℕ, Bool, true, false, ◌||◌, ◌&&◌, List, [], ◌∷◌, ◌++◌, refl, ap, subst, ◌∙◌, bytes_eq, eqb-true, arith, ◌==◌, list_any, str_eq_ignore_ascii_case, str_to_ascii_lowercase, bytes_eq-Decides, TokenKind, Word, QuotedName, Sign, is_keyword_of, Lexeme, is_word, is_sign, is_sign_kind, never, starts, Part, nothing, Apart, Avoids, Begins, is_name, is_name_kind, is_literal, is_literal_kind, type_goes_on, is_type_word, is_word_kind, stop_words}
+use Rattle.ddl_parts.proofs.Common.{◌≡◌, ℕ, Bool, true, false, ◌||◌, ◌&&◌, List, [], ◌∷◌, ◌++◌, refl, ap, ◌∙◌, bytes_eq, arith, ◌==◌, list_any, str_eq_ignore_ascii_case, str_to_ascii_lowercase, bytes_eq-Decides, TokenKind, Word, QuotedName, is_keyword_of, Lexeme, is_word, is_sign, is_sign_kind, never, starts, Part, nothing, Apart, Avoids, Begins, is_name, is_name_kind, is_literal, is_literal_kind, type_goes_on, is_type_word, is_word_kind, stop_words}
 use Rattle.ddl_parts.proofs.{Steps.starts_more, Steps.starts_covered, Leads.word_no_sign}
 
 -- what goes on with no token is followed by anything

@@ -1,5 +1,5 @@
 -- What reading comes to, whether it goes through or stops, in one statement; the laws of parts are proved of it.
-use Rattle.ddl_parts.proofs.Common.{arith, ◌≡◌, Bool, true, false, List, [], ◌∷◌, ◌++◌, Ok, Err, refl, sym, ap, subst, ◌∙◌, ◌⊎◌, inl, inr, append_assoc, Lexeme, starts, Part, Reading, ◌>>=◌, shortened, Like, Named, Example, Lawful}
+use Rattle.ddl_parts.proofs.Common.{arith, ◌≡◌, Bool, true, false, List, [], ◌∷◌, ◌++◌, Ok, Err, refl, sym, ap, subst, ◌∙◌, inl, append_assoc, Lexeme, starts, Part, Reading, ◌>>=◌, shortened, Like, Named, Example, Lawful}
 
 -- the tokens behind those that were taken
 abbrev pub left_of : {A : Type 0} → Reading A → List Lexeme

@@ -1,5 +1,5 @@
 -- The tokens of a type: how a step goes on, and those of a qualified name.
-use Rattle.ddl_parts.proofs.Common.{◌≡◌, ℕ, zero, suc, ◌+◌, ◌-◌, ◌≤◌, Bool, true, false, cond, List, [], ◌∷◌, length, take, drop, Option, Some, None, Result, Ok, Err, is_ok, refl, sym, ap, subst, ◌∙◌, arith, option_and_then, length-drop, ok_or, TypeSpot, Begin, FirstWord, Schema, Dotted, Path, TypeName, ReadError, Lexeme, is_sign, starts, source, name_value, Reading, Runs, run, scan, first_by, one_at, seen_at, Fails, typing, type_step, is_type_word, if_name, type_of, type_part}
+use Rattle.ddl_parts.proofs.Common.{◌≡◌, ℕ, zero, suc, ◌+◌, ◌-◌, ◌≤◌, Bool, true, false, cond, List, [], ◌∷◌, length, take, drop, Option, Some, None, Result, Ok, Err, is_ok, refl, sym, ap, subst, ◌∙◌, arith, option_and_then, length-drop, ok_or, TypeSpot, Begin, FirstWord, Schema, Dotted, Path, TypeName, ReadError, Lexeme, is_sign, starts, source, name_value, Reading, Runs, run, scan, one_at, seen_at, Fails, typing, type_step, if_name, type_of, type_part}
 use Rattle.ddl_parts.proofs.{Steps.gives, Slices.drop_twice, Machines.run_none, Machines.machine_laws, RunLaws.typing_ends}
 use Rattle.cat_model.specs.declared.type_name.TypeName.TheVariants as type_name
 

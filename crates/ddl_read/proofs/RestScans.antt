@@ -1,6 +1,6 @@
 -- What follows the columns of a key, token by token.
-use Rattle.ddl_read.proofs.Common.{arith, ◌≡◌, ℕ, ◌+◌, Bool, List, ◌∷◌, drop, Option, Some, None, Result, Ok, Err, refl, sym, ap, ◌∙◌, ok_or, Lexeme, name_value, first_by, IsAt, if_name, if_read, is_long_by, is_long_read, rest_step, rest_long, step_first, long_first}
-use Rattle.ddl_read.specs.{declared.rests.RestSpot.RestSpot, declared.rests.RestSpot.TheVariants.Begin, declared.rests.RestSpot.TheVariants.Deferrable, declared.rests.RestSpot.TheVariants.Initially, declared.rests.RestSpot.TheVariants.Ended, declared.rests.RestSpot.TheVariants.Foreign, declared.rests.RestSpot.TheVariants.FirstOn, declared.rests.RestSpot.TheVariants.Update, declared.rests.RestSpot.TheVariants.UpdateNo, declared.rests.RestSpot.TheVariants.UpdateSet, declared.rests.RestSpot.TheVariants.Updated, declared.rests.RestSpot.TheVariants.SecondOn, declared.rests.RestSpot.TheVariants.Delete, declared.rests.RestSpot.TheVariants.DeleteNo, declared.rests.RestSpot.TheVariants.DeleteSet, declared.rests.RestSpot.TheVariants.Chosen, declared.rests.RestSpot.TheVariants.Opened, declared.rests.RestSpot.TheVariants.Named, declared.rests.RestSpot.TheVariants.Deleted}
+use Rattle.ddl_read.proofs.Common.{arith, ◌≡◌, ℕ, ◌+◌, Bool, List, ◌∷◌, drop, Option, Some, None, Result, Ok, Err, sym, ap, ◌∙◌, ok_or, Lexeme, first_by, IsAt, if_name, if_read, is_long_by, is_long_read, rest_step, rest_long, step_first, long_first}
+use Rattle.ddl_read.specs.{declared.rests.RestSpot.RestSpot, declared.rests.RestSpot.TheVariants.Named}
 
 first_name : (r : Result (List ℕ) Bool) (t : Lexeme) (ts : List Lexeme) → if_read (first_by t ts r) Named ≡ if_name r Named
 first_name r t ts = grind arith

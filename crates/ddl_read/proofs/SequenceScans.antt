@@ -1,6 +1,6 @@
 -- The clauses of a sequence, token by token: those behind a place, by what was reached before it.
-use Rattle.ddl_read.proofs.Common.{arith, ◌≡◌, ℕ, ◌+◌, Bool, true, false, cond, List, [], ◌∷◌, Some, None, Option, Ok, Err, drop, refl, sym, ap, ◌∙◌, Lexeme, Reading, ◌>>=◌, run, ends, scan, scan_step, seen_at, GivesPart, gives, reached, clause_first, kind_first, usual_first, is_between, ended_by, clausing, first_reached, clauses_of, sequence_clauses, IsAt}
-use Rattle.ddl_read.specs.{declared.sequences.ClauseSpot.ClauseSpot, declared.sequences.ClauseSpot.TheVariants.Between, declared.sequences.ClauseSpot.TheVariants.BehindAs, declared.sequences.ClauseSpot.TheVariants.BehindStart, declared.sequences.ClauseSpot.TheVariants.BehindIncrement, declared.sequences.ClauseSpot.TheVariants.BehindNo, declared.sequences.ClauseSpot.TheVariants.Due, declared.sequences.ClauseSpot.TheVariants.BehindMinus, declared.sequences.Open.TheVariants.Both, declared.sequences.Open.TheVariants.Lower, declared.sequences.Open.TheVariants.Upper, declared.sequences.Clauses.Clauses, declared.sequences.Reached.Reached, SequenceGrammar.step_first}
+use Rattle.ddl_read.proofs.Common.{arith, ◌≡◌, ℕ, ◌+◌, Bool, false, cond, List, [], ◌∷◌, Some, None, Option, Err, drop, refl, sym, ap, ◌∙◌, Lexeme, Reading, ◌>>=◌, run, ends, scan, scan_step, seen_at, GivesPart, gives, reached, clause_first, kind_first, usual_first, is_between, ended_by, clausing, first_reached, clauses_of, sequence_clauses, IsAt}
+use Rattle.ddl_read.specs.{declared.sequences.ClauseSpot.ClauseSpot, declared.sequences.Clauses.Clauses, declared.sequences.Reached.Reached, SequenceGrammar.step_first}
 
 first_at : (spot : ClauseSpot) (c : Clauses) (t : Lexeme) (ts : List Lexeme) → step_first (reached c spot) (t ∷ ts) ≡ step_first (reached c spot) (t ∷ [])
 unfolding step_first clause_first kind_first usual_first

@@ -1,6 +1,6 @@
 -- The items of CREATE TYPE, CREATE DOMAIN and CREATE TABLE are told apart.
-use Rattle.ddl_read.proofs.Common.{grammar, arith, ◌≡◌, ℕ, Bool, true, false, not, cond, ◌||◌, List, [], ◌∷◌, None, Ok, Err, refl, ap, codes, ◌==◌, is_utf8, chars, encode, or_parts, not-true, is_keyword_of, name_of, Lexeme, is_word, is_sign, Part, seen, choose, nothing, Lawful, Apart, Avoids, Begins, comma, listing, name_in, name_value, is_name, literal, is_literal, default_text, default_and_null, ends_run, is_end_kind, type_goes_on, type_part, Agrees, word_agrees, sign_agrees, name_agrees, literal_agrees, name_shortens, guarded_shortens, refused_shortens, Shortens, one_laws, one_begins, lead_begins, choose_begins, AreApart, listing_apart, a_word, name_laws, name_begins, literal_laws, literal_begins, sign_laws, words_apart, choose_avoids, expression_laws, expression_ends_bracket, default_text_laws, default_and_null_laws, type_laws, TableElement, Column, Check, Opening, BehindColumn, BehindCheck, more_attributes, Attributes, not_null, given, null_first, default_first, attributes, typed, checking, column_name_value, column_name, column_of, column, element, last_element, element_begins, element_at, spot_behind, elements, more_elements, free, stop_no_type, sign_no_word, sign_no_type, word_is_name, begins_more, Headed, lawful_seen, lawful_word, lawful_sign, lawful_ended, lawful_then, lawful_next, headed_word, headed_seen, headed_next, lawful_choose, lawful_either, lawful_maybe, lawful_optional, avoids_headed, avoids_maybe}
-use Rattle.ddl_read.specs.{declared.tables.Spot.Spot, Clauses.check_of, Clauses.named_check}
+use Rattle.ddl_read.proofs.Common.{grammar, arith, ◌≡◌, ℕ, Bool, true, false, not, ◌||◌, List, [], ◌∷◌, None, Ok, Err, refl, ap, codes, ◌==◌, is_utf8, chars, encode, or_parts, not-true, is_keyword_of, name_of, Lexeme, is_word, is_sign, Part, seen, choose, nothing, Lawful, Apart, Avoids, Begins, comma, listing, name_in, name_value, is_name, literal, is_literal, default_text, default_and_null, ends_run, type_goes_on, type_part, Agrees, word_agrees, sign_agrees, name_agrees, literal_agrees, name_shortens, guarded_shortens, refused_shortens, Shortens, one_laws, one_begins, lead_begins, choose_begins, AreApart, listing_apart, a_word, name_begins, literal_laws, literal_begins, sign_laws, words_apart, choose_avoids, expression_laws, expression_ends_bracket, default_text_laws, default_and_null_laws, type_laws, TableElement, Column, Check, Opening, BehindColumn, BehindCheck, more_attributes, Attributes, not_null, given, null_first, default_first, attributes, typed, checking, column_name_value, column_name, column_of, column, element, last_element, element_begins, element_at, spot_behind, elements, more_elements, free, stop_no_type, sign_no_word, sign_no_type, word_is_name, begins_more, Headed, lawful_seen, lawful_word, lawful_then, headed_word, headed_seen, headed_next, lawful_choose, lawful_either, lawful_maybe, lawful_optional, avoids_headed, avoids_maybe}
+use Rattle.ddl_read.specs.{declared.tables.Spot.Spot, Clauses.named_check}
 
 -- ---- checks
 

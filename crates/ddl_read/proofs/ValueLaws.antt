@@ -1,5 +1,5 @@
 -- A path is read where a literal is.
-use Rattle.ddl_read.proofs.Common.{arith, ◌≡◌, ℕ, Bool, List, [], ◌∷◌, drop, Result, Ok, Err, refl, sym, ap, ◌∙◌, QName, Lexeme, Stop, first_by, literal, literal_value, Fails, halted, ReadError, Halted, Memory, value_is, rest_is, path_in, path_of, path_value, GivesPath, literal_path}
+use Rattle.ddl_read.proofs.Common.{arith, ◌≡◌, ℕ, Bool, List, drop, Ok, Err, QName, Lexeme, Stop, literal, Fails, ReadError, path_in, path_value, GivesPath, literal_path}
 
 abbrev Place : Type 0
 Place = List Lexeme

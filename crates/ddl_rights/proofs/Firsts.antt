@@ -1,5 +1,5 @@
 -- One token that stands for a value: its laws, and how it is read.
-use Rattle.ddl_rights.proofs.Common.{◌≡◌, ℕ, zero, suc, ◌+◌, ◌<◌, ◌≤◌, Bool, List, [], ◌∷◌, length, drop, Option, Some, None, Result, Err, true, refl, sym, ap, ◌∙◌, arith, Lexeme, first_by, seen_at, Lawful, IsTooLong, shortened, one_laws, name, name_value, Wanted, right_first, wanted_first, named_by, first, told, by_first, answered}
+use Rattle.ddl_rights.proofs.Common.{◌≡◌, ℕ, zero, suc, ◌+◌, ◌<◌, ◌≤◌, Bool, List, [], ◌∷◌, length, drop, Option, Some, None, Result, Err, true, refl, ap, ◌∙◌, arith, Lexeme, first_by, seen_at, Lawful, IsTooLong, shortened, one_laws, name, Wanted, right_first, wanted_first, named_by, first, told, by_first, answered}
 
 -- what a token stands for is told of a shorter one in its place too
 abbrev pub TellsAlike : {A : Type 0} → (List Lexeme → Option A) → Type 0

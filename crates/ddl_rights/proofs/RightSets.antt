@@ -1,5 +1,5 @@
 -- Sets of rights: a set as the list of its rights, a set within another, and all the rights of a kind.
-use Rattle.ddl_rights.proofs.Common.{◌≡◌, ℕ, Bool, true, false, not, ◌||◌, ◌&&◌, List, [], ◌∷◌, ◌++◌, map, refl, sym, ap, ◌∙◌, codes, arith, flat_map, or_left, or_right, and_parts, Rights, Granted, QName, no_rights, has_rights, table_rights, sequence_rights, schema_rights, type_rights, Right, Select, Usage, Insert, References, Delete, Trigger, Truncate, Update, Create, Kind, Tables, has, with_right, within, kind_rights, some_kind_has, goes_with, all_of}
+use Rattle.ddl_rights.proofs.Common.{◌≡◌, ℕ, Bool, true, false, not, ◌||◌, ◌&&◌, List, [], ◌∷◌, ◌++◌, map, refl, sym, ap, ◌∙◌, codes, arith, flat_map, or_right, and_parts, Rights, Granted, no_rights, has_rights, Right, Select, Usage, Insert, References, Delete, Trigger, Truncate, Update, Create, Kind, has, with_right, within, kind_rights, some_kind_has, goes_with, all_of}
 use Rattle.ddl_write.specs.RightsText.{is_all, each_right, word_there}
 use Rattle.ddl_rights.specs.Writable.{kind_of}
 use Rattle.cat_model.specs.declared.grant.Granted.TheVariants as on

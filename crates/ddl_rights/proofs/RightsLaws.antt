@@ -1,5 +1,5 @@
 -- The grammar of rights and of objects has the laws of a part, and a list of rights is one that some kind has.
-use Rattle.ddl_rights.proofs.Common.{◌≡◌, ℕ, Bool, true, false, not, cond, ◌||◌, List, [], ◌∷◌, ◌++◌, Option, Some, None, option_map, Ok, refl, sym, ap, subst, ◌∙◌, codes, inl, inr, arith, or_left, or_right, or_cases, is_keyword_of, Rights, Granted, table_rights, sequence_rights, schema_rights, type_rights, Lexeme, is_word, starts, Part, Many, no_more, many, seen, Lawful, Begins, Apart, name, qualified, comma, avoids_never, avoids_begun, starts-append, starts_more, IsTooLong, shortened, sign_agrees, sign_no_word, seen_laws, lead_begins, AreApart, many_laws, a_word, name_laws, qualified_laws, word_laws, sign_laws, word_no_sign, words_apart, Right, Select, Usage, Insert, References, Delete, Trigger, Truncate, Update, Create, Kind, Tables, Sequences, Schemas, Types, Wanted, ◌thenby◌, told, has, with_right, only, within, kind_rights, some_kind_has, goes_with, right_first, wanted_first, wanted, joining, right_behind, more_rights, all_of, rights_from, kind_first, kind_has, having, kind_with, rights_on, object, on_object, rights_and_object, word_like}
+use Rattle.ddl_rights.proofs.Common.{◌≡◌, ℕ, Bool, true, false, not, cond, ◌||◌, List, [], ◌∷◌, ◌++◌, Option, Some, None, Ok, refl, sym, ap, subst, ◌∙◌, codes, inl, inr, arith, or_left, or_right, or_cases, is_keyword_of, Rights, Granted, table_rights, sequence_rights, schema_rights, type_rights, Lexeme, is_word, starts, Part, Many, no_more, many, seen, Lawful, Begins, Apart, name, qualified, comma, avoids_never, avoids_begun, starts_more, IsTooLong, shortened, sign_agrees, sign_no_word, seen_laws, lead_begins, AreApart, many_laws, a_word, name_laws, qualified_laws, word_laws, sign_laws, word_no_sign, words_apart, Right, Select, Usage, Insert, References, Delete, Trigger, Truncate, Update, Create, Kind, Tables, Sequences, Schemas, Types, Wanted, ◌thenby◌, told, has, with_right, only, within, kind_rights, some_kind_has, goes_with, right_first, wanted_first, wanted, joining, right_behind, more_rights, all_of, rights_from, kind_first, kind_has, having, kind_with, rights_on, object, on_object, rights_and_object, word_like}
 use Rattle.ddl_parts.specs.Parts.{one_more}
 use Rattle.ddl_rights.proofs.{Depends.Decided, Depends.thenby_laws, Firsts.by_first_laws}
 use Rattle.ddl_rights.specs.declared.rights.Wanted.TheVariants.{All, These}

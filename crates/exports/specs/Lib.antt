@@ -1,3 +1,4 @@
 pub mod Cells
 pub mod Exports
 pub mod Holding
+pub use Rattle.well_formed.specs.Catalogues

@@ -20,7 +20,7 @@ use Rattle.cat_book.specs.Meets.{Meets}
 use Rattle.cat_book.specs.Paths.{class_path_of}
 use Rattle.cat_book.specs.Rules.{RowName, name_cmp, place_cmp}
 use Rattle.row_texts.specs.ViewTexts.{view_body}
-use Rattle.text_tables.specs.Views.{is_good_body, view_rules}
+use Rattle.well_formed.specs.Views.{is_good_body, view_rules}
 use Rattle.cat_naming.specs.Types.{under_path}
 use Rattle.cat_naming.specs.Relations.{body_entries}
 use Rattle.cat_sound.specs.Asked.{Asked}

@@ -12,8 +12,8 @@ use Rattle.cat_names.specs.Kinds.{kind_of, is_table}
 use Rattle.cat_book.specs.Leads.{has_columns, is_base_there}
 use Rattle.cat_book.specs.Meets.{Meets}
 use Rattle.cat_book.specs.Rules.{RowName, Place, name_cmp, place_cmp}
-use Rattle.text_tables.specs.Agreeing.{is_type_named}
-use Rattle.text_tables.specs.Columns.{is_column_number, is_column_there, column_rules}
+use Rattle.well_formed.specs.Agreeing.{is_type_named}
+use Rattle.well_formed.specs.Columns.{is_column_number, is_column_there, column_rules}
 use Rattle.cat_sound.specs.Asks.{column_asks, type_asks}
 use Rattle.cat_sound.specs.Texts.{Texts}
 use Rattle.cat_sound.specs.Sound.{IsMet, IsSound}

@@ -23,8 +23,8 @@ use Rattle.cat_names.specs.Lookups.{same_oid}
 use Rattle.cat_book.specs.Leads as leads
 use Rattle.cat_book.specs.Leads.{has_number, numbered, has_column, column_cmp}
 use Rattle.cat_book.specs.Rules.{Place, place_cmp}
-use Rattle.cat_lookups.specs.Found.{column_name}
-use Rattle.text_tables.specs.Indexes.{are_columns}
+use Rattle.cat_naming.specs.Found.{column_name}
+use Rattle.well_formed.specs.Indexes.{are_columns}
 use Rattle.cat_sound.specs.Asked.{Asked, Meets}
 use Rattle.cat_sound.specs.Texts.{Texts}
 use Rattle.cat_sound.specs.Sound.{IsMet, IsSound}

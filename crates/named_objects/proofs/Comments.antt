@@ -23,7 +23,7 @@ use Rattle.cat_book.specs.Paths.{class_path_of}
 use Rattle.cat_book.specs.Rules.{RowName, name_cmp, place_cmp}
 use Rattle.plain_tables.specs.Comments as comments
 use Rattle.plain_tables.specs.Comments.{comment_class, is_whole, is_commented_there, is_left_out, comment_left_out, comment_rules}
-use Rattle.text_tables.specs.Columns.{is_column_number}
+use Rattle.well_formed.specs.Columns.{is_column_number}
 use Rattle.cat_naming.specs.Comments.{commented_object, constraint_object, relation_object, with_object, comment_entries}
 use Rattle.cat_sound.specs.Asked.{Asked}
 use Rattle.cat_sound.specs.Asks.{comment_asks}

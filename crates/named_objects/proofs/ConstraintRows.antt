@@ -39,8 +39,8 @@ use Rattle.cat_book.specs.Meets.{Meets}
 use Rattle.cat_book.specs.Paths.{class_path_of}
 use Rattle.cat_book.specs.Rules.{RowName, name_cmp, place_cmp}
 use Rattle.row_texts.specs.IndexTexts.{index_said}
-use Rattle.text_tables.specs.Agreeing.{are_met}
-use Rattle.text_tables.specs.Indexes.{are_columns}
+use Rattle.well_formed.specs.Agreeing.{are_met}
+use Rattle.well_formed.specs.Indexes.{are_columns}
 use Rattle.constraint_table.specs.declared.constraint_text.ConstraintText.{ConstraintText}
 use Rattle.constraint_table.specs.declared.constraint_text.ConstraintText.TheVariants.{Primary, Unique, Foreign, Check}
 use Rattle.constraint_table.specs.Keys.{key_columns, unique_columns, key_of_constraint, key_of_index, has_key_on}

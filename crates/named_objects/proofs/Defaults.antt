@@ -21,10 +21,10 @@ use Rattle.cat_book.specs.Leads.{has_columns, has_number}
 use Rattle.cat_book.specs.Meets.{Meets}
 use Rattle.cat_book.specs.Paths.{class_path_of}
 use Rattle.cat_book.specs.Rules.{RowName, name_cmp, place_cmp}
-use Rattle.cat_lookups.specs.Found.{column_name}
+use Rattle.cat_naming.specs.Found.{column_name}
 use Rattle.row_texts.specs.DefaultTexts.{default_said, is_default}
-use Rattle.text_tables.specs.Agreeing.{are_met, is_met_default}
-use Rattle.text_tables.specs.Columns.{is_default_there, default_left_out, default_rules}
+use Rattle.well_formed.specs.Agreeing.{are_met, is_met_default}
+use Rattle.well_formed.specs.Columns.{is_default_there, default_left_out, default_rules}
 use Rattle.cat_naming.specs.Types.{under_path}
 use Rattle.cat_naming.specs.Relations.{default_entries}
 use Rattle.cat_sound.specs.Texts.{Texts}

@@ -23,8 +23,8 @@ use Rattle.cat_model.specs.Values.{Bytes, Named}
 use Rattle.cat_names.specs.Lookups.{same_oid}
 use Rattle.cat_book.specs.Chains.{is_domain_letter}
 use Rattle.row_texts.specs.TypeTexts.{type_named}
-use Rattle.type_ends.specs.Ends.{labels_of, enum_resolved, over, resolved_within, resolved}
-use Rattle.type_ends.proofs.Reached.{settled_within}
+use Rattle.cat_naming.specs.Ends.{labels_of, enum_resolved, over, resolved_within, resolved}
+use Rattle.cat_naming.proofs.Reached.{settled_within}
 use Rattle.cat_naming.specs.Types.{typed}
 use Rattle.cat_sound.specs.Asked.{Asked, Passes}
 use Rattle.cat_sound.specs.Asks.{type_asks, all_there}

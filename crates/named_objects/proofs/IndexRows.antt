@@ -20,7 +20,7 @@ use Rattle.cat_book.specs.Meets.{Meets}
 use Rattle.cat_book.specs.Paths.{class_path_of}
 use Rattle.cat_book.specs.Rules.{name_cmp, place_cmp}
 use Rattle.row_texts.specs.IndexTexts.{index_said}
-use Rattle.text_tables.specs.Indexes.{are_columns, is_unique_said, agrees_if_said, is_there, index_rules}
+use Rattle.well_formed.specs.Indexes.{are_columns, is_unique_said, agrees_if_said, is_there, index_rules}
 use Rattle.cat_sound.specs.Asked.{Asked}
 use Rattle.cat_sound.specs.Asks.{names_or_none}
 use Rattle.cat_sound.specs.Texts.{Texts}

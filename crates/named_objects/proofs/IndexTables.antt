@@ -17,7 +17,7 @@ use Rattle.cat_model.specs.Trees.{is_unique}
 use Rattle.cat_model.specs.Values.{Bytes, Named}
 use Rattle.cat_names.specs.Lookups.{same_oid}
 use Rattle.cat_book.specs.Leads.{is_key}
-use Rattle.cat_lookups.specs.Found.{table_of_key, table_of_index}
+use Rattle.cat_naming.specs.Found.{table_of_key, table_of_index}
 use Rattle.cat_sound.specs.Beside.{is_key_at, is_index_at}
 use Rattle.cat_sound.specs.Texts.{Texts}
 use Rattle.cat_sound.specs.Sound.{IsSound}

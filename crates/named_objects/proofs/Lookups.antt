@@ -22,7 +22,7 @@ use Rattle.cat_names.specs.Kinds.{relation_kind, class_of, kind_of}
 use Rattle.cat_names.specs.Lookups.{same_oid, has_oid, schema_oids}
 use Rattle.cat_book.specs.Chains.{type_of}
 use Rattle.cat_book.specs.Paths.{schema_of, path_in, class_path, class_path_of, type_path, path_of, path_cmp, class_paths, type_paths, has_path}
-use Rattle.text_tables.specs.Agreeing.{is_met}
+use Rattle.well_formed.specs.Agreeing.{is_met}
 use Rattle.cat_sound.specs.Asked.{Asked}
 use Rattle.cat_sound.specs.Asks.{all_there}
 use Rattle.cat_sound.specs.Texts.{Texts}

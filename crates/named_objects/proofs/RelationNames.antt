@@ -22,7 +22,7 @@ use Rattle.cat_names.specs.Kinds.{relation_kind, is_table, is_view, is_sequence,
 use Rattle.cat_names.specs.Lookups.{role_name}
 use Rattle.cat_names.specs.Naming.{Entry, under}
 use Rattle.cat_book.specs.Paths.{class_path, class_path_of}
-use Rattle.cat_lookups.specs.Found.{table_of_index}
+use Rattle.cat_naming.specs.Found.{table_of_index}
 use Rattle.cat_naming.specs.Types.{under_path}
 use Rattle.cat_naming.specs.Relations.{RowsByOid, columns_of, owned_entries, table_entries, view_entries, index_relation_entries, relation_entries, class_entries}
 use Rattle.cat_sound.specs.Asked as asked

@@ -23,10 +23,10 @@ use Rattle.cat_book.specs.Leads.{has_number}
 use Rattle.cat_book.specs.Meets.{Meets}
 use Rattle.cat_book.specs.Paths.{class_path_of}
 use Rattle.cat_book.specs.Rules.{name_cmp, place_cmp}
-use Rattle.cat_lookups.specs.Found.{column_name}
+use Rattle.cat_naming.specs.Found.{column_name}
 use Rattle.row_texts.specs.SequenceTypes.{sequence_kind}
-use Rattle.text_tables.specs.Sequences as sequences
-use Rattle.text_tables.specs.Sequences.{numbers, has_good_numbers, is_owner_there, sequence_rules}
+use Rattle.well_formed.specs.Sequences as sequences
+use Rattle.well_formed.specs.Sequences.{numbers, has_good_numbers, is_owner_there, sequence_rules}
 use Rattle.cat_naming.specs.Types.{under_path, with_value}
 use Rattle.cat_naming.specs.Relations.{owner_entries, sequence_entries}
 use Rattle.cat_sound.specs.Asked as asked

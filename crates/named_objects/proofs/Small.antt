@@ -9,7 +9,7 @@ use Rattle.cat_model.specs.declared.value.Value.TheVariants as value
 use Rattle.cat_model.specs.Keys.{key_cmp}
 use Rattle.cat_book.specs.Meets.{Meets}
 use Rattle.plain_tables.specs.Depends.{depend_rules}
-use Rattle.text_tables.specs.Columns.{column_rules}
+use Rattle.well_formed.specs.Columns.{column_rules}
 use Rattle.model_laws.specs.Runs.{empty_entries, empty_cluster}
 use Rattle.named_tables.specs.Standing.{AreRowsOf}
 use Rattle.named_tables.specs.Examples.{first_oids, first_rows}

@@ -22,7 +22,7 @@ use Rattle.cat_names.specs.Naming.{Entry, under}
 use Rattle.cat_book.specs.Chains.{is_domain_letter}
 use Rattle.cat_book.specs.Paths.{type_path}
 use Rattle.row_texts.specs.DefaultTexts.{default_said}
-use Rattle.type_ends.specs.Ends.{labels_of}
+use Rattle.cat_naming.specs.Ends.{labels_of}
 use Rattle.cat_naming.specs.Types.{under_path, typed, check_of, checks_of, domain_of, type_value, with_value, type_rights, owned_type, type_entries}
 use Rattle.cat_sound.specs.Asked.{Asked}
 use Rattle.cat_sound.specs.Texts.{Texts}

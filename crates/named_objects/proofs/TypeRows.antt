@@ -32,8 +32,8 @@ use Rattle.cat_book.specs.Paths.{type_path}
 use Rattle.cat_book.specs.Rules.{RowName, name_cmp, place_cmp}
 use Rattle.cat_book.proofs.ChainEnds.{ends_at_all}
 use Rattle.row_texts.specs.TypeTexts.{type_named}
-use Rattle.text_tables.specs.Agreeing.{agrees, agrees_if_named, is_type_named, is_met, are_met}
-use Rattle.text_tables.specs.Types.{is_there, is_good_default, is_good_domain, is_bad_type, kind_left_out, type_left_out, type_rules}
+use Rattle.well_formed.specs.Agreeing.{agrees, agrees_if_named, is_type_named, is_met, are_met}
+use Rattle.well_formed.specs.Types.{is_there, is_good_default, is_good_domain, is_bad_type, kind_left_out, type_left_out, type_rules}
 use Rattle.cat_sound.specs.Asked.{Asked}
 use Rattle.cat_sound.specs.Asks.{type_asks, all_there}
 use Rattle.cat_sound.specs.Beside.{EndsBehind, EndsWithin}

@@ -6,3 +6,4 @@ pub mod Standing
 pub mod Kinds
 pub mod Views
 pub mod Examples
+pub use Rattle.well_formed.specs.Formed

@@ -15,7 +15,7 @@ use Rattle.cat_model.specs.declared.value.Domain.{Domain}
 use Rattle.cat_model.specs.References.{is_system}
 use Rattle.cat_model.specs.Values.{Bytes, Named}
 use Rattle.cat_names.specs.Lookups.{is_no_oid}
-use Rattle.text_tables.specs.Columns.{is_column_number}
+use Rattle.well_formed.specs.Columns.{is_column_number}
 use Rattle.named_tables.specs.Oids.{Oids}
 
 pub record ObjectOids : Type 0 where

@@ -27,7 +27,7 @@ use Rattle.row_texts.specs.IndexTexts.{index_said}
 use Rattle.row_texts.specs.SequenceTypes.{sequence_kind}
 use Rattle.row_texts.specs.TypeTexts.{type_named}
 use Rattle.row_texts.specs.ViewTexts.{view_body}
-use Rattle.text_tables.specs.Sequences.{numbers}
+use Rattle.well_formed.specs.Sequences.{numbers}
 use Rattle.named_tables.specs.Oids.{Oids}
 use Rattle.named_tables.specs.Rights.{IsAcl}
 use Rattle.named_objects.specs.Oids.{ObjectOids, type_oid}

@@ -5,7 +5,7 @@ use Rattle.cat_rows.specs.declared.catalogue.Catalogue.{Catalogue}
 use Rattle.cat_names.specs.Kinds.{kind_of, is_table}
 use Rattle.cat_book.specs.Meets.{Meets}
 use Rattle.plain_tables.specs.Depends.{depend_rules}
-use Rattle.text_tables.specs.Columns.{column_rules}
+use Rattle.well_formed.specs.Columns.{column_rules}
 
 -- columns of views, beside those of tables, and dependencies meet the conditions of their tables
 pub record AreKept (cat : Catalogue) : Type 0 where

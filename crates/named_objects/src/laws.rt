@@ -28,12 +28,12 @@ ghost use Rattle.named_tables.specs.Oids.{AreOids, IsStarted};
 ghost use Rattle.plain_tables.specs.Comments.{comment_rules};
 ghost use Rattle.plain_tables.specs.Labels.{label_rules};
 ghost use Rattle.plain_tables.specs.Relations.{relation_rules};
-ghost use Rattle.text_tables.specs.Columns.{column_rules, default_rules};
-ghost use Rattle.text_tables.specs.Indexes.{index_rules};
-ghost use Rattle.text_tables.specs.Sequences.{sequence_rules};
-ghost use Rattle.text_tables.specs.Types.{type_rules};
-ghost use Rattle.text_tables.specs.Views.{view_rules};
-ghost use Rattle.type_ends.specs.Ends.{labels_of};
+ghost use Rattle.well_formed.specs.Columns.{column_rules, default_rules};
+ghost use Rattle.well_formed.specs.Indexes.{index_rules};
+ghost use Rattle.well_formed.specs.Sequences.{sequence_rules};
+ghost use Rattle.well_formed.specs.Types.{type_rules};
+ghost use Rattle.well_formed.specs.Views.{view_rules};
+ghost use Rattle.cat_naming.specs.Ends.{labels_of};
 ghost use Rattle.well_formed.specs.Formed.{IsWellFormed};
 
 /// The rows of pg_rewrite meet the table's conditions.

@@ -16,8 +16,8 @@ use Rattle.cat_model.specs.Values.{Bytes, Named}
 use Rattle.cat_model.proofs.MarkLaws.{same_text-self, same_text-equal}
 use Rattle.cat_names.specs.Lookups.{is_role, is_no_oid}
 use Rattle.cat_names.specs.Naming.{Entry, database_entries}
-use Rattle.cat_book.specs.Meets.{Meets}
-use Rattle.cat_book.specs.Rules.{RowName, name_cmp, place_cmp}
+use Rattle.plain_tables.specs.Meets.{Meets}
+use Rattle.plain_tables.specs.Rules.{RowName, name_cmp, place_cmp}
 use Rattle.plain_tables.specs.Roles.{encoding_left_out, database_rules}
 use Rattle.cat_sound.specs.Asked.{Asked}
 use Rattle.cat_sound.specs.Texts.{Texts}

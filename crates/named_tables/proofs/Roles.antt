@@ -16,8 +16,8 @@ use Rattle.cat_model.specs.Values.{Bytes, Named, bytes_cmp}
 use Rattle.cat_model.specs.Lexemes.{same_text}
 use Rattle.cat_names.specs.Lookups.{same_oid, role_name, is_role, is_role_name, is_no_oid, boot_oid}
 use Rattle.cat_names.specs.Naming.{role_entries}
-use Rattle.cat_book.specs.Meets.{Meets}
-use Rattle.cat_book.specs.Rules.{RowName, name_cmp, place_cmp}
+use Rattle.plain_tables.specs.Meets.{Meets}
+use Rattle.plain_tables.specs.Rules.{RowName, name_cmp, place_cmp}
 use Rattle.plain_tables.specs.Roles.{role_rules}
 use Rattle.cat_sound.specs.Texts.{Texts}
 use Rattle.cat_sound.specs.Asked.{Asked}

@@ -9,8 +9,8 @@ use Rattle.std.specs.List.{slice_get, list_any}
 use Rattle.cat_model.specs.Values.{Bytes, bytes_cmp}
 use Rattle.cat_model.specs.HolderLaws.{bytes_cmp-IsAntisymmetric}
 use Rattle.cat_names.specs.Lookups.{has_key}
-use Rattle.cat_book.specs.Meets.{AreDistinct, AtMostOne, EachRow}
-use Rattle.cat_book.specs.Rules.{RowName, name_cmp}
+use Rattle.plain_tables.specs.Meets.{AreDistinct, AtMostOne, EachRow}
+use Rattle.plain_tables.specs.Rules.{RowName, name_cmp}
 use Rattle.cat_sound.proofs.Lists.{IsIn}
 use Rattle.named_tables.proofs.Ties.{tie}
 use Rattle.named_tables.specs.Standing.{IsAmong, AreRowsOf}

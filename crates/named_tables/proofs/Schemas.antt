@@ -18,8 +18,8 @@ use Rattle.cat_names.specs.Grants.{grants_of}
 use Rattle.cat_names.specs.Lookups.{role_name, is_role, is_no_oid}
 use Rattle.cat_names.specs.Naming.{Entry, under, schema_entries}
 use Rattle.cat_names.specs.Rights.{is_bad_acl, is_by_other, other_left_out}
-use Rattle.cat_book.specs.Meets.{Meets}
-use Rattle.cat_book.specs.Rules.{RowName, name_cmp, place_cmp}
+use Rattle.plain_tables.specs.Meets.{Meets}
+use Rattle.plain_tables.specs.Rules.{RowName, name_cmp, place_cmp}
 use Rattle.plain_tables.specs.Schemas.{schema_rules}
 use Rattle.cat_sound.specs.Asked.{Asked}
 use Rattle.cat_sound.specs.Texts.{Texts}

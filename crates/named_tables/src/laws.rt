@@ -4,7 +4,7 @@ ghost use Rattle.std.specs.Prelude.{◌≡◌, false, List, Option, Some};
 ghost use Rattle.std.specs.FinMap.{get, from_entries, retain_keys};
 ghost use Rattle.std.specs.List.{flat_map};
 ghost use Rattle.acl_text.specs.declared.list.AclItem.{AclItem};
-ghost use Rattle.cat_book.specs.Meets.{Meets};
+ghost use Rattle.plain_tables.specs.Meets.{Meets};
 ghost use Rattle.cat_model.specs.Lexemes.{same_text};
 ghost use Rattle.cat_model.specs.Values.{Bytes, Named, Grants};
 ghost use Rattle.cat_model.specs.declared.holder.Holder.TheVariants.{Role as ROLE};

@@ -2,7 +2,7 @@
 use Rattle.std.proofs.Common.{Option, Some, None}
 use Rattle.cat_model.specs.declared.value.Value.{Value}
 use Rattle.cat_model.specs.declared.value.Value.TheVariants as value
-use Rattle.named_objects.specs.Oids.{ObjectOids}
+use Rattle.object_export.specs.Oids.{ObjectOids}
 use Rattle.map_export.specs.Making.{IsRowOf}
 use Rattle.object_rows.specs.declared.parts.ColumnPlace.{ColumnPlace}
 use Rattle.object_rows.specs.Places.{IsColumnPlace, IsOwningColumn}

@@ -8,8 +8,8 @@ use Rattle.cat_model.specs.declared.object.QName.{QName}
 use Rattle.cat_model.specs.declared.value.Column.{Column}
 use Rattle.cat_model.specs.Values.{Bytes}
 use Rattle.cat_names.specs.Naming.{Entry}
-use Rattle.named_objects.specs.Types.{NamedLabel}
-use Rattle.named_objects.specs.Relations.{NamedColumn}
+use Rattle.object_export.specs.Types.{NamedLabel}
+use Rattle.object_export.specs.Relations.{NamedColumn}
 use Rattle.map_export.specs.Making.{AreSaid}
 use Rattle.map_export.proofs.Loops.{said_append}
 use Rattle.object_export.specs.Parts.{labels_from, columns_from}

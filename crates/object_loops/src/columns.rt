@@ -6,7 +6,7 @@ ghost use Rattle.cat_model.specs.declared.key.Key.{Key as TheKey};
 ghost use Rattle.cat_model.specs.declared.value.Value.{Value as TheValue};
 ghost use Rattle.cat_sound.specs.Itself.{IsTable, IsTyped, Itself};
 ghost use Rattle.map_export.specs.Making.{AreSaid};
-ghost use Rattle.named_objects.specs.Relations.{IsColumnRow};
+ghost use Rattle.object_export.specs.Relations.{IsColumnRow};
 ghost use Rattle.object_loops.specs.Adding.{Adds};
 ghost use Rattle.object_loops.specs.Oids.{with_numbers};
 ghost use Rattle.object_export.specs.Parts.{columns_from, columns_in};

@@ -6,7 +6,7 @@ ghost use Rattle.cat_model.specs.declared.key.Key.{Key as TheKey};
 ghost use Rattle.cat_model.specs.declared.value.Value.{Value as TheValue};
 ghost use Rattle.cat_sound.specs.Itself.{Itself};
 ghost use Rattle.map_export.specs.Making.{IsRowOf, AreSaid};
-ghost use Rattle.named_objects.specs.Relations.{IsDefaultRow};
+ghost use Rattle.object_export.specs.Relations.{IsDefaultRow};
 ghost use Rattle.object_loops.specs.Oids.{with_numbers};
 ghost use Rattle.object_export.specs.Parts.{default_in};
 ghost use Rattle.sound_texts.specs.Grammar.{grammar};

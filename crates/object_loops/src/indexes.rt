@@ -5,9 +5,9 @@ ghost use Rattle.std.specs.Map.Iter.{deref_pair};
 ghost use Rattle.cat_model.specs.declared.key.Key.{Key as TheKey};
 ghost use Rattle.cat_model.specs.declared.value.Value.{Value as TheValue};
 ghost use Rattle.cat_sound.specs.Itself.{Itself};
-ghost use Rattle.entry_ids.specs.Ids.{of_keys};
+ghost use Rattle.cluster_loops.specs.Ids.{of_keys};
 ghost use Rattle.map_export.specs.Making.{IsRowOf, AreSaid};
-ghost use Rattle.named_objects.specs.Relations.{IsIndexRow};
+ghost use Rattle.object_export.specs.Relations.{IsIndexRow};
 ghost use Rattle.object_export.specs.Parts.{index_in};
 ghost use Rattle.sound_texts.specs.Grammar.{grammar};
 

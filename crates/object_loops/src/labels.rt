@@ -6,9 +6,9 @@ ghost use Rattle.cat_model.specs.declared.key.Key.{Key as TheKey};
 ghost use Rattle.cat_model.specs.declared.object.QName.{QName as ThePath};
 ghost use Rattle.cat_model.specs.declared.value.Value.{Value as TheValue};
 ghost use Rattle.cat_model.specs.Values.{Bytes};
-ghost use Rattle.entry_ids.specs.Ids.{oids_of};
+ghost use Rattle.cluster_loops.specs.Ids.{oids_of};
 ghost use Rattle.map_export.specs.Making.{AreSaid};
-ghost use Rattle.named_objects.specs.Types.{label_row};
+ghost use Rattle.object_export.specs.Types.{label_row};
 ghost use Rattle.object_loops.specs.Adding.{Adds};
 ghost use Rattle.object_export.specs.Parts.{labels_from, labels_in};
 

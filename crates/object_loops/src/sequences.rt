@@ -7,7 +7,7 @@ ghost use Rattle.cat_model.specs.declared.key.Key.{Key as TheKey};
 ghost use Rattle.cat_model.specs.declared.key.Key.TheVariants as key;
 ghost use Rattle.cat_model.specs.declared.value.Value.{Value as TheValue};
 ghost use Rattle.map_export.specs.Making.{IsRowOf, AreSaid};
-ghost use Rattle.named_objects.specs.Relations.{IsSequenceRow};
+ghost use Rattle.object_export.specs.Relations.{IsSequenceRow};
 ghost use Rattle.object_loops.specs.Oids.{with_numbers};
 ghost use Rattle.object_export.specs.Parts.{number_in, sequence_with, sequence_in};
 ghost use Rattle.object_loops.specs.Owning.{owning_in, IsOwned, AreOwned};

@@ -6,7 +6,7 @@ ghost use Rattle.cat_model.specs.declared.value.Column.{Column};
 ghost use Rattle.cat_model.specs.Values.{Bytes};
 ghost use Rattle.named_objects.specs.Oids.{ObjectOids, type_oid};
 ghost use Rattle.named_objects.specs.Relations.{IsColumnRow, IsDefaultRow};
-ghost use Rattle.sound_texts.specs.Grammar.{grammar};
+ghost use Rattle.good_texts.specs.Grammar.{grammar};
 
 use crate::texts::type_text;
 use cat_model::Column;

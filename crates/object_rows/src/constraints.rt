@@ -7,7 +7,7 @@ ghost use Rattle.cat_sound.specs.Itself.{check_of, IsConstraint};
 ghost use Rattle.named_objects.specs.Constraints.{letter_of, index_of, parent_oid, IsConstraintRow, IsCheckRow};
 ghost use Rattle.named_objects.specs.Oids.{ObjectOids};
 ghost use Rattle.named_tables.specs.Oids.{Oids};
-ghost use Rattle.sound_texts.specs.Grammar.{grammar};
+ghost use Rattle.good_texts.specs.Grammar.{grammar};
 
 use crate::letters::letter;
 use crate::parts::ConstraintOids;

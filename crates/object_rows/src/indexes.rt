@@ -4,7 +4,7 @@ ghost use Rattle.cat_model.specs.declared.key.Key.TheVariants as key;
 ghost use Rattle.cat_model.specs.KeyEffects.{index_path};
 ghost use Rattle.named_objects.specs.Relations.{IsIndexRow};
 ghost use Rattle.named_tables.specs.Oids.{Oids};
-ghost use Rattle.sound_texts.specs.Grammar.{grammar};
+ghost use Rattle.good_texts.specs.Grammar.{grammar};
 
 use crate::texts::index_text;
 use cat_model::{Index, QName};

@@ -10,7 +10,7 @@ ghost use Rattle.named_objects.specs.Oids.{ObjectOids, type_oid};
 ghost use Rattle.named_objects.specs.Types.{IsTypeRow, label_row};
 ghost use Rattle.named_tables.specs.Oids.{Oids};
 ghost use Rattle.object_rows.specs.Heads.{IsHead};
-ghost use Rattle.sound_texts.specs.Grammar.{grammar};
+ghost use Rattle.good_texts.specs.Grammar.{grammar};
 
 use crate::letters::letter;
 use crate::parts::Head;

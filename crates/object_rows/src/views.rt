@@ -4,7 +4,7 @@ ghost use Rattle.cat_model.specs.declared.key.Key.TheVariants as key;
 ghost use Rattle.cat_model.specs.declared.object.QName.{QName};
 ghost use Rattle.named_objects.specs.Relations.{IsBodyRow};
 ghost use Rattle.named_tables.specs.Oids.{Oids};
-ghost use Rattle.sound_texts.specs.Grammar.{grammar};
+ghost use Rattle.good_texts.specs.Grammar.{grammar};
 
 use crate::texts::body_text;
 use cat_rows::RewriteRow;

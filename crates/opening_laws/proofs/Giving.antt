@@ -35,7 +35,7 @@ use Rattle.opening_ids.specs.Opening.{of_role, of_member, member_slot, of_databa
 use Rattle.opening_ids.proofs.Keeping.{IsFree, AreApartRows, all_keep, others_free, all_give, apart_pairs}
 use Rattle.plain_tables.specs.Relations.{relation_rules}
 use Rattle.text_tables.specs.Types.{type_rules}
-use Rattle.well_formed.specs.Formed.{IsWellFormed}
+use Rattle.sound_loads.specs.Formed.{IsWellFormed}
 use Rattle.sound_rows.specs.Rows.{IsAmong}
 use Rattle.sound_rows.proofs.Among.{each_in, in_place, place_in}
 use Rattle.sound_rows.proofs.Paths.{oid_tied}

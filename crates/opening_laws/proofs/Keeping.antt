@@ -28,8 +28,8 @@ use Rattle.cat_book.specs.Leads.{is_base_there, type_oids, has_columns}
 use Rattle.cat_book.specs.Meets.{Meets, AreDistinct, EachRow}
 use Rattle.cat_book.specs.Paths.{type_path, path_of}
 use Rattle.cat_book.specs.Rules.{name_cmp, place_cmp}
-use Rattle.cat_naming.specs.Entries.{catalogue_named}
-use Rattle.cat_naming.specs.Relations.{RowsByOid}
+use Rattle.sound_loads.specs.Entries.{catalogue_named}
+use Rattle.sound_loads.specs.Relations.{RowsByOid}
 use Rattle.cat_sound.specs.Asked.{Asked}
 use Rattle.cat_sound.specs.Sound.{IsSound}
 use Rattle.cat_sound.specs.Texts.{Texts}
@@ -40,10 +40,10 @@ use Rattle.object_ids.specs.Ids.{IdsOf, avoiding}
 use Rattle.object_ids.proofs.Apart.{used_stays, used_new}
 use Rattle.named_tables.specs.Oids.{AreOids}
 use Rattle.named_tables.proofs.Rows.{among_in, no_keys, no_marks}
-use Rattle.named_objects.specs.Views.{AreKept}
-use Rattle.named_objects.proofs.Found.{has_mapped}
-use Rattle.named_objects.proofs.Lookups as named_lookups
-use Rattle.named_objects.proofs.Lookups.{AreLedTo, kind_at, has_tie}
+use Rattle.entry_ids.specs.Views.{AreKept}
+use Rattle.entry_ids.proofs.Found.{has_mapped}
+use Rattle.entry_ids.proofs.Lookups as named_lookups
+use Rattle.entry_ids.proofs.Lookups.{AreLedTo, kind_at, has_tie}
 use Rattle.entry_ids.specs.Ids.{of_keys}
 use Rattle.opening_ids.specs.Opening.{depends_avoided, parts_given, objects_given, cluster_given, opening_ids}
 use Rattle.object_ids.specs.Ids.{none}
@@ -51,7 +51,7 @@ use Rattle.plain_tables.specs.Depends.{dependency_left_out, depend_left_out, dep
 use Rattle.text_tables.specs.Agreeing.{agrees_if_named, is_without_row, is_at, is_type_named}
 use Rattle.text_tables.specs.Columns.{column_rules, is_column_number, is_column_there}
 use Rattle.row_texts.specs.TypeTexts.{type_named}
-use Rattle.well_formed.specs.Formed.{IsWellFormed}
+use Rattle.sound_loads.specs.Formed.{IsWellFormed}
 use Rattle.sound_rows.specs.Rows.{IsAmong}
 use Rattle.sound_rows.proofs.Among.{each_in, in_place, place_in, of_filter, find_found}
 use Rattle.sound_rows.proofs.Roles.{same_oid-equal}

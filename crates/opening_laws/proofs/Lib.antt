@@ -3,3 +3,7 @@ pub mod Grown
 pub mod Giving
 pub mod Started
 pub mod Keeping
+pub use Rattle.sound_loads.proofs.Apart
+pub use Rattle.sound_loads.proofs.Classes
+pub use Rattle.sound_loads.proofs.Types
+pub use Rattle.sound_loads.proofs.Whole

@@ -11,8 +11,8 @@ use Rattle.cat_model.specs.declared.value.Value.{Value}
 use Rattle.cat_model.specs.declared.value.Value.TheVariants as value
 use Rattle.cat_model.specs.Values.{Bytes, Named}
 use Rattle.cat_names.specs.Lookups.{boot_oid, is_role}
-use Rattle.cat_naming.specs.Entries.{catalogue_named}
-use Rattle.cat_naming.specs.Relations.{RowsByOid}
+use Rattle.sound_loads.specs.Entries.{catalogue_named}
+use Rattle.sound_loads.specs.Relations.{RowsByOid}
 use Rattle.cat_sound.specs.Asked.{Asked}
 use Rattle.cat_sound.specs.Itself.{Itself}
 use Rattle.cat_sound.specs.Sound.{is_comment, IsSound}
@@ -22,7 +22,7 @@ use Rattle.entry_ids.specs.Ids.{of_keys}
 use Rattle.named_tables.specs.Oids.{IsStarted}
 use Rattle.opening_ids.specs.Opening.{opening_ids}
 use Rattle.opening_ids.proofs.Kept.{roles_keep}
-use Rattle.well_formed.specs.Formed.{IsWellFormed}
+use Rattle.sound_loads.specs.Formed.{IsWellFormed}
 use Rattle.sound_rows.specs.Rows.{IsAmong}
 use Rattle.sound_rows.proofs.Among.{each_in}
 use Rattle.sound_rows.proofs.Roles.{named_role, role_is_named}

@@ -29,24 +29,24 @@ use Rattle.cat_names.specs.declared.relations.RelationKind.TheVariants.{Table}
 use Rattle.cat_names.specs.Kinds.{relation_kind, kind_of}
 use Rattle.cat_names.specs.Lookups.{same_oid}
 use Rattle.cat_book.specs.Leads.{has_columns, is_base_there}
-use Rattle.cat_naming.specs.Entries.{catalogue_named}
-use Rattle.cat_naming.specs.Relations.{column_with, column_of, columns_of}
-use Rattle.cat_naming.specs.Texts.{rows_by_oid}
+use Rattle.opening_laws.specs.Entries.{catalogue_named}
+use Rattle.opening_laws.specs.Relations.{column_with, column_of, columns_of}
+use Rattle.opening_laws.specs.Texts.{rows_by_oid}
 use Rattle.cat_sound.specs.Asked.{Asked, Passes, is_row}
 use Rattle.cat_sound.specs.Sound.{IsSound}
 use Rattle.cat_sound.specs.Texts.{Texts}
 use Rattle.cat_sound.proofs.Lists.{IsIn}
 use Rattle.oid_groups.specs.Orders.{by_number}
-use Rattle.sound_loads.proofs.Apart.{sorted_in, length_sorted, counted}
-use Rattle.sound_loads.proofs.Classes.{not_false, table_kind, RelationAt, path_of_class, one_class, relation_at, relation_there, entry_there}
-use Rattle.sound_loads.proofs.Types.{IsTypedAs, typed_as}
+use Rattle.opening_laws.proofs.Apart.{sorted_in, length_sorted, counted}
+use Rattle.opening_laws.proofs.Classes.{not_false, table_kind, RelationAt, path_of_class, one_class, relation_at, relation_there, entry_there}
+use Rattle.opening_laws.proofs.Types.{IsTypedAs, typed_as}
 use Rattle.sound_rows.specs.Rows.{IsAmong}
 use Rattle.sound_rows.proofs.Among.{each_in, place_in, of_filter}
 use Rattle.table_rows.specs.Tables.{is_table_row, table_oids, column_count}
 use Rattle.table_rows.specs.Values.{text_of, fault_in, first_fault, values_fault}
 use Rattle.text_tables.specs.Agreeing.{is_type_named}
 use Rattle.text_tables.specs.Columns.{is_column_there, is_column_number}
-use Rattle.well_formed.specs.Formed.{IsWellFormed}
+use Rattle.named_objects.specs.Formed.{IsWellFormed}
 use Rattle.opening_sound.specs.Export.{AreSpelled}
 
 -- rows that can be written, with a field for each column, are read as they are spelled

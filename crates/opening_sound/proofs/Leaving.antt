@@ -10,17 +10,17 @@ use Rattle.cat_model.specs.Trees.{Change, outcome, seen, after, after_or_same, n
 use Rattle.cat_model.specs.Values.{Bytes, Named}
 use Rattle.cat_names.specs.DataSets.{TextsByOid}
 use Rattle.cat_names.specs.Naming.{boot}
-use Rattle.cat_naming.specs.Entries.{catalogue_named}
-use Rattle.cat_naming.specs.Texts.{rows_by_oid}
+use Rattle.opening_laws.specs.Entries.{catalogue_named}
+use Rattle.opening_laws.specs.Texts.{rows_by_oid}
 use Rattle.cat_sound.specs.Asked.{Asked}
 use Rattle.cat_sound.specs.Fit.{IsFit}
 use Rattle.cat_sound.specs.Sound.{IsMet, IsSound}
 use Rattle.cat_sound.proofs.Statements.{statement-keeps}
 use Rattle.model_laws.specs.Examples.{catalogue_after}
 use Rattle.opening_laws.proofs.Grown.{statement_grows}
-use Rattle.sound_loads.proofs.Whole.{boot_there}
-use Rattle.sound_texts.specs.Grammar.{grammar}
-use Rattle.well_formed.specs.Formed.{IsWellFormed}
+use Rattle.opening_laws.proofs.Whole.{boot_there}
+use Rattle.opening_laws.specs.Grammar.{grammar}
+use Rattle.named_objects.specs.Formed.{IsWellFormed}
 use Rattle.opening_sound.specs.Left.{IsLeft}
 
 pub opened : (opening : Catalogue) (texts : TextsByOid) (role : Bytes) → IsWellFormed opening → IsSound grammar (catalogue_named opening (rows_by_oid texts)) → boot opening ≡ Some role → IsLeft opening texts role (catalogue_named opening (rows_by_oid texts))

@@ -8,9 +8,9 @@ use Rattle.cat_model.specs.declared.key.Key.TheVariants as key
 use Rattle.cat_model.specs.Values.{Bytes, Named}
 use Rattle.cat_names.specs.DataSets.{TextsByOid}
 use Rattle.cat_names.specs.Lookups.{boot_oid}
-use Rattle.cat_naming.specs.Entries.{catalogue_named}
-use Rattle.cat_naming.specs.Texts.{rows_by_oid}
-use Rattle.entry_ids.specs.Ids.{of_keys, oids_of}
+use Rattle.opening_laws.specs.Entries.{catalogue_named}
+use Rattle.opening_laws.specs.Texts.{rows_by_oid}
+use Rattle.opening_laws.specs.Ids.{of_keys, oids_of}
 use Rattle.cat_sound.specs.Sound.{IsSound}
 use Rattle.named_objects.specs.Views.{AreKept}
 use Rattle.named_objects.proofs.Formed.{all_formed}
@@ -21,9 +21,9 @@ use Rattle.object_ids.specs.Slots.{object}
 use Rattle.opening_ids.specs.Opening.{opening_ids}
 use Rattle.opening_laws.proofs.Keeping.{are_kept}
 use Rattle.opening_laws.proofs.Started.{started}
-use Rattle.sound_texts.specs.Grammar.{grammar}
+use Rattle.opening_laws.specs.Grammar.{grammar}
 use Rattle.table_rows.specs.Values.{values_fault}
-use Rattle.well_formed.specs.Formed.{IsWellFormed}
+use Rattle.named_objects.specs.Formed.{IsWellFormed}
 use Rattle.opening_sound.specs.Left.{IsLeft}
 use Rattle.opening_sound.specs.Export.{IsExport, CanBeExported}
 use Rattle.opening_sound.proofs.Holding.{AreReadAgain, hold_rows}

@@ -6,10 +6,10 @@ use Rattle.cat_rows.specs.declared.roles.DatabaseRow.{DatabaseRow}
 use Rattle.cat_model.specs.declared.object.QName.{QName}
 use Rattle.cat_model.specs.Values.{Bytes, Named}
 use Rattle.cat_names.specs.DataSets.{TextsByOid}
-use Rattle.cat_naming.specs.Texts.{rows_by_oid}
+use Rattle.opening_laws.specs.Texts.{rows_by_oid}
 use Rattle.cat_sound.specs.Sound.{IsSound}
 use Rattle.table_rows.specs.Values.{text_of}
-use Rattle.entry_ids.specs.Ids.{of_keys, oids_of}
+use Rattle.opening_laws.specs.Ids.{of_keys, oids_of}
 use Rattle.named_objects.specs.Oids.{AreNumbers, AreCheckOids, AreLabelOids}
 use Rattle.named_objects.specs.Standing.{AllStandFor}
 use Rattle.named_objects.specs.Views.{AreKept}
@@ -18,8 +18,8 @@ use Rattle.object_ids.specs.Ids.{IdsOf}
 use Rattle.opening_ids.specs.Opening.{opening_ids}
 use Rattle.opening_laws.specs.Keeping.{BeganAs, KeepRows}
 use Rattle.sound_rows.specs.Rows.{IsAmong}
-use Rattle.sound_texts.specs.Grammar.{grammar}
-use Rattle.well_formed.specs.Formed.{IsWellFormed}
+use Rattle.opening_laws.specs.Grammar.{grammar}
+use Rattle.named_objects.specs.Formed.{IsWellFormed}
 
 -- each text is the one that spells the rows which it holds
 abbrev pub AreSpelled : TextsByOid → Type 0

@@ -3,11 +3,11 @@ use Rattle.cat_rows.specs.declared.catalogue.Catalogue.{Catalogue}
 use Rattle.cat_model.specs.declared.key.Key.TheVariants as key
 use Rattle.cat_model.specs.Values.{Bytes, Named}
 use Rattle.cat_names.specs.DataSets.{TextsByOid}
-use Rattle.cat_naming.specs.Entries.{catalogue_named}
-use Rattle.cat_naming.specs.Texts.{rows_by_oid}
+use Rattle.opening_laws.specs.Entries.{catalogue_named}
+use Rattle.opening_laws.specs.Texts.{rows_by_oid}
 use Rattle.cat_sound.specs.Asked.{Asked}
 use Rattle.cat_sound.specs.Sound.{IsMet, IsSound}
-use Rattle.sound_texts.specs.Grammar.{grammar}
+use Rattle.opening_laws.specs.Grammar.{grammar}
 use Rattle.opening_laws.specs.Growing.{Grows}
 
 -- a catalogue in order, which has what the opening stands for, and the role to which new objects belong

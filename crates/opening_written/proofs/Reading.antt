@@ -6,11 +6,11 @@ use Rattle.cat_model.specs.Values.{Bytes, Named}
 use Rattle.cat_names.specs.DataSets.{TextsByOid}
 use Rattle.cat_naming.specs.Entries.{catalogue_named}
 use Rattle.cat_naming.specs.Texts.{rows_by_oid}
-use Rattle.entry_ids.specs.Ids.{of_keys, oids_of}
+use Rattle.opening_sound.specs.Ids.{of_keys, oids_of}
 use Rattle.exports.specs.Exports.{Exported}
-use Rattle.named_objects.specs.Standing.{AllStandFor}
-use Rattle.named_objects.proofs.Formed.{all_formed}
-use Rattle.named_objects.proofs.Whole.{whole_named}
+use Rattle.reordered_rows.specs.Standing.{AllStandFor}
+use Rattle.reordered_rows.proofs.Formed.{all_formed}
+use Rattle.reordered_rows.proofs.Whole.{whole_named}
 use Rattle.named_tables.specs.Oids.{IsStarted}
 use Rattle.object_ids.specs.Ids.{IdsOf}
 use Rattle.opening_ids.specs.Opening.{opening_ids}
@@ -18,7 +18,7 @@ use Rattle.opening_sound.specs.Export.{IsExport, CanBeExported}
 use Rattle.opening_sound.proofs.Made.{still_started, made_formed}
 use Rattle.reordered_rows.proofs.Kept.{stay_kept}
 use Rattle.reordered_rows.proofs.Tables.{all_stand}
-use Rattle.saved_folders.specs.Exports.{IsReordered}
+use Rattle.reordered_rows.specs.Exports.{IsReordered}
 use Rattle.sound_texts.specs.Grammar.{grammar}
 use Rattle.well_formed.specs.Catalogues.{catalogue_fault}
 use Rattle.well_formed.specs.Formed.{IsWellFormed}

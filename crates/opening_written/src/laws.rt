@@ -12,8 +12,8 @@ ghost use Rattle.exports.specs.Exports.{Exported, export_of};
 ghost use Rattle.object_ids.specs.Ids.{IdsOf};
 ghost use Rattle.opening_sound.specs.Export.{IsExport, CanBeExported};
 ghost use Rattle.reordered_rows.specs.Reading.{IsReadOrTooLarge};
-ghost use Rattle.saved_folders.specs.Exports.{IsReordered};
-ghost use Rattle.saved_folders.specs.Folders.{Texts, AreTexts, folder_saved};
+ghost use Rattle.reordered_rows.specs.Exports.{IsReordered};
+ghost use Rattle.reordered_rows.specs.Folders.{Texts, AreTexts, folder_saved};
 ghost use Rattle.sound_rows.specs.Rows.{IsAmong};
 ghost use Rattle.well_formed.specs.Catalogues.{catalogue_fault};
 

@@ -5,15 +5,15 @@ use Rattle.folder_io.specs.declared.file.ExportFile.TheVariants.{Data}
 use Rattle.cat_model.specs.declared.cause.Cause.{Cause}
 use Rattle.cat_model.specs.declared.cause.Cause.TheVariants as cause
 use Rattle.cat_model.specs.Values.{Bytes, Named}
-use Rattle.cat_naming.specs.Entries.{catalogue_named}
-use Rattle.cat_naming.specs.Texts.{rows_by_oid}
+use Rattle.cat_load.specs.Entries.{catalogue_named}
+use Rattle.cat_load.specs.Texts.{rows_by_oid}
 use Rattle.cat_load.specs.declared.meeting.LoadFault.{LoadFault}
 use Rattle.cat_load.specs.Loads.{rows_fault}
 use Rattle.tool_words.specs.declared.outcome.ExportFault.TheVariants.{Values}
 use Rattle.tool_words.specs.declared.outcome.Outcome.{Outcome}
 use Rattle.tool_words.specs.declared.outcome.Outcome.TheVariants.{BadExport}
 use Rattle.tool_words.specs.Answers.{◌>>=◌}
-use Rattle.well_formed.specs.Catalogues.{catalogue_fault}
+use Rattle.exports.specs.Catalogues.{catalogue_fault}
 use Rattle.exports.specs.Exports.{Exported, export_of}
 
 -- the row at which a table fails, counted from 1: of two with one key the second

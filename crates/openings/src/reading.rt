@@ -2,7 +2,7 @@
 ghost use Rattle.std.specs.Prelude.{◌≡◌, ◌≢◌, ℕ, Option, Some, None, Ok, Err, IfErr, IfOk, OnOk, Result};
 ghost use Rattle.dump_ports.specs.Tree.{Tree};
 ghost use Rattle.table_rows.specs.Values.{values_fault};
-ghost use Rattle.well_formed.specs.Catalogues.{catalogue_fault};
+ghost use Rattle.exports.specs.Catalogues.{catalogue_fault};
 ghost use Rattle.cat_load.specs.Loads.{rows_fault};
 ghost use Rattle.tool_words.specs.Answers.{Gives, CountsRead};
 ghost use Rattle.exports.specs.Exports.{Exported};

@@ -21,8 +21,8 @@ use Rattle.cat_sound.specs.Texts.{Texts}
 use Rattle.cat_sound.proofs.Changes.{value_met}
 use Rattle.named_tables.specs.Oids.{Oids, AreOids}
 use Rattle.named_tables.specs.Standing.{AreRowsOf}
-use Rattle.named_objects.specs.Types.{NamedType, IsType, IsTypeRow}
-use Rattle.named_objects.specs.Relations.{NamedRelation, IsRelation, IsRelationRow}
+use Rattle.object_rows.specs.Types.{NamedType, IsType, IsTypeRow}
+use Rattle.object_rows.specs.Relations.{NamedRelation, IsRelation, IsRelationRow}
 use Rattle.map_export.specs.Making.{AreSaid}
 use Rattle.map_export.specs.Things.{both, owner_in, owner_of, grants_in, grants_on}
 use Rattle.map_export.proofs.Named.{same_thing, stand_for}

@@ -9,8 +9,8 @@ use Rattle.cat_model.specs.declared.value.Value.{Value}
 use Rattle.cat_model.specs.declared.value.Value.TheVariants as value
 use Rattle.cat_model.specs.Values.{Bytes, Named, Grants}
 use Rattle.cat_names.specs.Naming.{Entry}
-use Rattle.named_objects.specs.Types.{NamedType}
-use Rattle.named_objects.specs.Relations.{NamedRelation}
+use Rattle.object_rows.specs.Types.{NamedType}
+use Rattle.object_rows.specs.Relations.{NamedRelation}
 use Rattle.map_export.specs.Things.{both, owner_of, grants_on}
 
 -- ---- types

@@ -1,7 +1,7 @@
 //! What rows of objects with an owner and grants have in common.
 ghost use Rattle.std.specs.Prelude.{◌≡◌, ◌∷◌, IfOk};
 ghost use Rattle.cat_model.specs.declared.key.Key.{Key as TheKey};
-ghost use Rattle.entry_ids.specs.Ids.{of_keys};
+ghost use Rattle.cluster_loops.specs.Ids.{of_keys};
 ghost use Rattle.object_rows.specs.Heads.{IsHead};
 
 use cat_model::Grants;

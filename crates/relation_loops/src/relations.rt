@@ -13,10 +13,10 @@ ghost use Rattle.cat_model.specs.declared.value.Sequence.{Sequence as TheSequenc
 ghost use Rattle.cat_model.specs.declared.value.Value.TheVariants as value;
 ghost use Rattle.cat_model.specs.declared.value.Value.TheVariants.{Owner as OWNER, Grants as GRANTS};
 ghost use Rattle.cat_model.specs.Values.{Named};
-ghost use Rattle.entry_ids.specs.Ids.{of_keys};
+ghost use Rattle.cluster_loops.specs.Ids.{of_keys};
 ghost use Rattle.map_export.specs.Making.{IsRowOf, AreSaid};
 ghost use Rattle.map_export.specs.Things.{owner_of};
-ghost use Rattle.named_objects.specs.Relations.{IsRelationRow};
+ghost use Rattle.object_rows.specs.Relations.{IsRelationRow};
 ghost use Rattle.object_rows.specs.Heads.{IsHead};
 ghost use Rattle.relation_loops.specs.Wholes.{owned_relation, relation_of, whole_relation, index_relation, relation_at, relation_in};
 

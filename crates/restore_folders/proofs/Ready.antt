@@ -4,16 +4,16 @@ use Rattle.cat_rows.specs.declared.catalogue.Catalogue.{Catalogue}
 use Rattle.cat_model.specs.Values.{Bytes, Named}
 use Rattle.cat_names.specs.DataSets.{TextsByOid}
 use Rattle.cat_names.specs.Naming.{boot}
-use Rattle.cat_load.specs.Loads.{rows_fault}
+use Rattle.openings.specs.Loads.{rows_fault}
 use Rattle.exports.specs.Exports.{Exported}
 use Rattle.openings.specs.Openings.{export_named}
-use Rattle.opening_sound.specs.Export.{CanBeExported}
-use Rattle.opening_sound.proofs.Made.{left_exported}
+use Rattle.restores_sound.specs.Export.{CanBeExported}
+use Rattle.restores_sound.proofs.Made.{left_exported}
 use Rattle.script_runs.proofs.Kept.{opened_left}
 use Rattle.well_formed.specs.Catalogues.{catalogue_fault}
 use Rattle.well_formed.proofs.Formed.{well_formed}
 use Rattle.restores_sound.specs.Fit.{AreFitEntries}
-use Rattle.opening_sound.specs.Left.{IsLeft}
+use Rattle.restores_sound.specs.Left.{IsLeft}
 use Rattle.restores_sound.proofs.Entries.{entry_fit}
 use Rattle.restores_sound.proofs.Restores.{planned as planned_fit, gone_on, stopped}
 use Rattle.restore_plan.specs.declared.entry.Entry as planned

@@ -4,7 +4,7 @@ ghost use Rattle.openings.specs.Openings.{export_named};
 ghost use Rattle.script_runs.specs.Writing.{IsUnwritten};
 ghost use Rattle.restore_runs.specs.Endings.{ending};
 ghost use Rattle.restore_folders.specs.Seen.{work_seen};
-ghost use Rattle.opening_sound.specs.Export.{CanBeExported};
+ghost use Rattle.restores_sound.specs.Export.{CanBeExported};
 ghost use Rattle.restore_folders.specs.Works.{stops, ending_of, IsReady};
 ghost use Rattle.restore_folders.specs.Written.{is_written, Leaves, LeavesEnding};
 

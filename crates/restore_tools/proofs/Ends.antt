@@ -1,7 +1,7 @@
 -- How a restore ends.
 use Rattle.std.proofs.Common.{◌≡◌, ℕ, ◌==◌, Bool, true, false, Option, Some, None, Result, Ok, Err, IfOk, if◌then◌else◌, inl, inr, refl}
 use Rattle.restore_folders.specs.Works.{answer_by}
-use Rattle.restore_runs.specs.Reports.{Stopping}
+use Rattle.restore_folders.specs.Reports.{Stopping}
 use Rattle.restore_folders.specs.Writing.{IsUnwritten}
 use Rattle.tool_words.specs.declared.outcome.Outcome.{Outcome}
 use Rattle.tool_words.specs.declared.outcome.Outcome.TheVariants.{Done, Usage, ReadFault, WriteFault, Missing, BadExport, BadScript, OutOfProfile, TooLarge, Differs, ScriptStopped, BadArchive, BadList, BadDefn, WithErrors, RestoreStopped, Loop, NoMatch, Memory}

@@ -10,7 +10,7 @@ use Rattle.restore_folders.specs.declared.refusal.OnRefusal.TheVariants.{GoOn, S
 use Rattle.restore_folders.specs.Works.{Work, work_due, ending_of, answer_of}
 use Rattle.restore_input.specs.Inputs.{Input, input_due, custom_input_due}
 use Rattle.restore_outcomes.specs.Told.{told}
-use Rattle.restore_runs.specs.Endings.{Ending}
+use Rattle.restore_folders.specs.Endings.{Ending}
 use Rattle.restore_words.specs.Words.{options_of, format_of}
 use Rattle.tool_words.specs.declared.outcome.Outcome.{Outcome}
 use Rattle.tool_words.specs.Answers.{◌>>=◌}

@@ -4,7 +4,7 @@ use Rattle.cat_model.specs.declared.words.What.TheVariants.{Unbuilt}
 use Rattle.dump_ports.specs.Faults.{HasRisen}
 use Rattle.dump_ports.specs.Tree.{Tree}
 use Rattle.exports.specs.Exports.{Exported, export_of}
-use Rattle.openings.specs.Openings.{export_named}
+use Rattle.restore_folders.specs.Openings.{export_named}
 use Rattle.restore_folders.specs.Written.{LeavesEnding, files_written, tree_after}
 use Rattle.saved_folders.specs.Exports.{WithTexts}
 use Rattle.saved_folders.specs.Files.{PartSaved}

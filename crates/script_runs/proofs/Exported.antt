@@ -10,10 +10,10 @@ use Rattle.cat_sound.specs.Sound.{IsSound}
 use Rattle.column_numbers.specs.Numbers.{NumbersOf, number_of}
 use Rattle.column_numbers.specs.Rule.{with_entries}
 use Rattle.eng_tables.specs.Oids.{IsLeastUnused}
-use Rattle.entry_ids.specs.Entries.{AreUnused}
+use Rattle.whole_export.specs.Entries.{AreUnused}
 use Rattle.object_ids.specs.Ids.{IdsOf, KeepIds}
 use Rattle.opening_ids.specs.Opening.{opening_ids}
-use Rattle.opening_sound.specs.Export.{CanBeExported, IsExported}
+use Rattle.opening_written.specs.Export.{CanBeExported, IsExported}
 use Rattle.sound_texts.specs.Grammar.{grammar}
 use Rattle.whole_export.specs.Data.{with_all_rows}
 use Rattle.whole_export.specs.Made.{Stands}

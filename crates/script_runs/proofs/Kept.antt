@@ -6,16 +6,16 @@ use Rattle.cat_model.specs.declared.cause.Cause.{Cause}
 use Rattle.cat_model.specs.Values.{Bytes, Named}
 use Rattle.cat_names.specs.DataSets.{TextsByOid}
 use Rattle.cat_names.specs.Naming.{boot}
-use Rattle.cat_load.specs.Loads.{rows_fault}
+use Rattle.openings.specs.Loads.{rows_fault}
 use Rattle.cat_sound.specs.Fit.{IsFit}
 use Rattle.ddl_read.specs.declared.located.Located.{Located}
 use Rattle.ddl_laws.specs.Respelling as laws
-use Rattle.exports.specs.Exports.{Exported}
+use Rattle.openings.specs.Exports.{Exported}
 use Rattle.openings.specs.Openings.{export_named}
-use Rattle.opening_sound.specs.Export.{CanBeExported}
-use Rattle.opening_sound.specs.Left.{IsLeft}
-use Rattle.opening_sound.proofs.Leaving.{carried, opened}
-use Rattle.opening_sound.proofs.Made.{left_exported}
+use Rattle.opening_written.specs.Export.{CanBeExported}
+use Rattle.opening_written.specs.Left.{IsLeft}
+use Rattle.opening_written.proofs.Leaving.{carried, opened}
+use Rattle.opening_written.proofs.Made.{left_exported}
 use Rattle.schema_folders.specs.Run.{said, next, catalogue_after}
 use Rattle.script_runs.specs.Stopping.{behind, until, ending}
 use Rattle.sound_texts.specs.Grammar.{grammar}

@@ -18,8 +18,8 @@ use Rattle.cat_sound.proofs.Lists.{IsIn}
 use Rattle.cat_sound.proofs.Maps.{of_entry, equal_of}
 use Rattle.table_rows.specs.Values.{text_of}
 use Rattle.object_ids.specs.Ids.{IdsOf}
-use Rattle.entry_ids.specs.Ids.{of_keys}
-use Rattle.opening_sound.specs.Export.{AreSpelled}
+use Rattle.whole_export.specs.Ids.{of_keys}
+use Rattle.opening_written.specs.Export.{AreSpelled}
 use Rattle.whole_export.specs.Data.{with_rows, with_all_rows}
 
 module _ (ids : IdsOf) where

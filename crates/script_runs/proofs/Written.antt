@@ -8,15 +8,15 @@ use Rattle.cat_rows.specs.declared.roles.DatabaseRow.{DatabaseRow}
 use Rattle.cat_model.specs.declared.object.QName.{QName}
 use Rattle.cat_model.specs.Values.{Bytes, Named}
 use Rattle.cat_names.specs.DataSets.{TextsByOid}
-use Rattle.entry_ids.specs.Ids.{of_keys}
-use Rattle.exports.specs.Exports.{Exported, export_of}
+use Rattle.whole_export.specs.Ids.{of_keys}
+use Rattle.openings.specs.Exports.{Exported, export_of}
 use Rattle.named_tables.specs.Oids.{IsStarted}
 use Rattle.object_ids.specs.Ids.{IdsOf}
 use Rattle.openings.specs.Openings.{export_named}
 use Rattle.opening_ids.specs.Opening.{opening_ids}
-use Rattle.opening_sound.specs.Export.{CanBeExported, IsExport, IsExported}
+use Rattle.opening_written.specs.Export.{CanBeExported, IsExport, IsExported}
 use Rattle.opening_written.proofs.Reading.{read_same}
-use Rattle.reordered_rows.specs.Reading.{IsReadOrTooLarge}
+use Rattle.opening_written.specs.Reading.{IsReadOrTooLarge}
 use Rattle.saved_folders.specs.Exports.{WithTexts, ReadsAs, IsReordered, HasNoTexts}
 use Rattle.saved_folders.specs.Folders.{Texts, AreTexts, folder_saved}
 use Rattle.sound_rows.specs.Rows.{IsAmong}

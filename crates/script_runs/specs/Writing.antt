@@ -10,11 +10,11 @@ use Rattle.cat_model.specs.Values.{Bytes, Named}
 use Rattle.cat_names.specs.DataSets.{TextsByOid}
 use Rattle.eng_tables.specs.Oids.{IsLeastUnused}
 use Rattle.object_ids.specs.Ids.{IdsOf}
-use Rattle.opening_laws.specs.Keeping.{BeganAs}
-use Rattle.opening_sound.specs.Export.{IsExported}
+use Rattle.opening_written.specs.Keeping.{BeganAs}
+use Rattle.opening_written.specs.Export.{IsExported}
 use Rattle.tool_words.specs.declared.outcome.Outcome.{Outcome}
 use Rattle.tool_words.specs.declared.outcome.Outcome.TheVariants.{OutOfProfile, TooLarge, Memory}
-use Rattle.exports.specs.Exports.{Exported, export_of}
+use Rattle.openings.specs.Exports.{Exported, export_of}
 use Rattle.openings.specs.Openings.{export_named}
 use Rattle.saved_folders.specs.Exports.{WithTexts, ReadsAs, IsReordered}
 use Rattle.saved_folders.specs.Folders.{Texts, AreTexts, folder_saved}

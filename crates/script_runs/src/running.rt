@@ -7,7 +7,7 @@ ghost use Rattle.cat_names.specs.Naming.{boot as boot_role};
 ghost use Rattle.std.specs.List.{AllByRecursion};
 ghost use Rattle.cat_sound.specs.Fit.{IsFit};
 ghost use Rattle.ddl_laws.specs.Respelling.{said as statements_in};
-ghost use Rattle.opening_sound.specs.Export.{CanBeExported};
+ghost use Rattle.opening_written.specs.Export.{CanBeExported};
 ghost use Rattle.sound_texts.specs.Grammar.{grammar};
 ghost use Rattle.tool_words.specs.Messages.{Refusal, report};
 ghost use Rattle.schema_folders.specs.Run.{said, next, noted, catalogue_after, refusals};

@@ -1,6 +1,6 @@
 //! The texts of a folder that stands for what an opening became.
 ghost use Rattle.std.specs.Prelude.{◌≡◌, None, Some, IfErr, IfOk, IfSome};
-ghost use Rattle.opening_sound.specs.Export.{CanBeExported, IsExported};
+ghost use Rattle.opening_written.specs.Export.{CanBeExported, IsExported};
 ghost use Rattle.script_runs.specs.Writing.{current_name, IsUnwritten, NoOidIsLeft, StandFor};
 
 use cat_lookups::Lookups;

@@ -42,8 +42,8 @@ use Rattle.ddl_forms.proofs.Written.{run_made, then_made, choose_made, name_as, 
 use Rattle.ddl_read.specs.declared.fault.DdlFault.{DdlFault}
 use Rattle.ddl_read.specs.declared.located.Located.{Located}
 use Rattle.ddl_read.specs.Reading.{statements_of}
-use Rattle.ddl_laws.specs.Respelling.{IsWritable}
-use Rattle.ddl_laws.proofs.Respelled.{read_is_writable}
+use Rattle.sound_texts.specs.Respelling.{IsWritable}
+use Rattle.sound_texts.proofs.Respelled.{read_is_writable}
 use Rattle.row_texts.specs.declared.index_text.IndexText.{IndexText}
 use Rattle.row_texts.specs.DefaultTexts.{default_said}
 use Rattle.row_texts.specs.IndexTexts.{Named, named_index, index_of, index_part, index_text, is_bracketed, if_bracketed, index_said}

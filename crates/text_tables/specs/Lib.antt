@@ -4,3 +4,4 @@ pub mod Columns
 pub mod Indexes
 pub mod Sequences
 pub mod Views
+pub use Rattle.plain_tables.specs.Comments

@@ -1,3 +1,9 @@
 pub mod Catalogues
 pub mod Firsts
 pub mod Formed
+pub use Rattle.text_tables.specs.Agreeing
+pub use Rattle.text_tables.specs.Columns
+pub use Rattle.text_tables.specs.Indexes
+pub use Rattle.text_tables.specs.Sequences
+pub use Rattle.text_tables.specs.Types
+pub use Rattle.text_tables.specs.Views

@@ -9,7 +9,7 @@ use Rattle.text_tables.specs.Columns.{is_column_number}
 use Rattle.cat_sound.proofs.Lists.{IsIn}
 use Rattle.column_numbers.specs.Numbers.{NumbersOf, number_of}
 use Rattle.column_numbers.specs.Rising.{AreRising}
-use Rattle.named_objects.specs.Oids.{AreNumbers}
+use Rattle.entry_ids.specs.Oids.{AreNumbers}
 
 module _ {A : Type 0} (p : A → Bool) where
   -- none of the others pass

@@ -35,11 +35,11 @@ use Rattle.cat_sound.proofs.Changes.{value_met}
 use Rattle.cat_sound.proofs.Lists.{IsIn, of_each, all-mapped}
 use Rattle.named_tables.specs.Oids.{AreOids}
 use Rattle.named_tables.proofs.Rows.{in_place}
-use Rattle.named_objects.specs.Oids.{ObjectOids, AreNumbers}
-use Rattle.named_objects.specs.Standing.{AllStandFor}
-use Rattle.named_objects.proofs.Found.{from_filter}
-use Rattle.named_objects.proofs.Led.{led_to}
-use Rattle.named_objects.proofs.Lookups.{AreLedTo, kind_at, kind_so}
+use Rattle.entry_ids.specs.Oids.{ObjectOids, AreNumbers}
+use Rattle.entry_ids.specs.Standing.{AllStandFor}
+use Rattle.entry_ids.proofs.Found.{from_filter}
+use Rattle.entry_ids.proofs.Led.{led_to}
+use Rattle.entry_ids.proofs.Lookups.{AreLedTo, kind_at, kind_so}
 use Rattle.oid_groups.specs.Orders.{placed, by_number}
 use Rattle.table_rows.specs.Tables.{is_table_row, table_oids, column_count}
 use Rattle.table_rows.specs.Values.{text_of}

@@ -29,20 +29,20 @@ use Rattle.entry_ids.specs.Entries.{HaveIds, slots_of}
 use Rattle.entry_ids.specs.Ids.{of_keys}
 use Rattle.entry_ids.proofs.Having.{are_oids, are_check_oids, are_label_oids}
 use Rattle.map_export.proofs.Cluster as cluster
-use Rattle.named_objects.specs.Oids.{AreNumbers, AreCheckOids, AreLabelOids}
-use Rattle.named_objects.specs.Relations.{IsColumn, IsColumnRow}
-use Rattle.named_objects.specs.Standing.{AllStandFor}
-use Rattle.named_objects.specs.Views.{AreKept}
-use Rattle.named_objects.proofs.Formed.{all_formed}
-use Rattle.named_objects.proofs.Lookups.{AreLedTo, kind_found}
-use Rattle.named_objects.proofs.Whole.{whole_named}
+use Rattle.entry_ids.specs.Oids.{AreNumbers, AreCheckOids, AreLabelOids}
+use Rattle.entry_ids.specs.Relations.{IsColumn, IsColumnRow}
+use Rattle.entry_ids.specs.Standing.{AllStandFor}
+use Rattle.entry_ids.specs.Views.{AreKept}
+use Rattle.entry_ids.proofs.Formed.{all_formed}
+use Rattle.entry_ids.proofs.Lookups.{AreLedTo, kind_found}
+use Rattle.entry_ids.proofs.Whole.{whole_named}
 use Rattle.named_tables.specs.Cluster.{StandsFor}
 use Rattle.named_tables.specs.Oids.{AreOids, IsStarted}
 use Rattle.named_tables.specs.Standing.{AreRowsOf}
-use Rattle.object_export.proofs.Listing.{place_of}
-use Rattle.object_export.proofs.Notes as notes
-use Rattle.object_export.proofs.Related.{related}
-use Rattle.object_export.proofs.Standing as parts
+use Rattle.object_loops.proofs.Listing.{place_of}
+use Rattle.object_loops.proofs.Notes as notes
+use Rattle.object_loops.proofs.Related.{related}
+use Rattle.object_loops.proofs.Standing as parts
 use Rattle.object_ids.specs.Ids.{IdsOf, AreApart, KeepIds}
 use Rattle.object_ids.specs.Slots.{object}
 use Rattle.object_loops.specs.Oids.{with_numbers}

@@ -19,13 +19,13 @@ use Rattle.named_tables.specs.Oids.{AreOids}
 use Rattle.named_tables.specs.Standing.{AreRowsOf}
 use Rattle.named_tables.proofs.Rows.{in_place, among_in}
 use Rattle.named_tables.proofs.Ties.{tie}
-use Rattle.named_objects.specs.Oids.{ObjectOids, AreNumbers}
-use Rattle.named_objects.specs.Relations.{NamedColumn, IsColumn, IsColumnRow}
-use Rattle.named_objects.proofs.Columns.{is_of_table}
-use Rattle.named_objects.proofs.Counting.{Pairs, pairs_of, pairs_filter, twice_filtered, count_rows}
-use Rattle.named_objects.proofs.Found.{in_filter, from_filter}
-use Rattle.named_objects.proofs.Lookups.{AreLedTo, has_tie, kind_found}
-use Rattle.named_objects.proofs.Ordered.{AreLined, Zipped, lined_up}
+use Rattle.entry_ids.specs.Oids.{ObjectOids, AreNumbers}
+use Rattle.entry_ids.specs.Relations.{NamedColumn, IsColumn, IsColumnRow}
+use Rattle.entry_ids.proofs.Columns.{is_of_table}
+use Rattle.entry_ids.proofs.Counting.{Pairs, pairs_of, pairs_filter, twice_filtered, count_rows}
+use Rattle.entry_ids.proofs.Found.{in_filter, from_filter}
+use Rattle.entry_ids.proofs.Lookups.{AreLedTo, has_tie, kind_found}
+use Rattle.entry_ids.proofs.Ordered.{AreLined, Zipped, lined_up}
 use Rattle.oid_groups.specs.Orders.{placed, by_number}
 use Rattle.table_rows.specs.Tables.{column_count}
 

@@ -14,8 +14,8 @@ use Rattle.cat_naming.specs.Relations.{RowsByOid}
 use Rattle.cat_sound.specs.Itself.{Itself}
 use Rattle.column_numbers.specs.Numbers.{NumbersOf, number_of}
 use Rattle.entry_ids.specs.Ids.{of_keys}
-use Rattle.named_objects.specs.Oids.{ObjectOids, AreNumbers, AreCheckOids, AreLabelOids}
-use Rattle.named_objects.specs.Standing.{AllStandFor}
+use Rattle.entry_ids.specs.Oids.{ObjectOids, AreNumbers, AreCheckOids, AreLabelOids}
+use Rattle.entry_ids.specs.Standing.{AllStandFor}
 use Rattle.named_tables.specs.Oids.{AreOids}
 use Rattle.object_ids.specs.Ids.{IdsOf}
 use Rattle.object_loops.specs.Oids.{with_numbers}

@@ -19,13 +19,13 @@ use Rattle.cat_model.specs.Values.{Bytes, Named}
 use Rattle.cat_names.specs.Naming.{Entry}
 use Rattle.named_tables.specs.Cluster.{role_row, member_row, database_row, IsSchemaRow}
 use Rattle.named_tables.specs.Oids.{Oids}
-use Rattle.named_objects.specs.Constraints.{IsConstrainedRow, IsCommentRow}
-use Rattle.named_objects.specs.Oids.{ObjectOids}
-use Rattle.named_objects.specs.Relations.{IsRelationRow, IsColumnRow, IsDefaultRow, IsSequenceRow, IsIndexRow, IsBodyRow}
-use Rattle.named_objects.specs.Types.{IsTypeRow, label_row}
+use Rattle.entry_ids.specs.Constraints.{IsConstrainedRow, IsCommentRow}
+use Rattle.entry_ids.specs.Oids.{ObjectOids}
+use Rattle.entry_ids.specs.Relations.{IsRelationRow, IsColumnRow, IsDefaultRow, IsSequenceRow, IsIndexRow, IsBodyRow}
+use Rattle.entry_ids.specs.Types.{IsTypeRow, label_row}
 use Rattle.map_export.specs.Making.{AreSaid}
 use Rattle.map_export.specs.Things.{role_in, member_in, database_in, schema_in}
-use Rattle.object_export.specs.Parts.{default_in, index_in, body_in, comment_in, sequence_in, labels_in, columns_in, constrained_in}
+use Rattle.object_loops.specs.Parts.{default_in, index_in, body_in, comment_in, sequence_in, labels_in, columns_in, constrained_in}
 use Rattle.relation_loops.specs.Wholes.{type_in, relation_in}
 
 -- roles, memberships, databases and schemas

@@ -12,7 +12,7 @@ ghost use Rattle.column_numbers.specs.Rule.{with_entries};
 ghost use Rattle.eng_tables.specs.Oids.{IsLeastUnused};
 ghost use Rattle.entry_ids.specs.Entries.{AreUnused, HaveIds, slots_of};
 ghost use Rattle.entry_ids.specs.Ids.{of_keys};
-ghost use Rattle.named_objects.specs.Views.{AreKept};
+ghost use Rattle.entry_ids.specs.Views.{AreKept};
 ghost use Rattle.named_tables.specs.Oids.{IsStarted};
 ghost use Rattle.object_ids.specs.Ids.{KeepIds};
 ghost use Rattle.object_loops.specs.Oids.{with_numbers};

@@ -2,7 +2,7 @@ use Rattle.std.proofs.Common.{◌≡◌, IfOk, ℕ, Option, length, Ok, ap, ap�
 use Rattle.std.specs.Option.{option_and_then}
 use Rattle.cat_model.specs.Values.{Bytes}
 use Rattle.cat_model.specs.declared.stmt.Stmt.{Stmt}
-use Rattle.ddl_read.specs.Reading.{statements_of}
+use Rattle.constraint_table.specs.Reading.{statements_of}
 use Rattle.constraint_table.specs.Said.{only_statement, statement_text}
 use Rattle.cat_naming.specs.Types.{check_said}
 use Rattle.cat_naming.proofs.checks.check_said.Goals as goal

@@ -9,14 +9,14 @@ use Rattle.sql_lex.specs.Meaning.{inside, undoubled, name_of, literal_of, is_key
 use Rattle.ddl_parts.specs.Lexemes.{is_word, is_sign as sign_of}
 use Rattle.ddl_parts.specs.Leaves.{name_in, name_value, text_in, literal_value}
 use Rattle.ddl_parts.specs.Parts.{scan, many_at}
-use Rattle.ddl_read.specs.Columns.{columns}
-use Rattle.ddl_read.specs.Rests.{rest_step, rest_long, rest_done, key_rest, begins_foreign, foreign_rest}
+use Rattle.constraint_table.specs.Columns.{columns}
+use Rattle.constraint_table.specs.Rests.{rest_step, rest_long, rest_done, key_rest, begins_foreign, foreign_rest}
 use Rattle.ddl_parts.specs.Expressions.{ends_run, nest_step, nest_done, expression, default_text}
 use Rattle.ddl_parts.specs.Collecting.{collected_within, collected}
-use Rattle.ddl_read.specs.Clauses.{named_check}
-use Rattle.ddl_read.specs.Grammar.{create_schema, created, new_owner, new_check, domain_change, altered_domain, name_and_owner, path_and_owner, altered, selected, equals_or_to, setting, command, statement}
-use Rattle.ddl_read.specs.AlterGrammar.{primary_body, unique_body, foreign_body, other_value, other_path, table_change, behind_only, altered_table, only_value, check_body, constraint_body, added, new_default, own_change}
-use Rattle.ddl_read.specs.Reading.{line_at, statement_of, statements_within, statements_of}
+use Rattle.constraint_table.specs.Clauses.{named_check}
+use Rattle.constraint_table.specs.Grammar.{create_schema, created, new_owner, new_check, domain_change, altered_domain, name_and_owner, path_and_owner, altered, selected, equals_or_to, setting, command, statement}
+use Rattle.constraint_table.specs.AlterGrammar.{primary_body, unique_body, foreign_body, other_value, other_path, table_change, behind_only, altered_table, only_value, check_body, constraint_body, added, new_default, own_change}
+use Rattle.constraint_table.specs.Reading.{line_at, statement_of, statements_within, statements_of}
 use Rattle.row_texts.specs.IndexTexts.{named_index, index_text, index_said}
 use Rattle.ddl_parts.specs.Types.{type_step, type_done, type_long, is_type_word, is_number, type_of, type_part}
 use Rattle.cat_names.specs.Lookups.{role_name}
@@ -27,7 +27,7 @@ use Rattle.row_texts.specs.TypeTexts.{type_named}
 use Rattle.row_texts.specs.SequenceTypes.{sequence_type, sequence_kind}
 use Rattle.row_texts.specs.ViewTexts.{view_text, view_body}
 use Rattle.oid_groups.specs.Orders.{placed, by_number}
-use Rattle.type_ends.specs.Ends.{resolved_within}
+use Rattle.cat_lookups.specs.Ends.{resolved_within}
 use Rattle.cat_naming.proofs.laws.names_meet_the_examples.Goals as goal
 
 pub returns-clause-types : goal.returns-clause-types

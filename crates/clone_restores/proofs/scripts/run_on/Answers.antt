@@ -1,5 +1,5 @@
 use Rattle.std.proofs.Common.{sym, subst, ◌∙◌}
-use Rattle.opening_sound.specs.Export.{CanBeExported}
+use Rattle.script_runs.specs.Export.{CanBeExported}
 use Rattle.clone_restores.proofs.scripts.run_on.Goals as goal
 
 pub with_texts-requires : goal.with_texts-requires

@@ -1,5 +1,5 @@
 use Rattle.std.proofs.Common.{sym, subst}
-use Rattle.dump_targets.specs.Targets.{IsOutside}
+use Rattle.dump_tools.specs.Targets.{IsOutside}
 use Rattle.tool_words.specs.declared.words.DumpAsked.{DumpAsked}
 use Rattle.tool_words.specs.Messages.{teller_name}
 use Rattle.clone_tools.specs.Due.{clone_due}

@@ -3,4 +3,4 @@ use Rattle.ddl_write.proofs.writing.put_sequence.Goals as goal
 
 pub returns-clause-ok : goal.returns-clause-ok
 unfolding sequence_text
-returns-clause-ok c = rw (← c.usual_min-least.ensures, ← c.usual_max-greatest.ensures, ← c.type_words.ensures) c.put_all.ensures.ok
+returns-clause-ok c = rw (← c.type_words.ensures) c.put_all.ensures.ok

@@ -1,8 +1,8 @@
 use Rattle.cat_names.specs.Naming.{Entry}
 use Rattle.cat_sound.specs.Itself.{Itself}
 use Rattle.sound_texts.specs.Grammar.{grammar}
-use Rattle.named_objects.specs.Relations.{IsBodyRow}
-use Rattle.entry_ids.specs.Ids.{of_keys}
+use Rattle.object_export.specs.Relations.{IsBodyRow}
+use Rattle.cluster_loops.specs.Ids.{of_keys}
 use Rattle.object_export.specs.Parts.{body_in}
 use Rattle.cluster_loops.proofs.EntryLoops.{one_more, read_good}
 use Rattle.object_loops.proofs.bodies.body_rows.Goals as goal

@@ -2,7 +2,7 @@ use Rattle.std.proofs.Common.{◌≡◌, true, List, sym, subst, take}
 use Rattle.std.proofs.Math.ListN.{get_or}
 use Rattle.cat_model.specs.declared.value.Column.{Column}
 use Rattle.cat_sound.specs.Itself.{IsTyped}
-use Rattle.named_objects.specs.Relations.{NamedColumn, IsColumnRow}
+use Rattle.object_export.specs.Relations.{NamedColumn, IsColumnRow}
 use Rattle.sound_texts.specs.Grammar.{grammar}
 use Rattle.object_loops.specs.Adding.{Adds}
 use Rattle.object_loops.specs.Oids.{with_numbers}

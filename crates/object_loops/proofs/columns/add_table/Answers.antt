@@ -2,7 +2,7 @@ use Rattle.std.proofs.Common.{List, sym, subst}
 use Rattle.std.specs.List.{AllByRecursion}
 use Rattle.cat_model.specs.declared.value.Column.{Column}
 use Rattle.cat_sound.specs.Itself.{IsTyped}
-use Rattle.named_objects.specs.Relations.{IsColumnRow}
+use Rattle.object_export.specs.Relations.{IsColumnRow}
 use Rattle.object_export.specs.Parts.{columns_from}
 use Rattle.object_loops.specs.Adding.{Adds}
 use Rattle.object_loops.specs.Oids.{with_numbers}

@@ -1,6 +1,6 @@
 use Rattle.cat_names.specs.Naming.{Entry}
 use Rattle.cat_sound.specs.Itself.{Itself}
-use Rattle.named_objects.specs.Relations.{IsColumnRow}
+use Rattle.object_export.specs.Relations.{IsColumnRow}
 use Rattle.sound_texts.specs.Grammar.{grammar}
 use Rattle.object_loops.specs.Oids.{with_numbers}
 use Rattle.object_export.specs.Parts.{columns_in}

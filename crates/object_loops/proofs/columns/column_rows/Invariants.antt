@@ -6,7 +6,7 @@ use Rattle.cat_model.specs.declared.key.Key.{Key}
 use Rattle.cat_model.specs.declared.value.Value.{Value}
 use Rattle.cat_sound.specs.Itself.{Itself}
 use Rattle.map_export.specs.Making.{AreSaid}
-use Rattle.named_objects.specs.Relations.{IsColumnRow}
+use Rattle.object_export.specs.Relations.{IsColumnRow}
 use Rattle.sound_texts.specs.Grammar.{grammar}
 use Rattle.object_loops.specs.Oids.{with_numbers}
 use Rattle.object_export.specs.Parts.{columns_in}

@@ -4,9 +4,9 @@ use Rattle.std.specs.List.{AllByRecursion}
 use Rattle.cat_rows.specs.declared.constraints.ConstraintRow.{ConstraintRow}
 use Rattle.cat_model.specs.Values.{Bytes}
 use Rattle.cat_sound.specs.Itself.{check_of}
-use Rattle.entry_ids.specs.Ids.{oids_of}
+use Rattle.cluster_loops.specs.Ids.{oids_of}
 use Rattle.map_export.specs.Making.{AreSaid}
-use Rattle.named_objects.specs.Constraints.{IsConstrainedRow}
+use Rattle.object_export.specs.Constraints.{IsConstrainedRow}
 use Rattle.sound_texts.specs.Grammar.{grammar}
 use Rattle.object_export.specs.Parts.{check_in}
 use Rattle.object_loops.proofs.constraints.add_checks.Goals as goal

@@ -1,5 +1,5 @@
-use Rattle.entry_ids.specs.Ids.{oids_of}
-use Rattle.named_objects.specs.Constraints.{of_table, IsConstrainedRow}
+use Rattle.cluster_loops.specs.Ids.{oids_of}
+use Rattle.object_export.specs.Constraints.{of_table, IsConstrainedRow}
 use Rattle.object_loops.proofs.Passes.{adds_first}
 use Rattle.object_loops.proofs.constraints.add_constraint.Goals as goal
 

@@ -1,8 +1,8 @@
 use Rattle.std.proofs.Common.{arith}
 use Rattle.cat_names.specs.Naming.{Entry}
 use Rattle.cat_sound.specs.Itself.{Itself}
-use Rattle.entry_ids.specs.Ids.{oids_of}
-use Rattle.named_objects.specs.Constraints.{IsConstrainedRow}
+use Rattle.cluster_loops.specs.Ids.{oids_of}
+use Rattle.object_export.specs.Constraints.{IsConstrainedRow}
 use Rattle.sound_texts.specs.Grammar.{grammar}
 use Rattle.object_export.specs.Parts.{constrained_in}
 use Rattle.cluster_loops.proofs.EntryLoops.{read_good, seen}

@@ -7,9 +7,9 @@ use Rattle.cat_model.specs.declared.value.Value.{Value}
 use Rattle.cat_model.specs.declared.object.QName.{QName}
 use Rattle.cat_model.specs.Values.{Bytes}
 use Rattle.cat_sound.specs.Itself.{Itself}
-use Rattle.entry_ids.specs.Ids.{oids_of}
+use Rattle.cluster_loops.specs.Ids.{oids_of}
 use Rattle.map_export.specs.Making.{AreSaid}
-use Rattle.named_objects.specs.Constraints.{IsConstrainedRow}
+use Rattle.object_export.specs.Constraints.{IsConstrainedRow}
 use Rattle.sound_texts.specs.Grammar.{grammar}
 use Rattle.object_export.specs.Parts.{constrained_in}
 use Rattle.object_loops.proofs.constraints.constraint_rows.Given as goal

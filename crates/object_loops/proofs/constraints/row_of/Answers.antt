@@ -1,5 +1,5 @@
 use Rattle.std.proofs.Common.{sym, ap}
-use Rattle.entry_ids.specs.Ids.{of_keys}
+use Rattle.cluster_loops.specs.Ids.{of_keys}
 use Rattle.object_rows.specs.declared.parts.ConstraintOids.{ConstraintOids}
 use Rattle.object_loops.proofs.constraints.row_of.Goals as goal
 

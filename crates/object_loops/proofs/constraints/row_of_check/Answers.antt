@@ -1,5 +1,5 @@
 use Rattle.std.proofs.Common.{sym}
-use Rattle.entry_ids.specs.Ids.{oids_of}
+use Rattle.cluster_loops.specs.Ids.{oids_of}
 use Rattle.object_loops.proofs.constraints.row_of_check.Goals as goal
 
 pub returns : goal.returns

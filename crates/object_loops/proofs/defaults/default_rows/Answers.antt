@@ -1,7 +1,7 @@
 use Rattle.cat_names.specs.Naming.{Entry}
 use Rattle.cat_sound.specs.Itself.{Itself}
 use Rattle.sound_texts.specs.Grammar.{grammar}
-use Rattle.named_objects.specs.Relations.{IsDefaultRow}
+use Rattle.object_export.specs.Relations.{IsDefaultRow}
 use Rattle.object_loops.specs.Oids.{with_numbers}
 use Rattle.object_export.specs.Parts.{default_in}
 use Rattle.cluster_loops.proofs.EntryLoops.{one_more, read_good}

@@ -5,7 +5,7 @@ use Rattle.std.specs.Map.Iter.{deref_pair}
 use Rattle.cat_model.specs.declared.key.Key.{Key}
 use Rattle.cat_model.specs.declared.value.Value.{Value}
 use Rattle.cat_sound.specs.Itself.{Itself}
-use Rattle.named_objects.specs.Relations.{IsDefaultRow}
+use Rattle.object_export.specs.Relations.{IsDefaultRow}
 use Rattle.object_loops.specs.Oids.{with_numbers}
 use Rattle.object_export.specs.Parts.{default_in}
 use Rattle.sound_texts.specs.Grammar.{grammar}

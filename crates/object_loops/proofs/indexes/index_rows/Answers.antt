@@ -1,8 +1,8 @@
 use Rattle.cat_names.specs.Naming.{Entry}
 use Rattle.cat_sound.specs.Itself.{Itself}
 use Rattle.sound_texts.specs.Grammar.{grammar}
-use Rattle.named_objects.specs.Relations.{IsIndexRow}
-use Rattle.entry_ids.specs.Ids.{of_keys}
+use Rattle.object_export.specs.Relations.{IsIndexRow}
+use Rattle.cluster_loops.specs.Ids.{of_keys}
 use Rattle.object_export.specs.Parts.{index_in}
 use Rattle.cluster_loops.proofs.EntryLoops.{one_more, read_good}
 use Rattle.object_loops.proofs.indexes.index_rows.Goals as goal

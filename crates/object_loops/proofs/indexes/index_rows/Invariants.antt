@@ -5,8 +5,8 @@ use Rattle.std.specs.Map.Iter.{deref_pair}
 use Rattle.cat_model.specs.declared.key.Key.{Key}
 use Rattle.cat_model.specs.declared.value.Value.{Value}
 use Rattle.cat_sound.specs.Itself.{Itself}
-use Rattle.named_objects.specs.Relations.{IsIndexRow}
-use Rattle.entry_ids.specs.Ids.{of_keys}
+use Rattle.object_export.specs.Relations.{IsIndexRow}
+use Rattle.cluster_loops.specs.Ids.{of_keys}
 use Rattle.object_export.specs.Parts.{index_in}
 use Rattle.sound_texts.specs.Grammar.{grammar}
 use Rattle.map_export.specs.Making.{AreSaid}

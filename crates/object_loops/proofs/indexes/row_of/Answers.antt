@@ -1,5 +1,5 @@
 use Rattle.std.proofs.Common.{sym}
-use Rattle.entry_ids.specs.Ids.{of_keys}
+use Rattle.cluster_loops.specs.Ids.{of_keys}
 use Rattle.object_loops.proofs.indexes.row_of.Goals as goal
 
 pub returns : goal.returns

@@ -4,8 +4,8 @@ use Rattle.cat_model.specs.declared.key.Key.TheVariants as key
 use Rattle.cat_model.specs.declared.object.QName.{QName}
 use Rattle.cat_model.specs.declared.value.Value.{Value}
 use Rattle.cat_model.specs.Values.{Bytes}
-use Rattle.entry_ids.specs.Ids.{oids_of}
-use Rattle.named_objects.specs.Types.{NamedLabel, label_row}
+use Rattle.cluster_loops.specs.Ids.{oids_of}
+use Rattle.object_export.specs.Types.{NamedLabel, label_row}
 use Rattle.object_export.specs.Parts.{labels_in}
 use Rattle.object_loops.specs.Adding.{Adds}
 use Rattle.object_loops.proofs.labels.add_entry.Goals as goal

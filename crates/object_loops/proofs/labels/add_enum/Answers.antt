@@ -1,7 +1,7 @@
 use Rattle.std.proofs.Common.{◌≡◌, List, subst}
 use Rattle.cat_model.specs.Values.{Bytes}
-use Rattle.entry_ids.specs.Ids.{oids_of}
-use Rattle.named_objects.specs.Types.{NamedLabel, label_row}
+use Rattle.cluster_loops.specs.Ids.{oids_of}
+use Rattle.object_export.specs.Types.{NamedLabel, label_row}
 use Rattle.object_export.specs.Parts.{labels_from}
 use Rattle.object_loops.specs.Adding.{Adds}
 use Rattle.object_loops.proofs.labels.add_enum.Goals as goal

@@ -2,8 +2,8 @@ use Rattle.std.proofs.Common.{◌≡◌, List, sym, subst, take, arith}
 use Rattle.std.proofs.lemmas.List.{take_all}
 use Rattle.std.proofs.Math.ListN.{get_or}
 use Rattle.cat_model.specs.Values.{Bytes}
-use Rattle.entry_ids.specs.Ids.{oids_of}
-use Rattle.named_objects.specs.Types.{NamedLabel, label_row}
+use Rattle.cluster_loops.specs.Ids.{oids_of}
+use Rattle.object_export.specs.Types.{NamedLabel, label_row}
 use Rattle.object_loops.specs.Adding.{Adds}
 use Rattle.object_export.specs.Parts.{labels_from}
 use Rattle.object_loops.proofs.Passes.{adds_one, labels_more}

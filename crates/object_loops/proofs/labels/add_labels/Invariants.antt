@@ -2,8 +2,8 @@
 use Rattle.std.proofs.Common.{◌≡◌, ℤ, take}
 use Rattle.cat_model.specs.declared.object.QName.{QName}
 use Rattle.cat_model.specs.Values.{Bytes}
-use Rattle.entry_ids.specs.Ids.{oids_of}
-use Rattle.named_objects.specs.Types.{label_row}
+use Rattle.cluster_loops.specs.Ids.{oids_of}
+use Rattle.object_export.specs.Types.{label_row}
 use Rattle.object_loops.specs.Adding.{Adds}
 use Rattle.object_export.specs.Parts.{labels_from}
 use Rattle.object_loops.proofs.labels.add_labels.Given as goal

@@ -1,6 +1,6 @@
 use Rattle.std.proofs.Common.{◌≡◌, arith}
-use Rattle.entry_ids.specs.Ids.{oids_of}
-use Rattle.named_objects.specs.Types.{NamedLabel, label_row}
+use Rattle.cluster_loops.specs.Ids.{oids_of}
+use Rattle.object_export.specs.Types.{NamedLabel, label_row}
 use Rattle.object_export.specs.Parts.{labels_in}
 use Rattle.cluster_loops.proofs.EntryLoops.{seen}
 use Rattle.object_loops.proofs.Passes.{several_more, lists_end}

@@ -6,9 +6,9 @@ use Rattle.cat_model.specs.declared.key.Key.{Key}
 use Rattle.cat_model.specs.declared.value.Value.{Value}
 use Rattle.cat_model.specs.declared.object.QName.{QName}
 use Rattle.cat_model.specs.Values.{Bytes}
-use Rattle.entry_ids.specs.Ids.{oids_of}
+use Rattle.cluster_loops.specs.Ids.{oids_of}
 use Rattle.map_export.specs.Making.{AreSaid}
-use Rattle.named_objects.specs.Types.{label_row}
+use Rattle.object_export.specs.Types.{label_row}
 use Rattle.object_export.specs.Parts.{labels_in}
 use Rattle.object_loops.proofs.labels.label_rows.Given as goal
 

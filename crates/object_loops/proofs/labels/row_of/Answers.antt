@@ -1,6 +1,6 @@
 use Rattle.std.proofs.Common.{◌≡◌, ◌∙◌, sym, to_z, of_z, w64, rules}
 use Rattle.std.proofs.lemmas.Int.{to_z-of_z}
-use Rattle.entry_ids.specs.Ids.{oids_of}
+use Rattle.cluster_loops.specs.Ids.{oids_of}
 use Rattle.object_loops.proofs.labels.row_of.Goals as goal
 
 -- a number that is moved goes through its machine form, and is itself again

@@ -2,7 +2,7 @@ use Rattle.std.proofs.Common.{◌≡◌, ℤ, sym, subst, to_z, of_z, w64, rules
 use Rattle.std.proofs.lemmas.Int.{to_z-of_z}
 use Rattle.std.specs.FinMap.{get}
 use Rattle.cat_model.specs.declared.key.Key.TheVariants as key
-use Rattle.named_objects.specs.Relations.{IsSequenceRow}
+use Rattle.object_export.specs.Relations.{IsSequenceRow}
 use Rattle.object_loops.specs.Oids.{with_numbers}
 use Rattle.object_loops.proofs.Owning.{owning}
 use Rattle.object_loops.proofs.sequences.row_of.Goals as goal

@@ -1,4 +1,4 @@
-use Rattle.named_objects.specs.Relations.{IsSequenceRow}
+use Rattle.object_export.specs.Relations.{IsSequenceRow}
 use Rattle.object_loops.specs.Oids.{with_numbers}
 use Rattle.object_export.specs.Parts.{sequence_in}
 use Rattle.cluster_loops.proofs.EntryLoops.{one_more}

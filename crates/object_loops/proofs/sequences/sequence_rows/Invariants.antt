@@ -3,7 +3,7 @@ use Rattle.std.proofs.Common.{map, take, filter_map}
 use Rattle.std.specs.Map.Iter.{deref_pair}
 use Rattle.cat_model.specs.declared.key.Key.{Key}
 use Rattle.cat_model.specs.declared.value.Value.{Value}
-use Rattle.named_objects.specs.Relations.{IsSequenceRow}
+use Rattle.object_export.specs.Relations.{IsSequenceRow}
 use Rattle.object_loops.specs.Oids.{with_numbers}
 use Rattle.object_export.specs.Parts.{sequence_in}
 use Rattle.object_loops.specs.Owning.{AreOwned}

@@ -2,7 +2,7 @@ use Rattle.std.proofs.Common.{◌≡◌, Some, refl, sym, ap, subst, rules}
 use Rattle.std.specs.Option.{option_and_then}
 use Rattle.cat_model.specs.Values.{Bytes}
 use Rattle.constraint_table.specs.Said.{statement_said}
-use Rattle.cat_naming.specs.Types.{check_said}
+use Rattle.good_texts.specs.Types.{check_said}
 use Rattle.good_texts.proofs.Constraints.{checks_read}
 use Rattle.object_rows.proofs.constraints.check_row.Goals as goal
 

@@ -3,7 +3,7 @@ use Rattle.std.specs.Option.{option_and_then}
 use Rattle.cat_model.specs.Values.{Bytes}
 use Rattle.cat_model.specs.declared.value.Value.TheVariants as value
 use Rattle.constraint_table.specs.Said.{statement_said}
-use Rattle.cat_naming.specs.Constraints.{constraint_value}
+use Rattle.good_texts.specs.Constraints.{constraint_value}
 use Rattle.good_texts.proofs.Constraints.{in_order_read}
 use Rattle.object_rows.proofs.constraints.constraint_row.Goals as goal
 

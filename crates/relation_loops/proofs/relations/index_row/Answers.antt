@@ -1,5 +1,5 @@
 use Rattle.std.proofs.Common.{sym}
-use Rattle.entry_ids.specs.Ids.{of_keys}
+use Rattle.cluster_loops.specs.Ids.{of_keys}
 use Rattle.relation_loops.proofs.relations.index_row.Goals as goal
 
 pub returns : goal.returns

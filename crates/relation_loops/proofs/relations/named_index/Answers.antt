@@ -5,10 +5,10 @@ use Rattle.cat_model.specs.declared.object.Object.TheVariants as object
 use Rattle.cat_model.specs.declared.key.Key.TheVariants as key
 use Rattle.cat_model.specs.declared.value.Value.TheVariants as value
 use Rattle.cat_model.specs.Values.{Bytes}
-use Rattle.entry_ids.specs.Ids.{of_keys}
+use Rattle.cluster_loops.specs.Ids.{of_keys}
 use Rattle.map_export.specs.Making.{IsRowOf}
 use Rattle.map_export.specs.Things.{owner_of}
-use Rattle.named_objects.specs.Relations.{IsRelationRow}
+use Rattle.object_rows.specs.Relations.{IsRelationRow}
 use Rattle.cluster_loops.proofs.Owned.{owner_given}
 use Rattle.relation_loops.specs.Wholes.{relation_of}
 use Rattle.relation_loops.proofs.relations.named_index.Goals as goal

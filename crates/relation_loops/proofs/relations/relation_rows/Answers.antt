@@ -1,5 +1,5 @@
-use Rattle.entry_ids.specs.Ids.{of_keys}
-use Rattle.named_objects.specs.Relations.{IsRelationRow}
+use Rattle.cluster_loops.specs.Ids.{of_keys}
+use Rattle.object_rows.specs.Relations.{IsRelationRow}
 use Rattle.cluster_loops.proofs.EntryLoops.{one_more}
 use Rattle.relation_loops.specs.Wholes.{relation_in}
 use Rattle.relation_loops.proofs.relations.relation_rows.Goals as goal

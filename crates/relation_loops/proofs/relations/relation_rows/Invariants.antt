@@ -3,8 +3,8 @@ use Rattle.std.proofs.Common.{map, take, filter_map}
 use Rattle.std.specs.Map.Iter.{deref_pair}
 use Rattle.cat_model.specs.declared.key.Key.{Key}
 use Rattle.cat_model.specs.declared.value.Value.{Value}
-use Rattle.entry_ids.specs.Ids.{of_keys}
-use Rattle.named_objects.specs.Relations.{IsRelationRow}
+use Rattle.cluster_loops.specs.Ids.{of_keys}
+use Rattle.object_rows.specs.Relations.{IsRelationRow}
 use Rattle.map_export.specs.Making.{AreSaid}
 use Rattle.relation_loops.specs.Wholes.{relation_in}
 use Rattle.relation_loops.proofs.relations.relation_rows.Given as goal

@@ -1,4 +1,4 @@
-use Rattle.entry_ids.specs.Ids.{of_keys}
+use Rattle.cluster_loops.specs.Ids.{of_keys}
 use Rattle.relation_loops.proofs.relations.view_at.Goals as goal
 
 pub returns : goal.returns

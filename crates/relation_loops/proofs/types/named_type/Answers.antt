@@ -1,9 +1,9 @@
 use Rattle.std.proofs.Common.{ap, ◌∙◌}
 use Rattle.cat_model.specs.declared.object.QName.{QName}
 use Rattle.cat_model.specs.declared.object.Object.TheVariants as object
-use Rattle.entry_ids.specs.Ids.{of_keys}
+use Rattle.cluster_loops.specs.Ids.{of_keys}
 use Rattle.map_export.specs.Things.{owner_of, grants_on}
-use Rattle.named_objects.specs.Types.{IsTypeRow}
+use Rattle.object_rows.specs.Types.{IsTypeRow}
 use Rattle.cluster_loops.proofs.Owned.{no_owner}
 use Rattle.relation_loops.specs.Wholes.{is_type, type_with}
 use Rattle.relation_loops.proofs.types.named_type.Goals as goal

@@ -1,8 +1,8 @@
 use Rattle.cat_names.specs.Naming.{Entry}
 use Rattle.cat_sound.specs.Itself.{Itself}
 use Rattle.sound_texts.specs.Grammar.{grammar}
-use Rattle.entry_ids.specs.Ids.{of_keys}
-use Rattle.named_objects.specs.Types.{IsTypeRow}
+use Rattle.cluster_loops.specs.Ids.{of_keys}
+use Rattle.object_rows.specs.Types.{IsTypeRow}
 use Rattle.cluster_loops.proofs.EntryLoops.{one_more, read_good}
 use Rattle.relation_loops.specs.Wholes.{type_in}
 use Rattle.relation_loops.proofs.types.type_rows.Goals as goal

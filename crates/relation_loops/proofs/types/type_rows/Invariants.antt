@@ -5,8 +5,8 @@ use Rattle.std.specs.Map.Iter.{deref_pair}
 use Rattle.cat_model.specs.declared.key.Key.{Key}
 use Rattle.cat_model.specs.declared.value.Value.{Value}
 use Rattle.cat_sound.specs.Itself.{Itself}
-use Rattle.entry_ids.specs.Ids.{of_keys}
-use Rattle.named_objects.specs.Types.{IsTypeRow}
+use Rattle.cluster_loops.specs.Ids.{of_keys}
+use Rattle.object_rows.specs.Types.{IsTypeRow}
 use Rattle.sound_texts.specs.Grammar.{grammar}
 use Rattle.map_export.specs.Making.{AreSaid}
 use Rattle.relation_loops.specs.Wholes.{type_in}

@@ -1,5 +1,5 @@
 use Rattle.std.proofs.Common.{◌≡◌, Bool, IfOk, IfErr, subst, sym, ap, ◌∙◌}
-use Rattle.opening_sound.specs.Export.{CanBeExported}
+use Rattle.restores_sound.specs.Export.{CanBeExported}
 use Rattle.script_runs.specs.Writing.{IsUnwritten}
 use Rattle.cat_model.specs.Values.{Named}
 use Rattle.restore_runs.specs.Endings.{Ending, ending}

@@ -1,5 +1,5 @@
 use Rattle.std.proofs.Common.{sym, ap, subst, ◌∙◌}
-use Rattle.opening_sound.specs.Export.{CanBeExported}
+use Rattle.opening_written.specs.Export.{CanBeExported}
 use Rattle.script_runs.specs.Stopping.{Ending}
 use Rattle.script_runs.proofs.running.run_on.Goals as goal
 

@@ -1,5 +1,5 @@
 use Rattle.std.proofs.Common.{◌≡◌, ap, ◌∙◌}
-use Rattle.exports.specs.Exports.{Exported}
+use Rattle.openings.specs.Exports.{Exported}
 use Rattle.script_runs.proofs.Kept.{script_exported}
 use Rattle.script_runs.proofs.running.run_opening.Goals as goal
 

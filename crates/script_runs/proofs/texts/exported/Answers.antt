@@ -1,6 +1,6 @@
 use Rattle.std.proofs.Common.{◌≡◌, None, IfOk, IfSome, subst}
 use Rattle.cat_rows.specs.declared.catalogue.Catalogue.{Catalogue}
-use Rattle.opening_sound.specs.Export.{CanBeExported, IsExported}
+use Rattle.opening_written.specs.Export.{CanBeExported, IsExported}
 use Rattle.script_runs.specs.Writing.{NoOidIsLeft}
 use Rattle.script_runs.proofs.texts.exported.Goals as goal
 

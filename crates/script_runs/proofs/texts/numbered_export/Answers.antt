@@ -1,7 +1,7 @@
 use Rattle.std.proofs.Common.{◌≡◌, None, IfOk, IfSome, ap, sym, subst, ◌∙◌}
 use Rattle.cat_rows.specs.declared.catalogue.Catalogue.{Catalogue}
 use Rattle.opening_ids.specs.Opening.{opening_ids}
-use Rattle.opening_sound.specs.Export.{CanBeExported, IsExported}
+use Rattle.opening_written.specs.Export.{CanBeExported, IsExported}
 use Rattle.script_runs.specs.Writing.{NoOidIsLeft}
 use Rattle.script_runs.proofs.Exported.{made_by, left_by}
 use Rattle.script_runs.proofs.texts.numbered_export.Goals as goal

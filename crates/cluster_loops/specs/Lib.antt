@@ -1,0 +1,1 @@
+pub use Rattle.entry_ids.specs.Ids
