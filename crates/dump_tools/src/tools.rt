@@ -29,7 +29,7 @@ use dump_ports::{Failed, Files, Gate, Moment, Sink, Source};
 use dump_targets::laws::a_dump_is_written_outside_of_its_folder;
 use exports::{Export, FolderTexts, read_texts};
 use openings::{Opening, open_export, read_opening};
-use same_folders::{have_one_opening, opens_alike};
+use same_folders::{have_one_opening, open_as_one, opens_alike};
 use std::alloc::{AllocError, Global};
 use tool_words::{
     Asked, Difference, DumpAsked, Outcome, Teller, read_asked, tell, teller_of, write_bytes,
@@ -83,6 +83,26 @@ fn pg_dump<F: Files, O: Sink, E: Sink>(
 
 /// Compares what two folders stand for by names, with the rows of their tables.
 fn pg_catcmp<F: Files>(
+    alloc: Global,
+    files: &mut F,
+    first: &Text,
+    second: &Text,
+) -> Result<Outcome, Outcome>
+    ensures ends { IfOk result IsFinal }
+    ensures done { IfOk result (λ answer. (tree : Tree) (printed told : Option (List ℕ)) → F.tree files.old ≡ Some tree → WasDue (compare_due first.now second.now tree) answer (F.tree files.old) (F.tree files.new) printed printed told told) }
+    ensures refused { IfErr result (λ outcome. (tree : Tree) → F.tree files.old ≡ Some tree → IsAnswerDue outcome (compare_due first.now second.now tree)) }
+    ensures kept { F.tree files.new ≡ F.tree files.old }
+    ensures read_count { CountsRead result (F.read_faults files.old) (F.read_faults files.new) }
+    ensures write_count { F.write_faults files.new ≡ F.write_faults files.old }
+{
+    if open_as_one(alloc, files, first, second)? {
+        return Ok(Outcome::Done);
+    }
+    compare_folders(alloc, files, first, second)
+}
+
+/// The same of folders that aren't told to be one by their files alone: the texts of the first are read and held.
+fn compare_folders<F: Files>(
     alloc: Global,
     files: &mut F,
     first: &Text,

@@ -1,1 +1,4 @@
 pub mod Alike
+mod FileParts
+mod LinesRead
+mod TablesAhead

@@ -149,8 +149,13 @@ fn have_same_rows<F: Files>(
     are_data(alloc, files, folder, rows, &tables)
 }
 
-/// Whether the marker and the files of the system tables are the same.
-fn have_same_catalogue<F: Files>(
+/// Whether the marker and the files of the system tables are there and the same in two folders. It says no where it can't tell,
+/// and stops there. It holds the file of one table of each folder at a time.
+///
+/// # Errors
+///
+/// `Failed` exactly where a call of the files failed, or `Memory`.
+pub fn have_same_catalogue<F: Files>(
     alloc: Global,
     files: &mut F,
     first: &Text,

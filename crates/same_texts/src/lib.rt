@@ -5,4 +5,4 @@ mod comparing;
 pub mod laws;
 mod pieces;
 
-pub use comparing::hold_same_texts;
+pub use comparing::{have_same_catalogue, hold_same_texts};
