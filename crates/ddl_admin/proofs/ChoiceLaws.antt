@@ -18,30 +18,25 @@ any_second keys others t e = any-append keys others t ∙ or_right (any_word key
 pub before_is : {A B : Type 0} {keys others : List (List ℕ)} {p : Part A} {q : Part B} → IsOptional keys p → IsOptional others q → all_differ others keys ≡ true → IsOptional (keys ++ others) (p before q)
 before_is {A} {B} {keys} {others} {p} {q} hp hq differ = record { laws = lawful_then hp.laws (wider_laws p.goes_on q hq.laws) avoids; skips = skips; only = only }
   where
-    apart : Apart (any_word others) p.goes_on
-    apart t e = hp.only t (words_differ others keys differ t e)
-
-    avoids_by : (ts rest : List Lexeme) → (ts ≡ []) ⊎ (starts (any_word others) ts ≡ true) → starts p.goes_on rest ≡ false → starts p.goes_on (ts ++ rest) ≡ false
-    avoids_by ts rest (inl none) free = ap (λ (x : List Lexeme). starts p.goes_on (x ++ rest)) none ∙ free
-    avoids_by ts rest (inr begins) free = starts_apart (any_word others) p.goes_on (ts ++ rest) apart (starts-append (any_word others) ts rest begins)
-
     avoids : Avoids p.goes_on (wider p.goes_on q)
-    avoids v ts rest spells free = avoids_by ts rest (hq.skips v ts spells) (starts_neither q.goes_on p.goes_on rest free).1
-
-    skips_by : (ts a b : List Lexeme) → ts ≡ a ++ b → (a ≡ []) ⊎ (starts (any_word keys) a ≡ true) → (b ≡ []) ⊎ (starts (any_word others) b ≡ true) → (ts ≡ []) ⊎ (starts (any_word (keys ++ others)) ts ≡ true)
-    skips_by ts a b parts (inr begins) behind =
-        inr (ap (starts (any_word (keys ++ others))) parts ∙ starts-append (any_word (keys ++ others)) a b (starts_more (any_word keys) (any_word (keys ++ others)) (any_first keys others) a begins))
-    skips_by ts a b parts (inl none) (inl more) = inl (parts ∙ ap (λ (x : List Lexeme). x ++ b) none ∙ more)
-    skips_by ts a b parts (inl none) (inr begins) =
-        inr (ap (starts (any_word (keys ++ others))) (parts ∙ ap (λ (x : List Lexeme). x ++ b) none) ∙ starts_more (any_word others) (any_word (keys ++ others)) (any_second keys others) b begins)
+    avoids v ts rest spells free = elim (hq.skips v ts spells) [
+      | inl none ↦ ap (λ (x : List Lexeme). starts p.goes_on (x ++ rest)) none ∙ (starts_neither q.goes_on p.goes_on rest free).1
+      | inr begins ↦ starts_apart (any_word others) p.goes_on (ts ++ rest) (λ t e. hp.only t (words_differ others keys differ t e)) (starts-append (any_word others) ts rest begins)
+    ]
 
     skips : (v : A × B) (ts : List Lexeme) → (p before q).Spells v ts → (ts ≡ []) ⊎ (starts (any_word (keys ++ others)) ts ≡ true)
-    skips v ts spells = skips_by ts spells.0 spells.1 spells.2 (hp.skips v.0 spells.0 spells.3) (hq.skips v.1 spells.1 spells.4)
+    skips v ts spells =
+        let all = any_word (keys ++ others) in
+        elim (hp.skips v.0 spells.0 spells.3) [
+          | inr begins ↦ inr (ap (starts all) spells.2 ∙ starts-append all spells.0 spells.1 (starts_more (any_word keys) all (any_first keys others) spells.0 begins))
+          | inl none ↦ (let parts = spells.2 ∙ ap (λ (x : List Lexeme). x ++ spells.1) none in elim (hq.skips v.1 spells.1 spells.4) [
+            | inl more ↦ inl (parts ∙ more)
+            | inr begins ↦ inr (ap (starts all) parts ∙ starts_more (any_word others) all (any_second keys others) spells.1 begins)
+          ])
+        ]
 
     only : (t : Lexeme) → any_word (keys ++ others) t ≡ false → (p before q).goes_on t ≡ false
-    only t e =
-        let h = or_parts (any_word keys t) (any_word others t) (sym (any-append keys others t) ∙ e) in
-        ap (λ (b : Bool). b || p.goes_on t) (hq.only t h.1) ∙ hp.only t h.0
+    only t e = let h = or_parts (any_word keys t) (any_word others t) (sym (any-append keys others t) ∙ e) in ap (λ (b : Bool). b || p.goes_on t) (hq.only t h.1) ∙ hp.only t h.0
 
 pub seen_is : {A B : Type 0} {keys : List (List ℕ)} {p : Part A} (f : A → B) → IsOptional keys p → IsOptional keys (seen f p)
 seen_is {p = p} f h = record { laws = seen_laws f p h.laws; skips = λ w ts spells. h.skips spells.0 ts spells.2; only = h.only }
@@ -55,8 +50,7 @@ no_key : (key : List ℕ) (keys : List (List ℕ)) (t : Lexeme) → any_word (ke
 no_key key keys t e = (or_parts (is_word key t) (any_word keys t) e).0
 
 pub clause_is : {A : Type 0} {p : Part A} (key : List ℕ) → is_far key ≡ true → Lawful p → ((t : Lexeme) → p.goes_on t ≡ false) → IsOptional (key ∷ []) (clause key p)
-clause_is {A} {p} key far lp free =
-    record { laws = lawful_maybe (any_word (key ∷ [])) None given (no_key key []); skips = skips; only = λ t e. ap (λ (b : Bool). b || any_word (key ∷ []) t) (free t) ∙ e }
+clause_is {A} {p} key far lp free = record { laws = lawful_maybe (any_word (key ∷ [])) None given (no_key key []); skips = skips; only = λ t e. ap (λ (b : Bool). b || any_word (key ∷ []) t) (free t) ∙ e }
   where
     given : Headed (is_word key) (seen Some (is_word key ▸ p))
     given = headed_seen Some (headed_word key far lp)

@@ -39,37 +39,12 @@ value_starts ts = grind arith
 
 -- ---- a further option
 
-option_begun : is_option (a_word (codes "owner")) ≡ true
-unfolding is_option is_bare is_word is_keyword_of
-option_begun = refl
-
-value_is : is_value a_literal ≡ true
-unfolding is_value is_name is_literal is_number
-value_is = refl
-
-pub option_agrees : Agrees is_option
-unfolding is_option is_bare
-option_agrees t long = simp (word_like t long)
-
-value_agrees : Agrees is_value
-unfolding is_value is_name is_literal is_number
-value_agrees t long = refl
-
-pub further_laws : Lawful further
-unfolding further
-further_laws =
-    lead_laws is_option option_agrees (a_word (codes "owner")) (is_sign 61 ▸ mark is_value) option_begun (sign_laws 61 (mark is_value) (mark_laws is_value value_agrees a_literal value_is))
-
-further_begins : Begins is_option further
-unfolding further
-further_begins = lead_begins is_option (is_sign 61 ▸ mark is_value)
-
-never_on : (t : Lexeme) → further.goes_on t ≡ false
-unfolding further
-never_on t = refl
-
 pub furthers_apart : AreApart is_option furthering
-furthers_apart = grind (arith, further_laws, option_agrees, further_begins, never_on)
+unfolding further is_option is_bare is_word is_keyword_of is_value is_name is_literal is_number
+furthers_apart =
+    let further_laws : Lawful further =
+    lead_laws is_option (λ t long. simp (word_like t long)) (a_word (codes "owner")) (is_sign 61 ▸ mark is_value) refl (sign_laws 61 (mark is_value) (mark_laws is_value (λ t long. refl) a_literal refl)) in
+    grind (arith, further_laws, word_like, lead_begins)
 
 pub furthers_laws : Lawful furthers
 unfolding furthers
@@ -77,24 +52,17 @@ furthers_laws = seen_laws (λ options. tt) (many is_option furthering) (many_law
 
 -- ---- a loop over further options
 
-abbrev dropped : List (Unit {0}) → Unit {0}
-dropped options = tt
-
-one_dropped : (v : Unit {0}) (r : Reading (List (Unit {0}))) → seen_at dropped (r >>= λ others. gives (v ∷ others.0) others.1) ≡ seen_at dropped r
-one_dropped v r = grind arith
-
 pub goes_by : (ts : List Lexeme) (at next : ℕ) → starts is_option (drop at ts) ≡ true → further.read (drop at ts) ≡ Ok (tt, drop next ts) → furthers.read (drop at ts) ≡ furthers.read (drop next ts)
 unfolding furthers
-goes_by ts at next begins e =
-    ap (seen_at dropped) (from_read furthers_apart tt (drop at ts) (Ok (tt, drop next ts)) begins e) ∙ one_dropped tt (items_from furthering tt (drop next ts))
+goes_by ts at next begins e = ap (seen_at (λ options. tt)) (from_read furthers_apart tt (drop at ts) (Ok (tt, drop next ts)) begins e) ∙ (grind arith)
 
 pub ends_at : (ts : List Lexeme) (at : ℕ) → starts is_option (drop at ts) ≡ false → furthers.read (drop at ts) ≡ Ok (tt, drop at ts)
 unfolding furthers
-ends_at ts at none = ap (seen_at dropped) (from_none furthering tt (drop at ts) none)
+ends_at ts at none = ap (seen_at (λ options. tt)) (from_none furthering tt (drop at ts) none)
 
 pub stops_by : (ts : List Lexeme) (at : ℕ) (s : Stop) → starts is_option (drop at ts) ≡ true → further.read (drop at ts) ≡ Err s → furthers.read (drop at ts) ≡ Err s
 unfolding furthers
-stops_by ts at s begins e = ap (seen_at dropped) (from_stop furthering tt (drop at ts) s begins e)
+stops_by ts at s begins e = ap (seen_at (λ options. tt)) (from_stop furthering tt (drop at ts) s begins e)
 
 pub fails_by : (whole : Reading (Unit {0})) (ts : List Lexeme) (at : ℕ) (error : ReadError) → whole ≡ furthers.read (drop at ts) → starts is_option (drop at ts) ≡ true → Fails ts error (further.read (drop at ts)) → Fails ts error whole
 fails_by whole ts at error same begins e = grind (arith, stops_by)

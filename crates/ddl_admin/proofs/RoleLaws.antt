@@ -26,10 +26,8 @@ role_changes_are =
     let settings = before_is (clause_is (codes "connection") refl (lawful_word (codes "limit") refl whole_number_laws) whole_number_ends) texts refl in
     seen_is changes_by (before_is (before_is (flag_is (codes "superuser") (codes "nosuperuser") refl refl refl) behind refl) settings refl)
 
-changes_end : Apart (is_sign 59) role_changes.goes_on
-changes_end t e = role_changes_are.only t (sign_no_words 59 keys t e)
-
 pub alter_role_laws : Lawful alter_role
 unfolding alter_role
 alter_role_laws =
+    let changes_end : Apart (is_sign 59) role_changes.goes_on = λ t e. role_changes_are.only t (sign_no_words 59 keys t e) in
     lawful_seen (λ x. stmt.AlterRole x.0 x.1) (lawful_next name_laws (lawful_word (codes "with") refl (lawful_ended 59 role_changes_are.laws changes_end)) (λ t. refl))

@@ -6,81 +6,14 @@ ghost use Rattle.ddl_admin.specs.Comments.{remark, remark_end, name_remarked, pa
 
 use cat_model::{Commented, QName, Stmt};
 use copy_text::{Name, Text};
-use ddl_parts::{Parsed, Pieces, qualified_name};
+use ddl_parts::{Parsed, Pieces, qualified_name, read};
 use std::alloc::Global;
 
-/// NULL or a text.
-#[tactic(auto, unfolding(crate::specs::Comments::remark))]
-fn remark(alloc: Global, pieces: &Pieces<'_>, at: usize) -> Parsed<Option<Text>>
-    ensures { GivesPart pieces.now (λ t. t) result (remark.read (drop at pieces.now)) }
-{
-    if pieces.is_word(at, "null") {
-        let at = pieces.word(at, "null")?;
-        return Ok((None, at));
-    }
-    let (text, at) = pieces.literal(alloc, at)?;
-    Ok((Some(text), at))
-}
-
-/// IS with NULL or a text, and the semicolon.
-#[tactic(auto, unfolding(crate::specs::Comments::remark_end))]
+#[tactic(auto, unfolding(crate::specs::Comments::remark_end, crate::specs::Comments::remark))]
 fn remark_end(alloc: Global, pieces: &Pieces<'_>, at: usize) -> Parsed<Option<Text>>
     ensures { GivesPart pieces.now (λ t. t) result (remark_end.read (drop at pieces.now)) }
 {
-    let at = pieces.word(at, "is")?;
-    let (text, at) = remark(alloc, pieces, at)?;
-    let at = pieces.sign(at, b';')?;
-    Ok((text, at))
-}
-
-/// A name, and what is said of it.
-#[tactic(auto, unfolding(crate::specs::Comments::name_remarked))]
-fn name_remarked(alloc: Global, pieces: &Pieces<'_>, at: usize) -> Parsed<(Name, Option<Text>)>
-    ensures { GivesPart pieces.now (λ x. (x.0, x.1)) result (name_remarked.read (drop at pieces.now)) }
-{
-    let (name, at) = pieces.name(alloc, at)?;
-    let (text, at) = remark_end(alloc, pieces, at)?;
-    Ok(((name, text), at))
-}
-
-/// A path, and what is said of it.
-#[tactic(auto, unfolding(crate::specs::Comments::path_remarked))]
-fn path_remarked(alloc: Global, pieces: &Pieces<'_>, at: usize) -> Parsed<(QName, Option<Text>)>
-    ensures { GivesPart pieces.now (λ x. (x.0, x.1)) result (path_remarked.read (drop at pieces.now)) }
-{
-    let (q, at) = qualified_name(alloc, pieces, at)?;
-    let (text, at) = remark_end(alloc, pieces, at)?;
-    Ok(((q, text), at))
-}
-
-/// A column, and what is said of it.
-#[tactic(auto, unfolding(crate::specs::Comments::column_remarked))]
-fn column_remarked(
-    alloc: Global,
-    pieces: &Pieces<'_>,
-    at: usize,
-) -> Parsed<(QName, Name, Option<Text>)>
-    ensures { GivesPart pieces.now (λ x. (x.0, (x.1, x.2))) result (column_remarked.read (drop at pieces.now)) }
-{
-    let (q, at) = qualified_name(alloc, pieces, at)?;
-    let at = pieces.sign(at, b'.')?;
-    let ((column, text), at) = name_remarked(alloc, pieces, at)?;
-    Ok(((q, column, text), at))
-}
-
-/// A constraint, its table, and what is said of it.
-#[tactic(auto, unfolding(crate::specs::Comments::constraint_remarked))]
-fn constraint_remarked(
-    alloc: Global,
-    pieces: &Pieces<'_>,
-    at: usize,
-) -> Parsed<(Name, QName, Option<Text>)>
-    ensures { GivesPart pieces.now (λ x. (x.0, (x.1, x.2))) result (constraint_remarked.read (drop at pieces.now)) }
-{
-    let (name, at) = pieces.name(alloc, at)?;
-    let at = pieces.word(at, "on")?;
-    let ((q, text), at) = path_remarked(alloc, pieces, at)?;
-    Ok(((name, q, text), at))
+    read!(alloc, pieces, at; "is" if "null" { ; => None } text: .literal; => Some(text))
 }
 
 /// The comment on an object.
@@ -90,54 +23,36 @@ fn comment(object: Commented, text: Option<Text>) -> Stmt
     Stmt::Comment { object, text }
 }
 
-/// The kind of the object, the object, and what is said of it.
-#[tactic(auto, unfolding(crate::specs::Comments::commented_object))]
+/// A name and what is remarked on it.
+#[tactic(auto, unfolding(crate::specs::Comments::name_remarked))]
+fn name_remarked(alloc: Global, pieces: &Pieces<'_>, at: usize) -> Parsed<(Name, Option<Text>)>
+    ensures { GivesPart pieces.now (λ x. x) result (name_remarked.read (drop at pieces.now)) }
+{
+    read!(alloc, pieces, at; name: .name text: remark_end => (name, text))
+}
+
+/// A path and what is remarked on it.
+#[tactic(auto, unfolding(crate::specs::Comments::path_remarked))]
+fn path_remarked(alloc: Global, pieces: &Pieces<'_>, at: usize) -> Parsed<(QName, Option<Text>)>
+    ensures { GivesPart pieces.now (λ x. x) result (path_remarked.read (drop at pieces.now)) }
+{
+    read!(alloc, pieces, at; q: qualified_name text: remark_end => (q, text))
+}
+
+#[tactic(auto, unfolding(crate::specs::Comments::commented_object, crate::specs::Comments::column_remarked, crate::specs::Comments::constraint_remarked))]
 fn commented_object(alloc: Global, pieces: &Pieces<'_>, at: usize) -> Parsed<Stmt>
     ensures { GivesPart pieces.now (λ s. s) result (commented_object.read (drop at pieces.now)) }
 {
-    if pieces.is_word(at, "schema") {
-        let at = pieces.word(at, "schema")?;
-        let ((name, text), at) = name_remarked(alloc, pieces, at)?;
-        return Ok((comment(Commented::Schema(name), text), at));
-    }
-    if pieces.is_word(at, "type") {
-        let at = pieces.word(at, "type")?;
-        let ((q, text), at) = path_remarked(alloc, pieces, at)?;
-        return Ok((comment(Commented::Type(q), text), at));
-    }
-    if pieces.is_word(at, "domain") {
-        let at = pieces.word(at, "domain")?;
-        let ((q, text), at) = path_remarked(alloc, pieces, at)?;
-        return Ok((comment(Commented::Domain(q), text), at));
-    }
-    if pieces.is_word(at, "table") {
-        let at = pieces.word(at, "table")?;
-        let ((q, text), at) = path_remarked(alloc, pieces, at)?;
-        return Ok((comment(Commented::Table(q), text), at));
-    }
-    if pieces.is_word(at, "view") {
-        let at = pieces.word(at, "view")?;
-        let ((q, text), at) = path_remarked(alloc, pieces, at)?;
-        return Ok((comment(Commented::View(q), text), at));
-    }
-    if pieces.is_word(at, "sequence") {
-        let at = pieces.word(at, "sequence")?;
-        let ((q, text), at) = path_remarked(alloc, pieces, at)?;
-        return Ok((comment(Commented::Sequence(q), text), at));
-    }
-    if pieces.is_word(at, "index") {
-        let at = pieces.word(at, "index")?;
-        let ((q, text), at) = path_remarked(alloc, pieces, at)?;
-        return Ok((comment(Commented::Index(q), text), at));
-    }
-    if pieces.is_word(at, "column") {
-        let at = pieces.word(at, "column")?;
-        let ((q, column, text), at) = column_remarked(alloc, pieces, at)?;
-        return Ok((comment(Commented::Column(q, column), text), at));
-    }
-    let at = pieces.word(at, "constraint")?;
-    let ((name, q, text), at) = constraint_remarked(alloc, pieces, at)?;
-    Ok((comment(Commented::Constraint(q, name), text), at))
+    read!(alloc, pieces, at;
+        if "schema" { x: name_remarked => comment(Commented::Schema(x.0), x.1) }
+        if "type" { x: path_remarked => comment(Commented::Type(x.0), x.1) }
+        if "domain" { x: path_remarked => comment(Commented::Domain(x.0), x.1) }
+        if "table" { x: path_remarked => comment(Commented::Table(x.0), x.1) }
+        if "view" { x: path_remarked => comment(Commented::View(x.0), x.1) }
+        if "sequence" { x: path_remarked => comment(Commented::Sequence(x.0), x.1) }
+        if "index" { x: path_remarked => comment(Commented::Index(x.0), x.1) }
+        if "column" { q: qualified_name . x: name_remarked => comment(Commented::Column(q, x.0), x.1) }
+        "constraint" name: .name "on" x: path_remarked => comment(Commented::Constraint(x.0, name), x.1))
 }
 
 /// The statement COMMENT ON, behind COMMENT, and the place behind it.
@@ -152,6 +67,5 @@ fn commented_object(alloc: Global, pieces: &Pieces<'_>, at: usize) -> Parsed<Stm
 pub fn comment_on(alloc: Global, pieces: &Pieces<'_>, at: usize) -> Parsed<Stmt>
     ensures { GivesPart pieces.now (λ s. s) result (comment_on.read (drop at pieces.now)) }
 {
-    let at = pieces.word(at, "on")?;
-    commented_object(alloc, pieces, at)
+    read!(alloc, pieces, at; "on" -> commented_object)
 }

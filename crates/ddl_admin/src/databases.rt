@@ -9,7 +9,7 @@ ghost use Rattle.ddl_admin.specs.Databases.{word_first, is_bare, own_options, is
 
 use cat_model::{Encoding, Stmt};
 use copy_text::Text;
-use ddl_parts::{Halt, Parsed, Pieces, ReadError};
+use ddl_parts::{Halt, Parsed, Pieces, ReadError, read};
 use std::alloc::{AllocError, Global};
 
 /// The bytes of the token at a place.
@@ -147,39 +147,6 @@ fn utf8(alloc: Global, pieces: &Pieces<'_>, at: usize) -> Parsed<Encoding>
     Err(ReadError::Halted(Halt { long: false, at }))
 }
 
-/// The encoding, and further options.
-#[tactic(auto, unfolding(crate::specs::Databases::encoded))]
-fn encoded(alloc: Global, pieces: &Pieces<'_>, at: usize) -> Parsed<Encoding>
-    ensures { GivesPart pieces.now (λ e. e) result (encoded.read (drop at pieces.now)) }
-{
-    let at = pieces.word(at, "encoding")?;
-    let at = pieces.sign(at, b'=')?;
-    let (encoding, at) = utf8(alloc, pieces, at)?;
-    let at = furthers(alloc, pieces, at)?;
-    Ok((encoding, at))
-}
-
-/// The encoding, if there is one.
-#[tactic(auto, unfolding(crate::specs::Databases::maybe_encoded))]
-fn maybe_encoded(alloc: Global, pieces: &Pieces<'_>, at: usize) -> Parsed<Option<Encoding>>
-    ensures { GivesPart pieces.now (λ e. e) result (maybe_encoded.read (drop at pieces.now)) }
-{
-    if pieces.is_word(at, "encoding") {
-        let (encoding, at) = encoded(alloc, pieces, at)?;
-        return Ok((Some(encoding), at));
-    }
-    Ok((None, at))
-}
-
-/// The options behind the template.
-#[tactic(auto, unfolding(crate::specs::Databases::options))]
-fn options(alloc: Global, pieces: &Pieces<'_>, at: usize) -> Parsed<Option<Encoding>>
-    ensures { GivesPart pieces.now (λ e. e) result (options.read (drop at pieces.now)) }
-{
-    let at = furthers(alloc, pieces, at)?;
-    maybe_encoded(alloc, pieces, at)
-}
-
 /// The statement CREATE DATABASE, behind these words, and the place behind it.
 ///
 /// The template is `template0`. Behind it stand options with a word, a name, a literal or a number as their value: the
@@ -188,16 +155,11 @@ fn options(alloc: Global, pieces: &Pieces<'_>, at: usize) -> Parsed<Option<Encod
 /// # Errors
 ///
 /// `Halted` tells the first token with which no such statement goes on, `Memory` that memory ran out.
-#[tactic(auto, unfolding(crate::specs::Databases::create_database))]
+#[tactic(auto, unfolding(crate::specs::Databases::create_database, crate::specs::Databases::options, crate::specs::Databases::maybe_encoded, crate::specs::Databases::encoded))]
 pub fn create_database(alloc: Global, pieces: &Pieces<'_>, at: usize) -> Parsed<Stmt>
     ensures { GivesPart pieces.now (λ s. s) result (create_database.read (drop at pieces.now)) }
 {
-    let (name, at) = pieces.name(alloc, at)?;
-    let at = pieces.word(at, "with")?;
-    let at = pieces.word(at, "template")?;
-    let at = pieces.sign(at, b'=')?;
-    let at = pieces.word(at, "template0")?;
-    let (encoding, at) = options(alloc, pieces, at)?;
-    let at = pieces.sign(at, b';')?;
-    Ok((Stmt::CreateDatabase { name, encoding }, at))
+    read!(alloc, pieces, at; name: .name "with" "template" = "template0" ..furthers
+        if "encoding" { = encoding: utf8 ..furthers; => Stmt::CreateDatabase { name, encoding: Some(encoding) } }
+        ; => Stmt::CreateDatabase { name, encoding: None })
 }

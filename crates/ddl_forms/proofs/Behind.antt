@@ -32,20 +32,11 @@ rank End = 3
 abbrev pub covers : Behind → Behind → Bool
 covers a b = nat_lt (rank a) (rank b + 1)
 
-pub covers_all : (b : Behind) → covers Anything b ≡ true
-covers_all b = grind arith
-
-pub covers_same : (b : Behind) → covers b b ≡ true
-covers_same b = grind arith
-
 pub admitted : (a b : Behind) (rest : List ℕ) → covers a b ≡ true → admits b rest ≡ true → admits a rest ≡ true
 admitted a b rest c e = grind arith
 
 pub through : (a b c : Behind) → covers a b ≡ true → covers b c ≡ true → covers a c ≡ true
 through a b c e f = lt-ltb (rank a) (rank c + 1) (omega (arith, ltb-true (rank a) (rank b + 1) e, ltb-true (rank b) (rank c + 1) f))
-
-turned : (a b : Behind) → covers a b ≡ false → covers b a ≡ true
-turned a b e = grind (arith, nat_tests)
 
 -- of two, the one that admits more, and the one that admits less
 abbrev pub looser : Behind → Behind → Behind
@@ -53,9 +44,6 @@ looser a b = cond (covers a b) a b
 
 abbrev pub tighter : Behind → Behind → Behind
 tighter a b = cond (covers a b) b a
-
-pub loose : (m a b : Behind) → covers m (looser a b) ≡ true → (covers m a ≡ true) × (covers m b ≡ true)
-loose m a b e = grind (arith, nat_tests)
 
 pub tight : (a b : Behind) (rest : List ℕ) → admits (tighter a b) rest ≡ true → (admits a rest ≡ true) × (admits b rest ≡ true)
 tight a b rest e = grind (arith, nat_tests)
@@ -72,10 +60,10 @@ pub opened : (g text : List ℕ) → Opens false (opens_of g) (g ++ text)
 opened g text = grind arith
 
 pub then_opens : (la lb : Bool) (oa ob : Behind) (a b : List ℕ) → Opens la oa a → Opens lb ob b → Opens (cond la lb false) (cond la (looser oa ob) oa) (a ++ b)
-then_opens la lb oa ob a b f g = grind (arith, loose, append_assoc)
+then_opens la lb oa ob a b f g = grind (arith, append_assoc, nat_tests)
 
 pub one_opens : (la lb : Bool) (oa ob : Behind) (a : List ℕ) → Opens la oa a → Opens (la || lb) (looser oa ob) a
-one_opens la lb oa ob a f = grind (arith, loose)
+one_opens la lb oa ob a f = grind (arith, nat_tests)
 
 pub other_opens : (la lb : Bool) (oa ob : Behind) (b : List ℕ) → Opens lb ob b → Opens (la || lb) (looser oa ob) b
-other_opens la lb oa ob b f = grind (arith, loose)
+other_opens la lb oa ob b f = grind (arith, nat_tests)

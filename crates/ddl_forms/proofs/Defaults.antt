@@ -21,13 +21,6 @@ passed P y x e h = let same : y ≡ x = cc in subst P same h
 moved_inside : (o : Option (List Bracket)) (x : Nest) → moved o ≡ Some x → x.spot ≡ Inside
 moved_inside o x e = grind arith
 
-other_inside : (kind : TokenKind) (spot : Spot) (x : Nest) → behind_other kind spot ≡ Some x → x.spot ≡ Inside
-other_inside kind spot x e = grind (arith, moved_inside)
-
--- where NOT NULL isn't taken, a run goes on as where it is
-outside_more : (spot : Spot) (kind : TokenKind) (ends is_not is_null : Bool) (x : Nest) → outside false spot kind ends is_not is_null ≡ Some x → outside true spot kind ends is_not is_null ≡ Some x
-outside_more spot kind ends is_not is_null x e = grind arith
-
 step_more : (s x : Nest) (t : Lexeme) → nest_step true false s t ≡ Some x → nest_step true true s t ≡ Some x
 unfolding nest_step
 step_more s x t e = grind arith
@@ -52,9 +45,6 @@ step_goes takes s x t e = by s.brackets e
     by [] f = outside_goes takes s.spot t.kind (ends_run true t) (is_word (codes "not") t) (is_word (codes "null") t) x f
     by (b ∷ bs) f = let inside = moved_inside (behind_kind t.kind (b ∷ bs)) x f in inl (f, ap is_shut inside, λ g. absurd (cc (inside, g)))
 
-step_open : (s x : Nest) (t : Lexeme) → nest_step true false s t ≡ Some x → is_shut x.spot ≡ false
-step_open s x t e = elim (step_goes false s x t e) [ inl g ↦ g.1 | inr c ↦ absurd cc c.0 ]
-
 -- where NOT NULL isn't taken, a run goes as where it is, and is never behind it
 run_more : (s last : Nest) (ts : List Lexeme) → is_shut s.spot ≡ false → run (nested true false) (Some s) ts ≡ Some last → (run (nested true true) (Some s) ts ≡ Some last) × (is_shut last.spot ≡ false)
 run_more s last [] free e = (e, passed (λ y. is_shut y.spot ≡ false) s last e free)
@@ -62,34 +52,23 @@ run_more s last (t ∷ ts) free e = by (nest_step true false s t) refl (λ x is 
   where
     by : (next : Option Nest) → nest_step true false s t ≡ next → ((x : Nest) → is_shut x.spot ≡ false → run (nested true false) (Some x) ts ≡ Some last → (run (nested true true) (Some x) ts ≡ Some last) × (is_shut last.spot ≡ false))
         → run (nested true false) next ts ≡ Some last → (run (nested true true) (Some s) (t ∷ ts) ≡ Some last) × (is_shut last.spot ≡ false)
-    by next e f h = grind (arith, not_some, run_none, step_open, step_more)
+    by next e f h = grind (arith, not_some, run_none, step_more, step_goes)
 
 -- ---- NOT and NULL
-
--- where NOT NULL isn't taken, no run ends with it
-null_refused : (spot : Spot) (kind : TokenKind) (ends : Bool) → behind_null false spot ≡ None → outside false spot kind ends false true ≡ None
-null_refused spot kind ends e = grind arith
 
 both_refused : (spot : Spot) (kind : TokenKind) (ends is_null : Bool) (b : Lexeme) → is_word (codes "not") b ≡ false → is_word (codes "null") b ≡ true → option_and_then (λ x. nest_step true false x b) (outside false spot kind ends true is_null) ≡ None
 unfolding nest_step
 both_refused spot kind ends is_null b e f = grind arith
 
-both_within : (c : Bracket) (bs : List Bracket) (spot : Spot) (a b : Lexeme) → is_word (codes "not") a ≡ true → is_word (codes "null") b ≡ true
-    → option_and_then (λ x. nest_step true false x b) (step_by true false spot a (c ∷ bs)) ≡ Some (nest (c ∷ bs) Inside)
-unfolding is_keyword_of is_word nest_step
-both_within c bs spot a b e f = grind arith
-
 none_at_end : (s last : Nest) (a b : Lexeme) → is_word (codes "not") a ≡ true → is_word (codes "null") b ≡ true → run (nested true false) (Some s) (a ∷ b ∷ []) ≡ Some last → nest_done last ≡ true → ⊥
-unfolding nest_step nest_done
+unfolding nest_step nest_done is_keyword_of is_word
 none_at_end s last a b e f runs done = by s.brackets runs
   where
     by : (bs : List Bracket) → option_and_then (λ x. nest_step true false x b) (step_by true false s.spot a bs) ≡ Some last → ⊥
     by [] g =
         let refused = both_refused s.spot a.kind (ends_run true a) (is_word (codes "null") a) b (words_apart (codes "null") (codes "not") refl b f) f in
         not_some last (option_and_then (λ x. nest_step true false x b) (step_by true false s.spot a [])) g (rw e refused)
-    by (c ∷ bs) g =
-        let same = passed (λ y. nest_done y ≡ false) (nest (c ∷ bs) Inside) last (sym (both_within c bs s.spot a b e f) ∙ g) refl in
-        absurd (cc (same, done))
+    by (c ∷ bs) g = absurd (cc ((passed (λ y. nest_done y ≡ false) (nest (c ∷ bs) Inside) last (sym (grind arith) ∙ g) refl), done))
 
 -- ---- the last two tokens
 
@@ -106,22 +85,9 @@ two_at_least a b (c ∷ ts) = let h = two_at_least b c ts in record { front = a 
 abbrev are_nulls : List Lexeme → Bool
 are_nulls ts = are_not_null (drop (length ts - 2) ts)
 
-abbrev ended_by : Bool → List Lexeme → List Lexeme → List ℕ × Bool
-ended_by b front ts = cond b (source front, true) (source ts, false)
-
-two_less : (front : List Lexeme) (a b : Lexeme) → length (front ++ a ∷ b ∷ []) - 2 ≡ length front
-two_less front a b = omega (arith, length-append front (a ∷ b ∷ []))
-
-nulls_are : (front : List Lexeme) (a b : Lexeme) → are_nulls (front ++ a ∷ b ∷ []) ≡ are_not_null (a ∷ b ∷ [])
-nulls_are front a b = grind (arith, two_less, drop_at)
-
-with_nulls : (front : List Lexeme) (a b : Lexeme) → are_not_null (a ∷ b ∷ []) ≡ true → without_not_null (front ++ a ∷ b ∷ []) ≡ (source front, true)
-unfolding without_not_null
-with_nulls front a b is = grind (arith, nulls_are, two_less, take_at)
-
 without_nulls : (ts : List Lexeme) → are_nulls ts ≡ false → without_not_null ts ≡ (source ts, false)
 unfolding without_not_null
-without_nulls ts isnt = ap (λ (e : Bool). ended_by e (take (length ts - 2) ts) ts) isnt
+without_nulls ts isnt = ap (λ (e : Bool). cond e (source (take (length ts - 2) ts), true) (source ts, false)) isnt
 
 no_nulls : (ts : List Lexeme) → Runs (nested true false) ts → are_nulls ts ≡ false
 no_nulls [] runs = refl
@@ -139,7 +105,7 @@ no_nulls (t ∷ u ∷ ts) runs = let h = two_at_least t u ts in subst (λ (us : 
         absurd (by_front a b r.last r.done words.0 words.1 (run (nested true false) (Some (nested true false).start) front) (sym (run-append (nested true false) (Some (nested true false).start) front (a ∷ b ∷ [])) ∙ r.runs))
 
     by : (front : List Lexeme) (a b : Lexeme) → Runs (nested true false) (front ++ a ∷ b ∷ []) → are_nulls (front ++ a ∷ b ∷ []) ≡ false
-    by front a b r = nulls_are front a b ∙ by_end front a b r (are_not_null (a ∷ b ∷ [])) refl
+    by front a b r = (grind (arith, drop_at, length-append)) ∙ by_end front a b r (are_not_null (a ∷ b ∷ [])) refl
 
 -- ---- a default's text
 
@@ -151,71 +117,50 @@ not_null_plain : AllPlain not_null
 unfolding is_sign
 not_null_plain = (record { ends = refl; line = λ e. absurd cc }, (record { ends = refl; line = λ e. absurd cc }, tt))
 
-not_null_stood : (others : List Lexeme) → Stood others → admits Words (spelled others) ≡ true → Stood (not_null ++ others)
-unfolding in_word begins_word is_digit is_utf8 chars encode
-not_null_stood others stood e = (a_word (codes "NOT") (spelled (word_token (32 ∷ []) (codes "NULL") ∷ others)) space (refl, refl) refl refl, (a_word (codes "NULL") (spelled others) space (refl, refl) refl e, stood))
-
-nulls_taken : (spot : Spot) (bs : List Bracket) (at : ℕ) → nest_done (nest bs spot) ≡ true → is_shut spot ≡ false → run (nested true true) (Some (nest bs spot)) (placed at not_null) ≡ Some (nest [] Shut)
-unfolding nest_step nest_done ends_run is_word is_sign is_keyword_of
-nulls_taken x bs at done free = grind arith
-
-shut_is_done : nest_done (nest [] Shut) ≡ true
-unfolding nest_done
-shut_is_done = refl
-
 runs_with_null : (ts : List Lexeme) (at : ℕ) → Runs (nested true false) ts → Runs (nested true true) (ts ++ placed at not_null)
+unfolding nest_step nest_done ends_run is_word is_sign is_keyword_of
 runs_with_null ts at r =
     let more = run_more (nested true false).start r.last ts refl r.runs in
     record {
       last = nest [] Shut;
       runs = run-append (nested true true) (Some (nested true true).start) ts (placed at not_null)
           ∙ ap (λ o. run (nested true true) o (placed at not_null)) more.0
-          ∙ nulls_taken r.last.spot r.last.brackets at r.done more.1;
-      done = shut_is_done;
+          ∙ (grind arith);
+      done = refl;
     }
-
-placed_nulls : (at : ℕ) → are_not_null (placed at not_null) ≡ true
-unfolding is_word is_keyword_of
-placed_nulls at = refl
 
 alone_spells : (v : List ℕ) (ts : List Lexeme) → source ts ≡ v → Runs (nested true false) ts → default_and_null.Spells (v, false) ts
 unfolding default_and_null
 alone_spells v ts whole r =
-    let no_null : Bool = false in
-    (ts, sym (without_nulls ts (no_nulls ts r) ∙ ap (λ (x : List ℕ). (x, no_null)) whole), (refl, record { last = r.last; runs = (run_more (nested true false).start r.last ts refl r.runs).0; done = r.done }))
-
-null_spells : (v : List ℕ) (ts : List Lexeme) (at : ℕ) → source ts ≡ v → Runs (nested true false) ts → default_and_null.Spells (v, true) (ts ++ placed at not_null)
-unfolding default_and_null
-null_spells v ts at whole r = grind (arith, not_null, with_nulls, placed_nulls, runs_with_null)
+    (ts, sym (without_nulls ts (no_nulls ts r) ∙ ap (λ (x : List ℕ). (x, false)) whole), (refl, record { last = r.last; runs = (run_more (nested true false).start r.last ts refl r.runs).0; done = r.done }))
 
 abbrev pub null_words : List ℕ
 null_words = codes " NOT NULL"
 
 pub default_put : (v : List ℕ) (b : Bool) (others : List Lexeme) → IsDefaultText v → Follows others → admits Safe (spelled others) ≡ true → IsPut default_and_null (v, b) ((32 ∷ []) ++ (v ++ only_if b null_words)) others
+unfolding in_word begins_word is_digit is_utf8 chars encode default_and_null without_not_null is_word is_keyword_of
 default_put v false others is follows e =
     same_text (32 ∷ v) (32 ∷ (v ++ [])) (ap (λ (x : List ℕ). 32 ∷ x) (sym (append-nil v)))
     (run_put (nested_plain true false) default_and_null (v, false) v others space is (λ ts runs whole same. alone_spells v ts whole runs) follows e)
 default_put v true others is follows e =
+    let not_null_stood : (others : List Lexeme) → Stood others → admits Words (spelled others) ≡ true → Stood (not_null ++ others) =
+    λ others stood e. (a_word (codes "NOT") (spelled (word_token (32 ∷ []) (codes "NULL") ∷ others)) space (refl, refl) refl refl, (a_word (codes "NULL") (spelled others) space (refl, refl) refl e, stood)) in
     let stood = not_null_stood others follows.stood (admitted Words Safe (spelled others) refl e) in
     let k = run_kept (nested true false) (nested_plain true false) (32 ∷ []) v (not_null ++ others) space is stood refl in
     record {
       tokens = k.tokens ++ not_null;
       bytes = spelled-append k.tokens not_null ∙ ap (λ (x : List ℕ). x ++ spelled not_null) k.bytes;
       stood = subst Stood (sym (append_assoc k.tokens not_null others)) k.stood;
-      spells = λ at. subst (default_and_null.Spells (v, true)) (sym (placed-append at k.tokens not_null)) (null_spells v (placed at k.tokens) (at + length (spelled k.tokens)) (k.whole at) (k.runs at));
+      spells = λ at. subst (default_and_null.Spells (v, true)) (sym (placed-append at k.tokens not_null)) (grind (arith, not_null, runs_with_null, take_at, length-append, drop_at));
       last = ap (only_last semicolon) (append_assoc k.tokens not_null others) ∙ plain_last k.tokens (not_null ++ others) k.plain (plain_last not_null others not_null_plain follows.last);
     }
 
 -- ---- a default that was read
 
--- nothing follows NOT NULL
-shut_outside : (kind : TokenKind) (ends is_not is_null : Bool) → outside true Shut kind ends is_not is_null ≡ None
-shut_outside kind x is_not is_null = grind arith
-
 stays_shut : (last : Nest) (ts : List Lexeme) → run (nested true true) (Some (nest [] Shut)) ts ≡ Some last → is_shut last.spot ≡ true
 unfolding nest_step
 stays_shut last [] e = passed (λ y. is_shut y.spot ≡ true) (nest [] Shut) last e refl
-stays_shut last (t ∷ ts) e = grind (arith, passed, shut_outside, ends_run, not_some, run_none)
+stays_shut last (t ∷ ts) e = grind (arith, passed, ends_run, not_some, run_none)
 
 -- a run that isn't behind NOT NULL is one of the machine that doesn't take it
 run_less : (s last : Nest) (ts : List Lexeme) → run (nested true true) (Some s) ts ≡ Some last → is_shut last.spot ≡ false → run (nested true false) (Some s) ts ≡ Some last
@@ -239,11 +184,12 @@ record IsDefaultRead (ts : List Lexeme) : Type 0 where
 
 -- the last two tokens of a run that is behind NOT NULL
 nulls_read : (front : List Lexeme) (a b : Lexeme) (r : Runs (nested true true) (front ++ a ∷ b ∷ [])) → is_shut r.last.spot ≡ true → IsDefaultRead (front ++ a ∷ b ∷ [])
+unfolding without_not_null
 nulls_read front a b r shut = by_front (run (nested true true) (Some (nested true true).start) front) refl (sym (run-append (nested true true) (Some (nested true true).start) front (a ∷ b ∷ [])) ∙ r.runs)
   where
     by_words : (s y : Nest) → run (nested true true) (Some (nested true true).start) front ≡ Some s → Goes (λ z. nest_step true false s a ≡ Some z) (is_word (codes "not") a) (nest_done s) (is_shut s.spot) y ⊎ Ends true (is_word (codes "null") a) s.spot y
         → Goes (λ z. nest_step true false y b ≡ Some z) (is_word (codes "not") b) (nest_done y) (is_shut y.spot) r.last ⊎ Ends true (is_word (codes "null") b) y.spot r.last → IsDefaultRead (front ++ a ∷ b ∷ [])
-    by_words s y e f h = grind (arith, with_nulls, and_from, run_less)
+    by_words s y e f h = grind (arith, and_from, run_less, take_at, length-append, drop_at)
 
     by_step : (s : Nest) → run (nested true true) (Some (nested true true).start) front ≡ Some s → (y : Option Nest) → nest_step true true s a ≡ y → option_and_then (λ x. nest_step true true x b) y ≡ Some r.last → IsDefaultRead (front ++ a ∷ b ∷ [])
     by_step s e None is f = absurd cc
@@ -274,8 +220,7 @@ pub default_and_null_is_read : (x : List ℕ × Bool) (ts : List Lexeme) (r : Li
 unfolding default_and_null
 default_and_null_is_read x ts r came spells =
     let d = default_read ts spells.2.1 in
-    let front = came_front d.front d.behind r (subst (λ (us : List Lexeme). AllCame us r) d.parts came) in
-    let text = (run_read (nested true false) (nested_plain true false) d.front (spelled d.behind ++ r) front d.runs).text in
+    let text = (run_read (nested true false) (nested_plain true false) d.front (spelled d.behind ++ r) (came_front d.front d.behind r (subst (λ (us : List Lexeme). AllCame us r) d.parts came)) d.runs).text in
     subst IsDefaultText (sym (ap (λ (y : List ℕ × Bool). y.0) spells.1 ∙ ap (λ (us : List Lexeme). (without_not_null us).0) spells.2.0 ∙ d.text)) text
 
 -- a default, and whether NOT NULL stands behind it

@@ -1,7 +1,7 @@
 -- Tokens of a text are read as the same tokens in another text, where they are kept with what stands between them.
 use Rattle.ddl_forms.proofs.Common.{◌≡◌, ℕ, zero, suc, ◌+◌, ◌-◌, ◌<◌, ◌≤◌, Bool, true, false, cond, List, [], ◌∷◌, ◌++◌, length, length-append, append_assoc, take, drop, Option, Some, None, Result, Ok, Err, refl, sym, ap, subst, ◌∙◌, arith, inl, inr, slice_range, is_utf8, and_parts, or_parts, nat_tests, drop_at, drop_split, TokenKind, Word, QuotedName, Literal, Number, Sign, MetaLine, Token, LexFault, is_blank, is_digit, begins_word, in_word, marks_escapes, next_is, next_token_of, LiesBehind, spelling, Spells, AreDigits, IsGap, goes_on, goes_on_behind_dot, Between, gap, IsNext, next_found, piece_word, quoted_is, word_free, digit_free, lies_behind, spelling_is_read, gap_is_passed, Lexeme, spelled, is_sign_kind, lexeme_of, lexemes, Collected, collected, collected_within, collected_by, nothing_more, preceded, and_false, drop_twice, seam, between_low, semicolon}
 use Rattle.sql_lex.specs.{Bytes.is_sign as is_sign_byte, Answers.nothing}
-use Rattle.ddl_forms.proofs.Standing.{is_safe, is_safe_byte, Stands, Stood}
+use Rattle.ddl_forms.proofs.Standing.{is_safe, Stands, Stood}
 
 -- ---- tokens as they came
 
@@ -22,32 +22,28 @@ AllCame [] behind = Unit {0}
 AllCame (t ∷ ts) behind = Came t (spelled ts ++ behind) × AllCame ts behind
 
 left_of : (text : List ℕ) (at end : ℕ) (word rest : List ℕ) → drop at text ≡ word ++ rest → end ≡ at + length word → rest ≡ drop end text
-left_of text at end word rest e ends =
-    sym (drop_at word rest (length word) refl) ∙ ap (drop (length word)) (sym e) ∙ drop_twice (length word) at text ∙ ap (λ n. drop n text) (sym ends)
+left_of text at end word rest e ends = sym (drop_at word rest (length word) refl) ∙ ap (drop (length word)) (sym e) ∙ drop_twice (length word) at text ∙ ap (λ n. drop n text) (sym ends)
 
 between_gaps : (text : List ℕ) (at to : ℕ) → Between text at to → Gaps (slice_range text at to) (drop to text)
 between_gaps text _ _ (nothing at) = subst (λ n. Gaps (take n (drop at text)) (drop at text)) (let e : 0 ≡ at - at = omega arith in e) (no_gap (drop at text))
 between_gaps text _ _ (gap at end to s more) =
     let p = s.piece in
     let low = between_low text end to more in
-    let first : slice_range text at end ≡ p.word = piece_word text None at end p in
     let rest : p.rest ≡ slice_range text end to ++ drop to text = left_of text at end p.word p.rest p.bytes p.ends ∙ drop_split text end to low in
-    let whole : p.word ++ slice_range text end to ≡ slice_range text at to = ap (λ (x : List ℕ). x ++ slice_range text end to) (sym first) ∙ seam text at end to (omega (arith, p.ends)) low in
+    let whole : p.word ++ slice_range text end to ≡ slice_range text at to = ap (λ (x : List ℕ). x ++ slice_range text end to) (sym (piece_word text None at end p)) ∙ seam text at end to (omega (arith, p.ends)) low in
     subst (λ (x : List ℕ). Gaps x (drop to text)) whole (one_gap p.word (slice_range text end to) (drop to text) (subst (IsGap p.word) rest p.is) s.utf8 (between_gaps text end to more))
 
 pub came_token : (text : List ℕ) (at : ℕ) (t : Token) → at ≤ length text → next_token_of text at ≡ Ok (Some t) → Came (lexeme_of text (record { from = at; token = t })) (drop t.end text)
 unfolding spelling
 came_token text at t le e =
     let found : IsNext text at (Ok (Some t)) = subst (IsNext text at) e (next_found text at le) in
-    let s = found.2 in
-    let p = s.piece in
+    let p = found.2.piece in
     let word : p.word ≡ slice_range text t.start t.end = sym (piece_word text (Some t.kind) t.start t.end p) in
-    let rest : p.rest ≡ drop t.end text = left_of text t.start t.end p.word p.rest p.bytes p.ends in
     record {
       gap = subst (Gaps (slice_range text at t.start)) (drop_split text t.start t.end (omega (arith, p.ends))) (between_gaps text at t.start found.0);
       spells = subst (Spells t.kind) word p.is.spells;
-      utf8 = ap is_utf8 (sym word) ∙ s.utf8;
-      ends = ap (goes_on t.kind (slice_range text t.start t.end)) (sym rest) ∙ ap (λ (w : List ℕ). goes_on t.kind w p.rest) (sym word) ∙ p.is.ends;
+      utf8 = ap is_utf8 (sym word) ∙ found.2.utf8;
+      ends = ap (goes_on t.kind (slice_range text t.start t.end)) (sym (left_of text t.start t.end p.word p.rest p.bytes p.ends)) ∙ ap (λ (w : List ℕ). goes_on t.kind w p.rest) (sym word) ∙ p.is.ends;
     }
 
 -- what is collected from a place on came so, and is what stands there
@@ -81,13 +77,11 @@ collected_has text P none one (suc n) at le = by (next_token_of text at) refl (�
 one_comes : (text : List ℕ) (at : ℕ) (t : Token) (c : Collected) → at ≤ length text → next_token_of text at ≡ Ok (Some t) → LiesBehind text at (Ok (Some t)) → HasCome text t.end c → HasCome text at (preceded (record { from = at; token = t }) c)
 unfolding spelling
 one_comes text at t c le e lies later =
-    let ts = lexemes text c.pieces in
-    let r = drop c.end text in
     record {
       came = (subst (Came (lexeme_of text (record { from = at; token = t }))) later.whole (came_token text at t le e), later.came);
       whole = one_whole text at t lies.0 lies.1 ∙ ap (λ (x : List ℕ). slice_range text at t.start ++ (slice_range text t.start t.end ++ x)) later.whole
-          ∙ ap (λ (x : List ℕ). slice_range text at t.start ++ x) (sym (append_assoc (slice_range text t.start t.end) (spelled ts) r))
-          ∙ sym (append_assoc (slice_range text at t.start) (slice_range text t.start t.end ++ spelled ts) r);
+          ∙ ap (λ (x : List ℕ). slice_range text at t.start ++ x) (sym (append_assoc (slice_range text t.start t.end) (spelled (lexemes text c.pieces)) (drop c.end text)))
+          ∙ sym (append_assoc (slice_range text at t.start) (slice_range text t.start t.end ++ spelled (lexemes text c.pieces)) (drop c.end text));
     }
 
 come_within : (n : ℕ) (text : List ℕ) (at : ℕ) → at ≤ length text → HasCome text at (collected_within n text at)
@@ -126,24 +120,16 @@ Begun (b ∷ rest) = is_blank b ≡ false
 pub begun_some : (word : List ℕ) → Begun word → 0 < length word
 begun_some word h = grind arith
 
-mark_solid : (b : ℕ) → marks_escapes b ≡ true → is_blank b ≡ false
-unfolding marks_escapes is_blank
-mark_solid b e = grind (arith, nat_tests)
-
-sign_byte_solid : (b : ℕ) → is_sign_byte b ≡ true → is_blank b ≡ false
-unfolding is_sign_byte is_blank
-sign_byte_solid b e = grind (arith, nat_tests)
-
 solid : (b : ℕ) (word rest : List ℕ) → word ≡ b ∷ rest → is_blank b ≡ false → Begun word
 solid b word rest e f = subst Begun (sym e) f
 
 pub token_begun : (kind : TokenKind) (word : List ℕ) → (kind ≡ MetaLine → ⊥) → Spells kind word → Begun word
-unfolding is_blank
+unfolding is_blank marks_escapes is_sign_byte
 token_begun Word [] line h = absurd h
 token_begun Word (b ∷ word) line h = solid b (b ∷ word) word refl (word_free b h.0)
 token_begun QuotedName word line h = solid 34 word _ (h.1 ∙ quoted_is 34 h.0) refl
 token_begun Literal word line (inl h) = solid 39 word _ (h.1 ∙ quoted_is 39 h.0) refl
-token_begun Literal word line (inr h) = solid h.0 word _ h.4 (mark_solid h.0 h.2)
+token_begun Literal word line (inr h) = solid h.0 word _ h.4 (grind (arith, nat_tests))
 token_begun Number [] line (inl h) = absurd (let e = h.0 in omega arith)
 token_begun Number (b ∷ word) line (inl h) = solid b (b ∷ word) word refl (digit_free b (and_parts _ _ h.1).0).0
 token_begun Number word line (inr h) = by h.0 h.2 h.4
@@ -151,43 +137,28 @@ token_begun Number word line (inr h) = by h.0 h.2 h.4
     by : (whole : List ℕ) → AreDigits whole → word ≡ whole ++ 46 ∷ h.1 → Begun word
     by [] d e = absurd (let k = d.0 in omega arith)
     by (b ∷ whole) d e = solid b word (whole ++ 46 ∷ h.1) e (digit_free b (and_parts _ _ d.1).0).0
-token_begun (Sign b) word line h = solid b word [] h.1 (sign_byte_solid b h.0)
+token_begun (Sign b) word line h = solid b word [] h.1 (grind (arith, nat_tests))
 token_begun MetaLine word line h = absurd (line refl)
 
 -- ---- where they are kept
 
-safe_digit : (b : ℕ) → is_safe_byte b ≡ true → is_digit b ≡ false
-unfolding is_digit
-safe_digit b e = grind (arith, nat_tests)
-
 -- nothing that is safe goes on with a token
 pub safe_ends : (kind : TokenKind) (word after : List ℕ) → (kind ≡ MetaLine → ⊥) → is_safe after ≡ true → goes_on kind word after ≡ false
 unfolding begins_word goes_on goes_on_behind_dot in_word is_digit next_is
-safe_ends kind word after e f = grind (arith, nat_tests, and_false, safe_digit)
-
--- one byte of what goes on stays
-one_stays : (kind : TokenKind) (word : List ℕ) (x : ℕ) (r after : List ℕ) → goes_on kind word (x ∷ r) ≡ false → is_safe after ≡ true → goes_on kind word (x ∷ after) ≡ false
-unfolding goes_on goes_on_behind_dot next_is
-one_stays kind word x r after e f = grind (arith, or_parts, and_false, safe_digit)
-
-two_stay : (kind : TokenKind) (word : List ℕ) (x y : ℕ) (r after : List ℕ) → goes_on kind word (x ∷ y ∷ r) ≡ false → goes_on kind word (x ∷ y ∷ after) ≡ false
-unfolding goes_on next_is goes_on_behind_dot
-two_stay kind word x y r after e = grind arith
+safe_ends kind word after e f = grind (arith, nat_tests, and_false)
 
 pub still_ends : (kind : TokenKind) (word m r after : List ℕ) → (kind ≡ MetaLine → ⊥) → goes_on kind word (m ++ r) ≡ false → is_safe after ≡ true → goes_on kind word (m ++ after) ≡ false
+unfolding goes_on next_is goes_on_behind_dot is_digit
 still_ends kind word [] r after line e safe = safe_ends kind word after line safe
-still_ends kind word (x ∷ []) r after line e safe = one_stays kind word x r after e safe
-still_ends kind word (x ∷ y ∷ m) r after line e safe = two_stay kind word x y (m ++ r) (m ++ after) e
-
-gap_stays : (g : List ℕ) (x : ℕ) (r other : List ℕ) → IsGap g (x ∷ r) → IsGap g (x ∷ other)
-unfolding next_is
-gap_stays g x r other h = grind arith
+still_ends kind word (x ∷ []) r after line e safe = grind (arith, or_parts, and_false, nat_tests)
+still_ends kind word (x ∷ y ∷ m) r after line e safe = grind arith
 
 -- a gap before a word of a byte at least, whatever comes behind the word
 gap_again : (g more word r other : List ℕ) → 0 < length word → IsGap g (more ++ (word ++ r)) → IsGap g (more ++ (word ++ other))
+unfolding next_is
 gap_again g [] [] r other some h = absurd (omega arith)
-gap_again g [] (x ∷ word) r other some h = gap_stays g x (word ++ r) (word ++ other) h
-gap_again g (x ∷ more) word r other some h = gap_stays g x (more ++ (word ++ r)) (more ++ (word ++ other)) h
+gap_again g [] (x ∷ word) r other some h = grind arith
+gap_again g (x ∷ more) word r other some h = grind arith
 
 gaps_pass : (gap word r other : List ℕ) → 0 < length word → (behind : List ℕ) → behind ≡ word ++ r → Gaps gap behind → (front : List ℕ) → next_token_of (front ++ (gap ++ (word ++ other))) (length front) ≡ next_token_of (front ++ (gap ++ (word ++ other))) (length front + length gap)
 gaps_pass _ word r other some behind e (no_gap _) front = ap (next_token_of (front ++ (word ++ other))) (let p : length front ≡ length front + 0 = omega arith in p)

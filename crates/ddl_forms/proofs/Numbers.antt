@@ -7,13 +7,10 @@ use Rattle.ddl_numbers.specs.Numbers.{count, count_first, count_value, counted, 
 
 -- ---- digits
 
-digit_is : (c : ℕ) → digit_value c < 10 → is_digit c ≡ true
-unfolding is_digit
-digit_is c small = let h = digit_from_value c small in grind (arith, nat_tests, h)
-
 all_digits : (ds : List ℕ) → AllDigits 10 ds → list_all is_digit ds ≡ true
+unfolding is_digit
 all_digits [] all = refl
-all_digits (c ∷ ds) all = and_from (is_digit c) (list_all is_digit ds) (digit_is c all.0) (all_digits ds all.1)
+all_digits (c ∷ ds) all = and_from (is_digit c) (list_all is_digit ds) (let h = digit_from_value c all.0 in grind (arith, nat_tests, h)) (all_digits ds all.1)
 
 -- a first digit is no white space and no minus sign
 record DigitFirst (ds : List ℕ) : Type 0 where
@@ -26,31 +23,23 @@ digit_first : (ds : List ℕ) → 0 < length ds → AllDigits 10 ds → DigitFir
 digit_first [] some all = absurd (omega arith)
 digit_first (c ∷ ds) some all = record { first = c; rest = ds; bytes = refl; digit = all.0 }
 
-digit_solid : (c : ℕ) → digit_value c < 10 → is_blank c ≡ false
-unfolding is_blank
-digit_solid c small = let h = digit_from_value c small in grind (arith, nat_tests, h)
-
 digit_no_minus : (c : ℕ) → digit_value c < 10 → (c == 45) ≡ false
 digit_no_minus c small = let h = digit_from_value c small in grind (arith, nat_tests, h)
 
-abbrev count_token : List ℕ → ℕ → Lexeme
-count_token g n = record { gap = g; kind = Number; word = decimal n; start = 0 }
-
 count_put : (n limit : ℕ) (g : List ℕ) (others : List Lexeme) → n < 2 ^ 64 → n < limit → Gap g → Follows others → admits Safe (spelled others) ≡ true → IsPut (count limit) n (g ++ decimal n) others
-unfolding count_value digits_below is_sign
+unfolding count_value digits_below is_sign is_blank
 count_put n limit g others wide small gap follows e =
     let numeral = decimal_is_IsNumeral n wide in
     let digits = all_digits (decimal n) numeral.0.1 in
     let f = digit_first (decimal n) numeral.0.0 numeral.0.1 in
-    let begun : Begun (decimal n) = subst Begun (sym f.bytes) (digit_solid f.first f.digit) in
     let utf8 = is_utf8-from_IsUtf8 (decimal n) (IsUtf8-from_ascii (decimal n) (IsAscii-decimal n wide)) in
     let safe = safe_behind others e in
-    let stands : Stands (count_token g n) (spelled others) = record {
-      gap = gap_stands g (decimal n) (spelled others) gap begun;
+    let stands : Stands (record { gap = g; kind = Number; word = decimal n; start = 0 }) (spelled others) = record {
+      gap = gap_stands g (decimal n) (spelled others) gap (subst Begun (sym f.bytes) (let h = digit_from_value f.first f.digit in grind (arith, nat_tests, h)));
       token = λ front after h. spelling_is_read front (decimal n) (spelled others ++ after) Number (inl (numeral.0.0, digits)) (safe_ends Number (decimal n) (spelled others ++ after) (λ f. absurd cc) (safe after h)) utf8 (λ f. absurd cc);
       some = numeral.0.0;
     } in
-    one_put (count limit) n (count_token g n) others stands (inl refl) (λ at. (_, refl, rw (digits, numeral.1, lt-ltb n limit small) refl)) follows
+    one_put (count limit) n (record { gap = g; kind = Number; word = decimal n; start = 0 }) others stands (inl refl) (λ at. (_, refl, rw (digits, numeral.1, lt-ltb n limit small) refl)) follows
 
 -- a minus sign before a digit
 minus_put : (g : List ℕ) (others : List Lexeme) (f : DigitFirst (spelled others)) → Gap g → Follows others → IsPut (mark (is_sign 45)) tt (g ++ 45 ∷ []) others
@@ -76,10 +65,9 @@ number_put {g} gap (pos n) others is follows e =
     put_as (count (2 ^ 63)) whole_number n (pos n) (g ++ decimal n) others (count_put n (2 ^ 63) g others (omega arith) small gap follows e) (λ ts h. inr (n, refl, h))
 number_put {g} gap (negsuc n) others is follows e =
     let small : n < 2 ^ 63 = ltb-true n (2 ^ 63) is in
-    let wide : suc n < 2 ^ 64 = omega arith in
     let ds = decimal (suc n) in
-    let k = same_text ds (ds ++ []) (sym (append-nil ds)) (count_put (suc n) (2 ^ 63 + 1) [] others wide (omega arith) none follows e) in
-    let numeral = decimal_is_IsNumeral (suc n) wide in
+    let k = same_text ds (ds ++ []) (sym (append-nil ds)) (count_put (suc n) (2 ^ 63 + 1) [] others (omega arith) (omega arith) none follows e) in
+    let numeral = decimal_is_IsNumeral (suc n) (omega arith) in
     let f = behind_digits (ds ++ []) (spelled others) (behind_digits ds [] (digit_first ds numeral.0.0 numeral.0.1)) in
     let bytes : (ds ++ []) ++ spelled others ≡ spelled (k.tokens ++ others) = ap (λ (x : List ℕ). x ++ spelled others) (sym k.bytes) ∙ sym (spelled-append k.tokens others) in
     let minus = same_text (g ++ 45 ∷ []) ((g ++ 45 ∷ []) ++ []) (sym (append-nil (g ++ 45 ∷ []))) (minus_put g (k.tokens ++ others) (subst DigitFirst bytes f) gap (followed k)) in
@@ -111,9 +99,7 @@ unfolding whole_number count_value
 number_made z ts r came spells = by spells
   where
     by : (seen opposite (is_sign 45 ▸ count (2 ^ 63 + 1))).Spells z ts ⊎ (seen pos (count (2 ^ 63))).Spells z ts → IsInt z
-    by (inl h) =
-        let d = h.2.2.4 in
-        subst IsInt (sym (h.1 ∙ ap opposite h.2.1)) (opposite_is h.2.0.1 (counted_below (2 ^ 63 + 1) h.2.0.1 (count_first (2 ^ 63 + 1) (d.0 ∷ [])) (count_below (2 ^ 63 + 1) (d.0 ∷ [])) d.2))
+    by (inl h) = let d = h.2.2.4 in subst IsInt (sym (h.1 ∙ ap opposite h.2.1)) (opposite_is h.2.0.1 (counted_below (2 ^ 63 + 1) h.2.0.1 (count_first (2 ^ 63 + 1) (d.0 ∷ [])) (count_below (2 ^ 63 + 1) (d.0 ∷ [])) d.2))
     by (inr h) = subst IsInt (sym h.1) (positive_is h.0 (counted_below (2 ^ 63) h.0 (count_first (2 ^ 63) (h.2.0 ∷ [])) (count_below (2 ^ 63) (h.2.0 ∷ [])) h.2.2))
 
 abbrev pub number_as : {g : List ℕ} → Gap g → Written whole_number

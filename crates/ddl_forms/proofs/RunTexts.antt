@@ -74,13 +74,11 @@ pub spelled_placed : (at : ℕ) (ts : List Lexeme) → spelled (placed at ts) �
 spelled_placed at [] = refl
 spelled_placed at (t ∷ ts) = ap (λ (x : List ℕ). t.gap ++ (t.word ++ x)) (spelled_placed (at + length t.gap + length t.word) ts)
 
-step_placed : (m : Machine) → IsPlainMachine m → (s : Option m.State) (gap : List ℕ) (start : ℕ) (t : Lexeme)
-    → option_and_then (λ x. m.step x (record { gap = gap; kind = t.kind; word = t.word; start = start })) s ≡ option_and_then (λ x. m.step x t) s
-step_placed m h s gap start t = grind arith
-
 pub run_placed : (m : Machine) → IsPlainMachine m → (s : Option m.State) (at : ℕ) (ts : List Lexeme) → run m s (placed at ts) ≡ run m s ts
 run_placed m h s at [] = refl
 run_placed m h s at (t ∷ ts) =
+    let step_placed : (m : Machine) → IsPlainMachine m → (s : Option m.State) (gap : List ℕ) (start : ℕ) (t : Lexeme) → option_and_then (λ x. m.step x (record { gap = gap; kind = t.kind; word = t.word; start = start })) s ≡ option_and_then (λ x. m.step x t) s =
+    λ m h s gap start t. grind arith in
     ap (λ o. run m o (placed (at + length t.gap + length t.word) ts)) (step_placed m h s t.gap (at + length t.gap) t)
     ∙ run_placed m h (option_and_then (λ x. m.step x t) s) (at + length t.gap + length t.word) ts
 
@@ -129,51 +127,38 @@ pub record IsRunKept (m : Machine) (g v : List ℕ) (others : List Lexeme) : Typ
   pub whole : (at : ℕ) → source (placed at tokens) ≡ v
   pub same : (at : ℕ) → kinds (placed at tokens) ≡ kinds (lexemes v (collected v 0).pieces)
 
-kept_by : (m : Machine) → IsPlainMachine m → (g v : List ℕ) (t : Lexeme) (ts others : List Lexeme) (r : List ℕ) → Gap g → v ≡ t.word ++ spelled ts → Runs m (t ∷ ts) → AllCame (t ∷ ts) r
-    → kinds (t ∷ ts) ≡ kinds (lexemes v (collected v 0).pieces) → Stood others → IsSafe others → IsRunKept m g v others
-unfolding is_sign
-kept_by m h g v t ts others r gap is runs came same stood safe =
-    let all = are_plain m h m.start runs.last (t ∷ ts) runs.runs in
-    let first = token_begun t.kind t.word all.0.line came.0.spells in
-    let behind = all_stand_again ts others r all.1 came.1 stood safe in
-    let here = subst (Stands t) (sym (spelled-append ts others)) (stands_again t (spelled ts) r (spelled others) all.0.line (begun_some t.word first) came.0 safe) in
-    record {
-      tokens = gapped g t ∷ ts;
-      bytes = ap (λ (x : List ℕ). g ++ x) (sym is);
-      stood = (record { gap = gap_stands g t.word (spelled (ts ++ others)) gap first; token = here.token; some = here.some }, behind);
-      plain = (record { ends = all.0.ends; line = all.0.line }, all.1);
-      runs = λ at. record { last = runs.last; runs = run_gapped m h g at t ts ∙ runs.runs; done = runs.done };
-      whole = λ at. source_gapped g at t ts ∙ sym is;
-      same = λ at. kinds_placed at (gapped g t ∷ ts) ∙ same;
-    }
-
 first_gap : (m : Machine) → IsPlainMachine m → (g v : List ℕ) (ps : List Piece) (others : List Lexeme) → Gap g → start_of (lexemes v ps) ≡ Some 0 → Runs m (lexemes v ps) → AllCame (lexemes v ps) [] → v ≡ spelled (lexemes v ps)
     → kinds (lexemes v ps) ≡ kinds (lexemes v (collected v 0).pieces) → Stood others → IsSafe others → IsRunKept m g v others
+unfolding is_sign
 first_gap m h g v [] others gap first runs came whole same stood safe = absurd cc
 first_gap m h g v (p ∷ ps) others gap first runs came whole same stood safe =
     let start : p.token.start ≡ 0 = cc in
     let none : (lexeme_of v p).gap ≡ [] = ap (λ n. take n (drop p.from v)) (let e : p.token.start - p.from ≡ 0 = omega arith in e) in
-    kept_by m h g v (lexeme_of v p) (lexemes v ps) others [] gap (whole ∙ ap (λ (x : List ℕ). x ++ ((lexeme_of v p).word ++ spelled (lexemes v ps))) none) runs came same stood safe
+    let all = are_plain m h m.start runs.last ((lexeme_of v p) ∷ (lexemes v ps)) runs.runs in
+    let first = token_begun (lexeme_of v p).kind (lexeme_of v p).word all.0.line came.0.spells in
+    let here = subst (Stands (lexeme_of v p)) (sym (spelled-append (lexemes v ps) others)) (stands_again (lexeme_of v p) (spelled (lexemes v ps)) [] (spelled others) all.0.line (begun_some (lexeme_of v p).word first) came.0 safe) in
+    record {
+      tokens = gapped g (lexeme_of v p) ∷ (lexemes v ps);
+      bytes = ap (λ (x' : List ℕ). g ++ x') (sym (whole ∙ ap (λ (x : List ℕ). x ++ ((lexeme_of v p).word ++ spelled (lexemes v ps))) none));
+      stood = (record { gap = gap_stands g (lexeme_of v p).word (spelled ((lexemes v ps) ++ others)) gap first; token = here.token; some = here.some }, (all_stand_again (lexemes v ps) others [] all.1 came.1 stood safe));
+      plain = (record { ends = all.0.ends; line = all.0.line }, all.1);
+      runs = λ at. record { last = runs.last; runs = run_gapped m h g at (lexeme_of v p) (lexemes v ps) ∙ runs.runs; done = runs.done };
+      whole = λ at. source_gapped g at (lexeme_of v p) (lexemes v ps) ∙ sym (whole ∙ ap (λ (x : List ℕ). x ++ ((lexeme_of v p).word ++ spelled (lexemes v ps))) none);
+      same = λ at. kinds_placed at (gapped g (lexeme_of v p) ∷ (lexemes v ps)) ∙ same;
+    }
 
 pub run_kept : (m : Machine) → IsPlainMachine m → (g v : List ℕ) (others : List Lexeme) → Gap g → IsRunText m v → Stood others → is_safe (spelled others) ≡ true → IsRunKept m g v others
 run_kept m plain g v others gap h stood safe =
     let c = collected v 0 in
     let none : drop c.end v ≡ [] = ap (λ n. drop n v) h.last ∙ drop-length v in
-    let low : 0 ≤ length v = omega arith in
-    let whole : v ≡ spelled (lexemes v c.pieces) = whole_text v 0 low ∙ ap (λ (x : List ℕ). spelled (lexemes v c.pieces) ++ x) none ∙ append-nil (spelled (lexemes v c.pieces)) in
-    first_gap m plain g v c.pieces others gap h.first h.runs (subst (AllCame (lexemes v c.pieces)) none (have_come v 0 low)) whole refl stood (safe_behind others safe)
+    let whole : v ≡ spelled (lexemes v c.pieces) = whole_text v 0 (omega arith) ∙ ap (λ (x : List ℕ). spelled (lexemes v c.pieces) ++ x) none ∙ append-nil (spelled (lexemes v c.pieces)) in
+    first_gap m plain g v c.pieces others gap h.first h.runs (subst (AllCame (lexemes v c.pieces)) none (have_come v 0 (omega arith))) whole refl stood (safe_behind others safe)
 
 -- ---- a run that was read
 
 no_semicolons : (ts : List Lexeme) → AllPlain ts → NoSemicolon ts
 no_semicolons [] h = tt
 no_semicolons (t ∷ ts) h = (h.0.ends, no_semicolons ts h.1)
-
-nothing_follows : (after : List ℕ) → is_safe after ≡ true → is_safe ([] ++ after) ≡ true
-nothing_follows after e = e
-
-kept_alone : (ts : List Lexeme) (r : List ℕ) → AllPlain ts → AllCame ts r → Stood ts
-kept_alone ts r plain came = subst Stood (append-nil ts) (all_stand_again ts [] r plain came tt nothing_follows)
 
 -- what tokens of a text say, as a text of its own: a run's text, with tokens of the same kinds
 pub record IsRunRead (m : Machine) (ts : List Lexeme) : Type 0 where
@@ -188,12 +173,11 @@ run_read m h [] r came runs = let same : m.start ≡ runs.last = cc runs.runs in
 run_read m h (t ∷ ts) r came runs =
     let all = are_plain m h m.start runs.last (t ∷ ts) runs.runs in
     let first = token_begun t.kind t.word all.0.line came.0.spells in
-    let others = kept_alone ts r all.1 came.1 in
-    let here : Stands t (spelled ts) = subst (Stands t) (append-nil (spelled ts)) (stands_again t (spelled ts) r [] all.0.line (begun_some t.word first) came.0 nothing_follows) in
+    let others = subst Stood (append-nil ts) (all_stand_again ts [] r all.1 came.1 tt (λ after e. e)) in
+    let here : Stands t (spelled ts) = subst (Stands t) (append-nil (spelled ts)) (stands_again t (spelled ts) r [] all.0.line (begun_some t.word first) came.0 (λ after e. e)) in
     let us = gapped [] t ∷ ts in
-    let stood : Stood us = (record { gap = gap_stands [] t.word (spelled ts) none_before first; token = here.token; some = here.some }, others) in
     let v = source (t ∷ ts) in
-    let c = collects_all v us refl stood (all.0.ends, no_semicolons ts all.1) in
+    let c = collects_all v us refl (record { gap = gap_stands [] t.word (spelled ts) none_before first; token = here.token; some = here.some }, others) (all.0.ends, no_semicolons ts all.1) in
     record {
       text = record {
         first = ap start_of c.tokens;

@@ -40,28 +40,22 @@ record Next (text : List ℕ) (at : ℕ) (t : Lexeme) : Type 0 where
   found : next_token_of text at ≡ Ok (Some (record { kind = t.kind; start = at + length t.gap; end = at + length t.gap + length t.word }))
   same : lexeme_of text (record { from = at; token = record { kind = t.kind; start = at + length t.gap; end = at + length t.gap + length t.word } }) ≡ record { gap = t.gap; kind = t.kind; word = t.word; start = at + length t.gap }
 
-slice_at : (front word rest : List ℕ) → slice_range (front ++ (word ++ rest)) (length front) (length front + length word) ≡ word
-slice_at front word rest = grind (arith, drop_at, take_at)
-
 abbrev lexeme : List ℕ → TokenKind → List ℕ → ℕ → Lexeme
 lexeme gap kind word start = record { gap = gap; kind = kind; word = word; start = start }
 
 next_stands : (text front : List ℕ) (t : Lexeme) (behind after : List ℕ) → text ≡ front ++ (t.gap ++ (t.word ++ (behind ++ after))) → Stands t behind → is_safe after ≡ true → Next text (length front) t
 unfolding spelling
 next_stands text front t behind after e s safe =
-    let rest = behind ++ after in
     let gap_text : text ≡ front ++ (t.gap ++ ((t.word ++ behind) ++ after)) = e ∙ ap (λ (x : List ℕ). front ++ (t.gap ++ x)) (sym (append_assoc t.word behind after)) in
-    let word_text : text ≡ (front ++ t.gap) ++ (t.word ++ rest) = e ∙ sym (append_assoc front t.gap (t.word ++ rest)) in
+    let word_text : text ≡ (front ++ t.gap) ++ (t.word ++ (behind ++ after)) = e ∙ sym (append_assoc front t.gap (t.word ++ (behind ++ after))) in
     let place = length-append front t.gap in
-    let token = s.token (front ++ t.gap) after safe in
     let passed : next_token_of text (length front) ≡ next_token_of text (length front + length t.gap) =
     subst (λ x. next_token_of x (length front) ≡ next_token_of x (length front + length t.gap)) (sym gap_text) (s.gap front after safe) in
     let here : next_token_of text (length (front ++ t.gap)) ≡ Ok (Some (token_at t.kind (length (front ++ t.gap)) t.word)) =
-    subst (λ x. next_token_of x (length (front ++ t.gap)) ≡ Ok (Some (token_at t.kind (length (front ++ t.gap)) t.word))) (sym word_text) token.found in
+    subst (λ x. next_token_of x (length (front ++ t.gap)) ≡ Ok (Some (token_at t.kind (length (front ++ t.gap)) t.word))) (sym word_text) (s.token (front ++ t.gap) after safe).found in
     let word_is : slice_range text (length (front ++ t.gap)) (length (front ++ t.gap) + length t.word) ≡ t.word =
-    ap (λ (x : List ℕ). slice_range x (length (front ++ t.gap)) (length (front ++ t.gap) + length t.word)) word_text ∙ slice_at (front ++ t.gap) t.word rest in
-    let gap_is : slice_range text (length front) (length front + length t.gap) ≡ t.gap =
-    ap (λ (x : List ℕ). slice_range x (length front) (length front + length t.gap)) e ∙ slice_at front t.gap (t.word ++ rest) in
+    ap (λ (x : List ℕ). slice_range x (length (front ++ t.gap)) (length (front ++ t.gap) + length t.word)) word_text ∙ (grind (arith, drop_at, take_at)) in
+    let gap_is : slice_range text (length front) (length front + length t.gap) ≡ t.gap = ap (λ (x : List ℕ). slice_range x (length front) (length front + length t.gap)) e ∙ (grind (arith, drop_at, take_at)) in
     let word_is' : slice_range text (length front + length t.gap) (length front + length t.gap + length t.word) ≡ t.word = subst (λ n. slice_range text n (n + length t.word) ≡ t.word) place word_is in
     record {
       found = passed ∙ subst (λ n. next_token_of text n ≡ Ok (Some (token_at t.kind n t.word))) place here;
@@ -108,8 +102,7 @@ one_more : (n : ℕ) (text front : List ℕ) (t : Lexeme) (ts : List Lexeme) →
     → IsCollected text (length front) (t ∷ ts) (collected_within (suc n) text (length front))
 unfolding is_sign
 one_more n text front t ts next none later =
-    let place : length (past front t) ≡ length front + length t.gap + length t.word = omega (arith, length-append front (t.gap ++ t.word), length-append t.gap t.word) in
-    let behind = subst (λ k. IsCollected text k ts (collected_within n text k)) place later in
+    let behind = subst (λ k. IsCollected text k ts (collected_within n text k)) (omega (arith, length-append front (t.gap ++ t.word), length-append t.gap t.word)) later in
     subst (λ c. IsCollected text (length front) (t ∷ ts) c) (sym (begun n text (length front) t next false none)) (record {
       tokens = ap (λ (l : Lexeme). l ∷ lexemes text (collected_within n text (length front + length t.gap + length t.word)).pieces) next.same ∙ ap (λ (ls : List Lexeme). lexeme t.gap t.kind t.word (length front + length t.gap) ∷ ls) behind.tokens;
       end = let z = sizes t ts in behind.end ∙ (let k : length front + length t.gap + length t.word + length (spelled ts) ≡ length front + length (spelled (t ∷ ts)) = omega arith in k);

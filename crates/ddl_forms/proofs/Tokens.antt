@@ -1,7 +1,7 @@
 -- The tokens of which written statements are made, and that each stands wherever it is put.
-use Rattle.ddl_forms.proofs.Common.{◌≡◌, ◌≢◌, ℕ, ◌+◌, Bool, true, false, not, cond, ◌&&◌, List, [], ◌∷◌, ◌++◌, length, Option, Some, None, Result, Ok, Err, ◌||◌, ◌⊎◌, refl, sym, ap, subst, ◌∙◌, arith, inl, inr, ◌==◌, nat_lt, All, list_any, AllByRecursion as ByRecursion, is_utf8, IsUtf8, chars, str_to_ascii_lowercase, str_eq_ignore_ascii_case, bytes_eq-Decides, encode, cases_Bool, and_parts, or_parts, not-true, ne_eqb, nat_tests, recursion_from_All, All-from_recursion, is_utf8-from_IsUtf8, IsUtf8-from_is_utf8, TokenKind, Word, QuotedName, Literal, Sign, is_blank, is_digit, begins_word, in_word, next_is, IsWord, goes_on, name_of, literal_of, is_keyword_of, is_reserved, begins_bare, is_bare, quoted, written_name, written_literal, IsTokenAt, written_kind, word_free, spelling_is_read, name_is_read, literal_is_read, IsName, Lexeme, is_word, is_sign_kind, name_in, name_value, text_in, literal_value, and_false}
+use Rattle.ddl_forms.proofs.Common.{name_in_is, ◌≡◌, ◌≢◌, ℕ, ◌+◌, Bool, true, false, not, cond, ◌&&◌, List, [], ◌∷◌, ◌++◌, length, Some, Ok, Err, ◌||◌, refl, sym, ap, ◌∙◌, arith, inl, inr, ◌==◌, nat_lt, list_any, AllByRecursion as ByRecursion, is_utf8, IsUtf8, chars, str_to_ascii_lowercase, str_eq_ignore_ascii_case, bytes_eq-Decides, encode, cases_Bool, and_parts, or_parts, not-true, ne_eqb, nat_tests, recursion_from_All, is_utf8-from_IsUtf8, IsUtf8-from_is_utf8, TokenKind, Word, QuotedName, Literal, Sign, is_blank, is_digit, begins_word, in_word, next_is, IsWord, goes_on, name_of, literal_of, is_keyword_of, is_reserved, begins_bare, is_bare, quoted, written_name, written_literal, IsTokenAt, written_kind, word_free, spelling_is_read, name_is_read, literal_is_read, IsName, Lexeme, is_word, is_sign_kind, name_in, name_value, text_in, literal_value, and_false}
 use Rattle.sql_lex.specs.Bytes.{is_sign}
-use Rattle.ddl_forms.proofs.{Standing.is_safe, Standing.GapStands, Standing.Stands, Behind.Words, Behind.parts_words, Behind.admits, Kept.Begun, Kept.begun_some, Kept.safe_ends, Passed.Passed, Passed.nothing_passed, Passed.blanks_passed}
+use Rattle.ddl_forms.proofs.{Standing.GapStands, Standing.Stands, Behind.Words, Behind.admits, Kept.Begun, Kept.begun_some, Kept.safe_ends, Passed.Passed, Passed.blanks_passed}
 
 -- ---- the tokens
 
@@ -14,32 +14,13 @@ sign_token gap b = record { gap = gap; kind = Sign b; word = b ∷ []; start = 0
 abbrev pub name_token : List ℕ → List ℕ → Lexeme
 name_token gap n = record { gap = gap; kind = written_kind n; word = written_name n; start = 0 }
 
-abbrev pub literal_token : List ℕ → List ℕ → Lexeme
-literal_token gap t = record { gap = gap; kind = Literal; word = written_literal t; start = 0 }
-
 -- ---- tokens
-
--- what parts words goes on with no word and is no quote
-parted : (b : ℕ) → parts_words b ≡ true → (in_word b ≡ false) × ((b == 34) ≡ false) × ((b == 39) ≡ false)
-unfolding in_word begins_word is_digit
-parted b e = (grind (arith, nat_tests), grind (arith, nat_tests), grind (arith, nat_tests))
 
 abbrev is_spoken : TokenKind → Bool
 is_spoken Word = true
 is_spoken QuotedName = true
 is_spoken Literal = true
 is_spoken _ = false
-
--- nothing that parts words goes on with a word, a name or a literal
-spoken_ends : (kind : TokenKind) (word rest after : List ℕ) → is_spoken kind ≡ true → admits Words rest ≡ true → is_safe after ≡ true → goes_on kind word (rest ++ after) ≡ false
-unfolding goes_on next_is
-spoken_ends kind word rest after is e safe = grind (arith, nat_tests, safe_ends, parted, and_false)
-
--- ---- what names and literals begin with
-
-pub name_begun : (n : List ℕ) → Begun (written_name n)
-unfolding begins_bare is_bare is_blank quoted written_name
-name_begun n = grind arith
 
 -- ---- each token behind no gap or white space
 
@@ -60,7 +41,7 @@ pub data Gap : List ℕ → Type 0 where
 -- it is passed over
 pub passes : (g : List ℕ) → Gap g → Passed g
 unfolding is_blank
-passes g gap = grind (arith, nothing_passed, blanks_passed)
+passes g gap = grind (arith, blanks_passed)
 
 pub gap_stands : (g word rest : List ℕ) → Gap g → Begun word → GapStands g (word ++ rest)
 gap_stands g word rest gap begun front after safe = passes g gap front ((word ++ rest) ++ after)
@@ -71,19 +52,19 @@ word_begun w h = grind (arith, word_free)
 -- what is read of a word before what doesn't go on with it stands before what parts words
 spoken_stands : {g : List ℕ} (kind : TokenKind) (word rest : List ℕ) → is_spoken kind ≡ true → Gap g → Begun word → admits Words rest ≡ true → ((front after : List ℕ) → goes_on kind word after ≡ false → IsTokenAt (front ++ (word ++ after)) (length front) kind word)
     → Stands (record { gap = g; kind = kind; word = word; start = 0 }) rest
-spoken_stands kind word rest is gap begun e reads = grind (arith, gap_stands, spoken_ends, begun_some)
+unfolding goes_on next_is in_word begins_word is_digit
+spoken_stands kind word rest is gap begun e reads = grind (arith, gap_stands, begun_some, nat_tests, safe_ends, and_false)
 
 pub a_word : {g : List ℕ} (w rest : List ℕ) → Gap g → IsWord w → is_utf8 w ≡ true → admits Words rest ≡ true → Stands (word_token g w) rest
 a_word w rest gap word utf8 e = spoken_stands Word w rest refl gap (word_begun w word) e (λ front after ends. spelling_is_read front w after Word word ends utf8 (λ f. absurd cc))
 
-kind_spoken : (n : List ℕ) → is_spoken (written_kind n) ≡ true
-unfolding written_kind
-kind_spoken n = elim (cases_Bool (is_bare n && not (is_reserved n))) [ inl is ↦ rw is refl | inr isnt ↦ rw isnt refl ]
-
 pub a_name : {g : List ℕ} (n rest : List ℕ) → Gap g → IsUtf8 n → admits Words rest ≡ true → Stands (name_token g n) rest
-a_name n rest gap utf8 e = spoken_stands (written_kind n) (written_name n) rest (kind_spoken n) gap (name_begun n) e (λ front after ends. (name_is_read front n after utf8 ends).0)
+unfolding begins_bare is_bare is_blank quoted written_name written_kind
+a_name n rest gap utf8 e =
+    let kind_spoken : (n : List ℕ) → is_spoken (written_kind n) ≡ true = λ n. elim (cases_Bool (is_bare n && not (is_reserved n))) [ inl is ↦ rw is refl | inr isnt ↦ rw isnt refl ] in
+    spoken_stands (written_kind n) (written_name n) rest (kind_spoken n) gap (grind arith) e (λ front after ends. (name_is_read front n after utf8 ends).0)
 
-pub a_literal : {g : List ℕ} (t rest : List ℕ) → Gap g → IsUtf8 t → admits Words rest ≡ true → Stands (literal_token g t) rest
+pub a_literal : {g : List ℕ} (t rest : List ℕ) → Gap g → IsUtf8 t → admits Words rest ≡ true → Stands (record { gap = g; kind = Literal; word = written_literal t; start = 0 }) rest
 unfolding written_literal quoted is_blank
 a_literal t rest gap utf8 e = spoken_stands Literal (written_literal t) rest refl gap refl e (λ front after ends. (literal_is_read front t after utf8 ends).0)
 
@@ -107,36 +88,29 @@ a_sign {g} b rest gap e =
 
 -- ---- what names and literals mean
 
-kept : (bytes : List ℕ) → IsUtf8 bytes → text_in (Some bytes) ≡ Ok bytes
-unfolding text_in
-kept bytes utf8 = ap (λ (b : Bool). cond b (Ok bytes) (Err false)) (is_utf8-from_IsUtf8 bytes utf8)
-
 no_zeros_by : (bytes : List ℕ) → ByRecursion (λ b. b ≢ 0) bytes → list_any (λ b. b == 0) bytes ≡ false
 no_zeros_by [] all = refl
 no_zeros_by (b ∷ bytes) all = rw (ne_eqb b 0 all.0) (no_zeros_by bytes all.1)
-
-no_zeros : (bytes : List ℕ) → All (λ b. b ≢ 0) bytes → list_any (λ b. b == 0) bytes ≡ false
-no_zeros bytes all = no_zeros_by bytes (recursion_from_All (λ b. b ≢ 0) bytes all)
 
 named : (bytes : List ℕ) → IsName bytes → name_in (Some bytes) ≡ Ok bytes
 unfolding name_in
 named bytes h =
     let some : (length bytes == 0) ≡ false = ne_eqb (length bytes) 0 (λ e. let s = h.some in omega arith) in
     let short : nat_lt 63 (length bytes) ≡ false = let s = h.short in grind (arith, nat_tests) in
-    rw (some, no_zeros bytes h.no_zero, short, is_utf8-from_IsUtf8 bytes h.utf8) refl
+    rw (some, no_zeros_by bytes (recursion_from_All (λ b. b ≢ 0) bytes h.no_zero), short, is_utf8-from_IsUtf8 bytes h.utf8) refl
 
 -- what the written name means, whatever stands before it
 pub name_means : (n : List ℕ) → IsName n → (t : Lexeme) → t.kind ≡ written_kind n → t.word ≡ written_name n → name_value t ≡ Ok n
-unfolding name_value
+unfolding name_value goes_on next_is in_word begins_word is_digit
 name_means n h t kind word =
-    let r = name_is_read [] n [] h.utf8 (spoken_ends (written_kind n) (written_name n) [] [] (kind_spoken n) refl refl) in
+    let r = name_is_read [] n [] h.utf8 (grind (arith, nat_tests, safe_ends, and_false)) in
     ap (λ (k : TokenKind). name_in (name_of k t.word)) kind ∙ ap (λ (w : List ℕ). name_in (name_of (written_kind n) w)) word ∙ ap name_in r.1 ∙ named n h
 
 pub literal_means : (x : List ℕ) → IsUtf8 x → (t : Lexeme) → t.kind ≡ Literal → t.word ≡ written_literal x → literal_value t ≡ Ok x
-unfolding literal_value goes_on next_is
+unfolding literal_value goes_on next_is text_in
 literal_means x utf8 t kind word =
-    let r = literal_is_read [] x [] utf8 refl in
-    ap (λ (k : TokenKind). text_in (literal_of k t.word)) kind ∙ ap (λ (w : List ℕ). text_in (literal_of Literal w)) word ∙ ap text_in r.1 ∙ kept x utf8
+    let kept : (bytes : List ℕ) → IsUtf8 bytes → text_in (Some bytes) ≡ Ok bytes = λ bytes utf8. ap (λ (b : Bool). cond b (Ok bytes) (Err false)) (is_utf8-from_IsUtf8 bytes utf8) in
+    ap (λ (k : TokenKind). text_in (literal_of k t.word)) kind ∙ ap (λ (w : List ℕ). text_in (literal_of Literal w)) word ∙ ap text_in (literal_is_read [] x [] utf8 refl).1 ∙ kept x utf8
 
 -- a written name is no sign
 pub name_no_sign : (b : ℕ) (n : List ℕ) → is_sign_kind b (written_kind n) ≡ false
@@ -144,17 +118,13 @@ unfolding written_kind
 name_no_sign b n = elim (cases_Bool (is_bare n && not (is_reserved n))) [ inl is ↦ rw is refl | inr isnt ↦ rw isnt refl ]
 
 bare_is_small : (n : List ℕ) → IsUtf8 n → (is_bare n && not (is_reserved n)) ≡ true → str_to_ascii_lowercase n ≡ n
-unfolding written_kind written_name name_of
-bare_is_small n utf8 is =
-    let r = (name_is_read [] n [] utf8 (spoken_ends (written_kind n) (written_name n) [] [] (kind_spoken n) refl refl)).1 in
-    let e : name_of Word n ≡ Some n = rw is at r in
-    cc
+unfolding written_kind written_name name_of goes_on next_is in_word begins_word is_digit
+bare_is_small n utf8 is = let e : name_of Word n ≡ Some n = rw is at (name_is_read [] n [] utf8 (grind (arith, nat_tests, safe_ends, and_false))).1 in cc
 
 -- a written name is no reserved word
 name_no_word : (key n : List ℕ) → IsUtf8 n → is_reserved (str_to_ascii_lowercase key) ≡ true → is_keyword_of (written_kind n) (written_name n) key ≡ false
 unfolding written_kind written_name is_keyword_of
-name_no_word key n utf8 reserved =
-    elim (cases_Bool (is_bare n && not (is_reserved n))) [ inl is ↦ rw is (bare is) | inr isnt ↦ rw isnt refl ]
+name_no_word key n utf8 reserved = elim (cases_Bool (is_bare n && not (is_reserved n))) [ inl is ↦ rw is (bare is) | inr isnt ↦ rw isnt refl ]
   where
     same : (is_bare n && not (is_reserved n)) ≡ true → str_eq_ignore_ascii_case n key ≡ true → is_reserved n ≡ true
     same is e = ap is_reserved (sym (bare_is_small n utf8 is) ∙ (bytes_eq-Decides (str_to_ascii_lowercase n) (str_to_ascii_lowercase key)).0 e) ∙ reserved
@@ -168,42 +138,10 @@ no_key key n utf8 reserved t kind word = ap (λ (k : TokenKind). is_keyword_of k
 
 -- ---- what was read
 
-abbrev name_is : List ℕ → Result (List ℕ) Bool
-name_is n = Ok n
-
-no_zero : (bytes : List ℕ) → list_any (λ b. b == 0) bytes ≡ false → ByRecursion (λ b. b ≢ 0) bytes
-no_zero [] e = tt
-no_zero (b ∷ bytes) e = let h = or_parts (b == 0) (list_any (λ b. b == 0) bytes) e in ((λ (is : b ≡ 0). grind (arith, nat_tests)), no_zero bytes h.1)
-
-pub name_in_is : (o : Option (List ℕ)) (n : List ℕ) → name_in o ≡ Ok n → IsName n
-unfolding name_in
-name_in_is None n e = absurd cc
-name_in_is (Some bytes) n e = by_start (cases_Bool (length bytes == 0 || list_any (λ b. b == 0) bytes))
-  where
-    by_utf8 : (length bytes == 0) ≡ false → list_any (λ b. b == 0) bytes ≡ false → nat_lt 63 (length bytes) ≡ false → (b : Bool) → is_utf8 bytes ≡ b → cond b (name_is bytes) (Err false) ≡ Ok n → IsName n
-    by_utf8 some zeros short true utf8 f =
-        let same : bytes ≡ n = cc in
-        subst IsName same (record { some = grind (arith, nat_tests); short = grind (arith, nat_tests); utf8 = IsUtf8-from_is_utf8 bytes utf8; no_zero = All-from_recursion (λ b. b ≢ 0) bytes (no_zero bytes zeros) })
-    by_utf8 some zeros short false utf8 f = absurd cc
-
-    by_length : (length bytes == 0) ≡ false → list_any (λ b. b == 0) bytes ≡ false → (b : Bool) → nat_lt 63 (length bytes) ≡ b → cond b (Err true) (cond (is_utf8 bytes) (name_is bytes) (Err false)) ≡ Ok n → IsName n
-    by_length some zeros true is f = absurd cc
-    by_length some zeros false is f = by_utf8 some zeros is (is_utf8 bytes) refl f
-
-    by_start : ((length bytes == 0 || list_any (λ b. b == 0) bytes) ≡ true) ⊎ ((length bytes == 0 || list_any (λ b. b == 0) bytes) ≡ false) → IsName n
-    by_start (inl is) = absurd (let f = rw is at e in cc)
-    by_start (inr is) = let h = or_parts (length bytes == 0) (list_any (λ b. b == 0) bytes) is in by_length h.0 h.1 (nat_lt 63 (length bytes)) refl (rw is at e)
-
 pub value_name : (t : Lexeme) (n : List ℕ) → name_value t ≡ Ok n → IsName n
 unfolding name_value
-value_name t n e = name_in_is (name_of t.kind t.word) n e
+value_name t n e = (name_in_is (name_of t.kind t.word) n e).1
 
 pub text_value : (t : Lexeme) (v : List ℕ) → literal_value t ≡ Ok v → IsUtf8 v
 unfolding literal_value text_in
-text_value t v e = by_text (literal_of t.kind t.word) e
-  where
-    by_utf8 : (bytes : List ℕ) (b : Bool) → is_utf8 bytes ≡ b → cond b (name_is bytes) (Err false) ≡ Ok v → IsUtf8 v
-    by_utf8 bytes b e f = grind (arith, IsUtf8-from_is_utf8)
-
-    by_text : (o : Option (List ℕ)) → text_in o ≡ Ok v → IsUtf8 v
-    by_text o e = grind (arith, by_utf8)
+text_value t v e = grind (arith, IsUtf8-from_is_utf8)

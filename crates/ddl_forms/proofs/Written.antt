@@ -2,7 +2,7 @@
 -- are put, and what tokens of a text spell has a property. A law for each way to put parts together.
 use Rattle.ddl_forms.proofs.Common.{◌≡◌, ℕ, zero, suc, ◌<◌, Bool, true, false, not, cond, ◌&&◌, ◌||◌, List, [], ◌∷◌, ◌++◌, length, append_assoc, append-nil, Option, Some, None, Result, Ok, Err, refl, sym, ap, subst, ◌∙◌, ◌⊎◌, inl, inr, arith, ◌==◌, and_parts, and_from, not-true, nat_tests, list_all, AllByRecursion, IsUtf8, is_utf8, chars, str_to_ascii_lowercase, encode, TokenKind, Word, Literal, Sign, is_digit, begins_word, in_word, is_keyword_of, IsWord, written_name, written_literal, written_kind, IsName, QName, path, joined, Lexeme, never, is_word, is_sign, is_sign_kind, spelled, source, Part, Items, Many, no_more, Machine, Runs, runs_of, one, many, mark, stop, seen, choose, nothing, wider, ◌then◌, ◌▸◌, ◌◂◌, name, name_value, literal, literal_value, qualified, lexemes, collected, semicolon, IsPath, IsRunText, passes_true}
 use Rattle.ddl_parts.specs.Parts.{one_more}
-use Rattle.ddl_forms.proofs.{Behind.Behind, Behind.Anything, Behind.Words, Behind.Safe, Behind.End, Behind.admits, Behind.covers, Behind.covers_all, Behind.covers_same, Behind.through, Behind.admitted, Behind.looser, Behind.tighter, Behind.tight, Behind.Opens, Behind.opens_of, Behind.opened, Behind.then_opens, Behind.one_opens, Behind.other_opens, Closing.ends_with, Closing.ends_append, Closing.Closes, Kept.AllCame, Kept.came_front, Kept.came_behind, RunTexts.IsPlainMachine, RunTexts.kinds, RunTexts.run_kept, RunTexts.run_read, RunTexts.plain_last, Standing.Stands, Standing.Stood, Standing.placed, Tokens.Gap, Tokens.none, Tokens.space, Tokens.a_word, Tokens.a_name, Tokens.a_literal, Tokens.is_single, Tokens.a_sign, Tokens.name_means, Tokens.literal_means, Tokens.name_no_sign, Tokens.value_name, Tokens.text_value, Putting.Follows, Putting.IsPut, Putting.followed, Putting.begun, Putting.same_text, Putting.put_as, Putting.none_put, Putting.one_put, Putting.then_put, Putting.joined-append, Putting.Yields}
+use Rattle.ddl_forms.proofs.{Behind.Behind, Behind.Anything, Behind.Words, Behind.Safe, Behind.End, Behind.admits, Behind.covers, Behind.through, Behind.admitted, Behind.looser, Behind.tighter, Behind.tight, Behind.Opens, Behind.opens_of, Behind.opened, Behind.then_opens, Behind.one_opens, Behind.other_opens, Closing.ends_with, Closing.ends_append, Closing.Closes, Kept.AllCame, Kept.came_front, Kept.came_behind, RunTexts.IsPlainMachine, RunTexts.kinds, RunTexts.run_kept, RunTexts.run_read, RunTexts.plain_last, Standing.Stands, Standing.Stood, Standing.placed, Tokens.Gap, Tokens.none, Tokens.space, Tokens.a_word, Tokens.a_name, Tokens.a_literal, Tokens.is_single, Tokens.a_sign, Tokens.name_means, Tokens.literal_means, Tokens.name_no_sign, Tokens.value_name, Tokens.text_value, Putting.Follows, Putting.IsPut, Putting.followed, Putting.begun, Putting.same_text, Putting.put_as, Putting.none_put, Putting.one_put, Putting.then_put, Putting.joined-append, Putting.Yields}
 
 -- Which values of a part can be written and how, by the proof that they can; what may stand behind, and what the text
 -- begins with, or that it may be empty; and what is known of a value that was read. Where it is closed, each spelling
@@ -108,9 +108,7 @@ pub key_put : {g : List ℕ} → Gap g → (key w : List ℕ) → is_key key w �
 unfolding is_key is_word
 key_put {g} gap key w e others follows h =
     let is = and_parts (is_bare_word w) (is_keyword_of Word w key) e in
-    let bare = bare_word w is.0 in
-    let k : IsPut (mark (is_word key)) tt (g ++ w) others =
-    one_puts Word w tt others (a_word w (spelled others) gap bare.0 bare.1 h) refl (λ t kind word. rw (kind, word, is.1) refl) follows in
+    let k : IsPut (mark (is_word key)) tt (g ++ w) others = one_puts Word w tt others (a_word w (spelled others) gap (bare_word w is.0).0 (bare_word w is.0).1 h) refl (λ t kind word. rw (kind, word, is.1) refl) follows in
     same_text (g ++ w) (g ++ (w ++ [])) (ap (λ (x : List ℕ). g ++ x) (sym (append-nil w))) k
 
 -- a key word, as it is written
@@ -125,12 +123,10 @@ word_as {g} gap w is = record {
   closes = not_closed (mark (is_word (str_to_ascii_lowercase w)));
 }
 
-same_byte : (b : ℕ) → (b == b) ≡ true
-same_byte b = grind (arith, nat_tests)
-
 sign_put : {g : List ℕ} → Gap g → (b : ℕ) → is_single b ≡ true → (others : List Lexeme) → (59 == b) ≡ false ⊎ (others ≡ []) → Follows others → IsPut (mark (is_sign b)) tt ((g ++ b ∷ []) ++ []) others
 unfolding is_sign
 sign_put {g} gap b e others plain follows =
+    let same_byte : (b : ℕ) → (b == b) ≡ true = λ b. grind (arith, nat_tests) in
     same_text (g ++ b ∷ []) ((g ++ b ∷ []) ++ []) (sym (append-nil (g ++ b ∷ [])))
     (one_put (mark (is_sign b)) tt (record { gap = g; kind = Sign b; word = b ∷ []; start = 0 }) others (a_sign b (spelled others) gap e) plain (λ at. (_, refl, ap if_passed (same_byte b))) follows)
   where
@@ -283,7 +279,7 @@ lead_as {test = test} {p = p} m w e =
     carry_as (then_as (mark_as m) w e) (test ▸ p) w.Fit w.Is (λ v fit. ((tt, v), (tt, fit))) (λ v fit ts s. ((tt, v), refl, s)) (λ v ts s. (s.0, s.2, λ is. subst w.Is (sym s.1) is.1))
 
 pub meets_mark : {test : Lexeme → Bool} (b : Behind) (m : Mark test) → covers b m.opens ≡ true → meets b (mark_as m) ≡ true
-meets_mark b m e = and_from (covers b m.opens) (covers Anything m.after) e (covers_all m.after)
+meets_mark b m e = and_from (covers b m.opens) (covers Anything m.after) e (grind arith)
 
 abbrev pub close_as : {A : Type 0} → {test : Lexeme → Bool} → {p : Part A} → (w : Written p) → (m : Mark test) → covers w.after m.opens ≡ true → Written (p ◂ test)
 close_as {test = test} {p = p} w m e =
@@ -465,7 +461,7 @@ items_put items each m on s (v ∷ vs) fit others follows e =
     let state = items.next s v in
     let more = items_pieces items each state vs fit.1 in
     let k = items_put items each m on state vs fit.1 others follows e in
-    let next = begun m k (items_begin items each m on state vs fit.1 m (covers_same m) (spelled others) e) in
+    let next = begun m k (items_begin items each m on state vs fit.1 m (grind arith) (spelled others) e) in
     let j = w.put v fit.0 (k.tokens ++ others) (followed k) (admitted w.after m (spelled (k.tokens ++ others)) (and_parts (covers w.after m) (covers m w.opens && not w.lacks) (on s)).0 next) in
     put_as (items.item s then items_from items state) (items_from items s) (v, vs) (v ∷ vs) (joined (w.pieces v fit.0 ++ more)) others (then_put (items.item s) (items_from items state) v vs (w.pieces v fit.0) more others k j)
     (λ ts h. subst (Many items s (v ∷ vs)) (sym h.2) (one_more s v vs h.0 h.1 h.3 h.4))

@@ -35,10 +35,6 @@ commented_object_as =
     let constraint = led_as (word_as space (codes "CONSTRAINT") refl) (kind_as (λ x. stmt.Comment (commented.Constraint x.1.0 x.0) x.1.1) (then_as (name_as space) (word_then (codes "ON") refl on_path refl) refl) (λ x is. ((is.1.0, is.0), is.1.1))) refl in
     or_as schema (or_as types (or_as domain (or_as table (or_as view (or_as sequence (or_as index (or_as column constraint)))))))
 
-unfoldable pub comment_on_as : Kinds IsWritable comment_on
-unfolding comment_on commented_object_as is_key
-comment_on_as = led_as (word_as space (codes "ON") refl) commented_object_as refl
-
 -- ---- ALTER ROLE
 
 -- a part that may be left out before another that may be
@@ -118,10 +114,8 @@ unfoldable pub options_as : Written options
 unfolding options maybe_encoded encoded furthers is_key
 options_as =
     let no_furthers : Written furthers = fit_as (seen_as (λ options. tt) (many_as (λ s. heard_as (λ u. Unit {0}) (λ u ts r came h. tt)) (λ u. Unit {0}) (λ s u is. tt) Safe (λ s. refl))) (λ u. Unit {0}) (λ u is. ([], tt, refl)) in
-    let utf8 = literal_said space (λ e. Unit {0}) (λ e. codes "UTF8") (λ e is. utf8_text) utf8_means (λ t e is. tt) in
-    let encoding = word_then (codes "ENCODING") refl (lead_as equals_as utf8 refl) refl in
-    let said : Written encoded = shown_as (λ x. x.0) (then_as encoding no_furthers refl) (λ e. Unit {0}) (λ e is. ((e, tt), (tt, tt), refl)) (λ x is. tt) in
-    let maybe : Written maybe_encoded = maybe_as goes_on said in
+    let encoding = word_then (codes "ENCODING") refl (lead_as equals_as (literal_said space (λ e. Unit {0}) (λ e. codes "UTF8") (λ e is. utf8_text) utf8_means (λ t e is. tt)) refl) refl in
+    let maybe : Written maybe_encoded = maybe_as goes_on (shown_as (λ x. x.0) (then_as encoding no_furthers refl) (λ e. Unit {0}) (λ e is. ((e, tt), (tt, tt), refl)) (λ x is. tt)) in
     shown_as (λ x. x.1) (then_as no_furthers maybe refl) (λ o. OptionFit (λ e. Unit {0}) o) (λ o is. ((tt, o), (tt, is), refl)) (λ x is. is.1)
 
 unfoldable pub create_database_as : Kinds IsWritable create_database

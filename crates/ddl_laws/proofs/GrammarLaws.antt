@@ -17,10 +17,6 @@ columns_are : Headed (is_sign 40) columns
 unfolding columns
 columns_are = headed_sign 40 (lawful_ended 41 (lawful_seen names_of (lawful_next name_laws (many_laws comma more_names names_apart) (λ t. refl))) (signs_apart 41 44 refl))
 
-columns_free : (t : Lexeme) → columns.goes_on t ≡ false
-unfolding columns
-columns_free t = refl
-
 -- ---- what follows
 
 rest_finish : RestSpot → List Lexeme
@@ -46,10 +42,6 @@ unfolding rest_step rest_finish rest_done is_word is_sign is_keyword_of name_val
 rest_ended m Begin = (_, refl, refl)
 rest_ended m x = (_, refl, refl)
 
-rest_covers : (s : RestSpot) (t : Lexeme) → rest_done s ≡ true → rest_goes_on t ≡ false → rest_step s t ≡ None
-unfolding rest_step rest_done rest_goes_on
-rest_covers s t d e = grind arith
-
 -- it goes by words and signs, but where it takes a name
 rest_same : (s : RestSpot) (t : Lexeme) → IsTooLong t → (s ≡ Opened → ⊥) → (rest_step s (shortened t) ≡ rest_step s t) × (rest_long s (shortened t) ≡ false)
 unfolding rest_step rest_long
@@ -74,56 +66,26 @@ rest_shorter m Opened t none = by (name_value t) refl none
 rest_shorter m s t none = record { undone = λ l. absurd cc; takes = λ l. absurd cc; stays = λ l long. (let h = rest_same s t long (λ e. absurd cc) in (h.0 ∙ none, h.1)) }
 
 resting_ends : (s : RestSpot) → CanEnd (resting s)
-resting_ends s = record { finish = rest_finish; last = λ x. (rest_ended s x).0; finished = λ x. (rest_ended s x).1; done = λ x. (rest_ended s x).2; covers = rest_covers; shorter = rest_shorter s }
-
-begins_by : (s : RestSpot) (test : Lexeme → Bool) → rest_done s ≡ false → ((t : Lexeme) (us : List Lexeme) (last : RestSpot) → run (resting s) (Some s) (t ∷ us) ≡ Some last → test t ≡ true) → Begins test (runs_of (resting s))
-begins_by s test undone first = grind arith
-
-rest_begins : Begins (is_word (codes "deferrable")) (runs_of (resting Begin))
-unfolding rest_step rest_done
-rest_begins = grind (arith, begins_by, run_none)
-
-foreign_begins : Begins begins_foreign (runs_of (resting Foreign))
-unfolding rest_step rest_done begins_foreign
-foreign_begins = grind (arith, begins_by, run_none)
+unfolding rest_step rest_done rest_goes_on
+resting_ends s =
+    let rest_covers : (s : RestSpot) (t : Lexeme) → rest_done s ≡ true → rest_goes_on t ≡ false → rest_step s t ≡ None = λ s t d e. grind arith in
+    record { finish = rest_finish; last = λ x. (rest_ended s x).0; finished = λ x. (rest_ended s x).1; done = λ x. (rest_ended s x).2; covers = rest_covers; shorter = rest_shorter s }
 
 some_rest : (s : RestSpot) (test : Lexeme → Bool) → Agrees test → Begins test (runs_of (resting s)) → Headed test (seen source (runs_of (resting s)))
 some_rest s test agrees begins = let h : Headed test (runs_of (resting s)) = record { laws = machine_laws (resting s) (resting_ends s); begins = begins; agrees = agrees } in headed_seen source h
 
-key_rest_laws : Lawful key_rest
-unfolding key_rest
-key_rest_laws = lawful_unless [] (some_rest Begin (is_word (codes "deferrable")) (word_agrees (codes "deferrable") refl) rest_begins)
-
-foreign_agrees : Agrees begins_foreign
-unfolding begins_foreign
-foreign_agrees t long = simp (word_like t long)
-
 foreign_rest_laws : Lawful foreign_rest
-unfolding foreign_rest
-foreign_rest_laws = lawful_unless [] (some_rest Foreign begins_foreign foreign_agrees foreign_begins)
+unfolding foreign_rest rest_step rest_done begins_foreign
+foreign_rest_laws = lawful_unless [] (some_rest Foreign begins_foreign (λ t long. simp (word_like t long)) (grind (arith, run_none)))
 
 ends_goes_on : (t : Lexeme) → is_sign 59 t ≡ true → rest_goes_on t ≡ false
 unfolding rest_goes_on
 ends_goes_on t e = rw (sign_no_word 59 (codes "initially") t e, sign_no_word 59 (codes "on") t e, sign_no_word 59 (codes "deferrable") t e, signs_apart 59 40 refl t e) refl
 
-key_rest_ends : (t : Lexeme) → is_sign 59 t ≡ true → key_rest.goes_on t ≡ false
-unfolding key_rest
-key_rest_ends t e = rw (ends_goes_on t e, sign_no_word 59 (codes "deferrable") t e) refl
-
-foreign_rest_ends : (t : Lexeme) → is_sign 59 t ≡ true → foreign_rest.goes_on t ≡ false
-unfolding foreign_rest begins_foreign
-foreign_rest_ends t e = rw (ends_goes_on t e, sign_no_word 59 (codes "on") t e, sign_no_word 59 (codes "deferrable") t e) refl
-
 -- ---- sequences
 
 abbrev a_zero : Lexeme
 a_zero = record { gap = 32 ∷ []; kind = Number; word = 48 ∷ []; start = 0 }
-
-below : digits_below (2 ^ 63) (48 ∷ []) ≡ Some 0
-below = zero_below (2 ^ 63) (omega arith)
-
-below_more : digits_below (2 ^ 63 + 1) (48 ∷ []) ≡ Some 0
-below_more = zero_below (2 ^ 63 + 1) (omega arith)
 
 finish_at : ClauseSpot → List Lexeme
 finish_at Between = []
@@ -139,49 +101,32 @@ finish_at (BehindMinus field) = a_zero ∷ []
 -- each state can be brought to an end
 ended_at : (spot : ClauseSpot) (c : Clauses) → (last : clausing.State) × (run clausing (Some (reached c spot)) (finish_at spot) ≡ Some last) × (clausing.done last ≡ true)
 unfolding step_first kind_first usual_first finish_at is_word is_keyword_of is_sign
-ended_at BehindStart c = (reached (with_number First (pos 0) c) Between, rw below refl, refl)
-ended_at BehindIncrement c = (reached (with_number Step (pos 0) c) Between, rw below refl, refl)
-ended_at (Due field) c = (reached (with_number field (pos 0) c) Between, rw below refl, refl)
-ended_at (BehindMinus field) c = (reached (with_number field (pos 0) c) Between, rw below_more refl, refl)
+ended_at BehindStart c = (reached (with_number First (pos 0) c) Between, rw (zero_below (2 ^ 63) (omega arith)) refl, refl)
+ended_at BehindIncrement c = (reached (with_number Step (pos 0) c) Between, rw (zero_below (2 ^ 63) (omega arith)) refl, refl)
+ended_at (Due field) c = (reached (with_number field (pos 0) c) Between, rw (zero_below (2 ^ 63) (omega arith)) refl, refl)
+ended_at (BehindMinus field) c = (reached (with_number field (pos 0) c) Between, rw (zero_below (2 ^ 63 + 1) (omega arith)) refl, refl)
 ended_at (BehindNo Both) c = (_, refl, refl)
 ended_at (BehindNo x) c = (_, refl, refl)
 ended_at x c = (_, refl, refl)
 
--- where no clause begins, none goes on
-none_begins : (c : Clauses) (t : Lexeme) → begins_clause t ≡ false → clause_first c (t ∷ []) ≡ None
-unfolding clause_first
-none_begins c t e = grind arith
-
-covers_at : (spot : ClauseSpot) (c : Clauses) (t : Lexeme) → is_between spot ≡ true → begins_clause t ≡ false → step_first (reached c spot) (t ∷ []) ≡ None
-unfolding step_first
-covers_at spot c t d e = grind (arith, none_begins)
-
--- clauses go by words and numbers, and none of their tokens is too long
-clauses_same : (spot : ClauseSpot) (c : Clauses) (t : Lexeme) → IsTooLong t → step_first (reached c spot) (shortened t ∷ []) ≡ step_first (reached c spot) (t ∷ [])
-unfolding step_first clause_first kind_first usual_first
-clauses_same spot c t long = grind (arith, word_like, sign_like, no_count_first)
-
 clausing_ends : CanEnd clausing
+unfolding step_first clause_first kind_first usual_first
 clausing_ends = record {
   finish = λ r. finish_at r.spot;
   last = λ r. (ended_at r.spot r.clauses).0;
   finished = λ r. (ended_at r.spot r.clauses).1;
   done = λ r. (ended_at r.spot r.clauses).2;
-  covers = λ r t d e. covers_at r.spot r.clauses t d e;
-  shorter = λ r t none. record { undone = λ l. absurd cc; takes = λ l. absurd cc; stays = λ l long. (clauses_same r.spot r.clauses t long ∙ none, refl) };
+  covers = λ r t d e. (grind arith);
+  shorter = λ r t none. record { undone = λ l. absurd cc; takes = λ l. absurd cc; stays = λ l long. ((grind (arith, word_like, sign_like, no_count_first)) ∙ none, refl) };
 }
 
 -- ---- the statement
-
-clauses_end : Apart (is_sign 59) sequence_clauses.goes_on
-unfolding sequence_clauses
-clauses_end t e = simp (sign_no_word 59)
 
 create_sequence_laws : Lawful create_sequence
 unfolding create_sequence sequence_clauses
 create_sequence_laws =
     let clauses = lawful_seen (λ ts. clauses_of (run clausing (Some first_reached) ts)) (machine_laws clausing clausing_ends) in
-    lawful_seen (λ x. sequence_of x.0 x.1) (lawful_next qualified_laws (lawful_ended 59 clauses clauses_end) (λ t. refl))
+    lawful_seen (λ x. sequence_of x.0 x.1) (lawful_next qualified_laws (lawful_ended 59 clauses (λ t e. simp (sign_no_word 59))) (λ t. refl))
 
 -- ---- an index's brackets
 
@@ -211,8 +156,7 @@ begun_by_laws {A} test agrees p lp some goes x passes =
     moved s [] [] is parts local = absurd cc
     moved s (t ∷ ts) [] is parts local =
         let w = goes t is in
-        let read : p.read (t ∷ w.1) ≡ Ok (w.0, []) = ap p.read (sym (append-nil (t ∷ w.1))) ∙ lp.only w.0 (t ∷ w.1) [] w.2 refl in
-        absurd (not_both (p.read (t ∷ w.1)) w.0 [] (record { long = s.long; rest = t ∷ w.1 }) read (local t ts (sym parts) t (inl refl) w.1))
+        absurd (not_both (p.read (t ∷ w.1)) w.0 [] (record { long = s.long; rest = t ∷ w.1 }) (ap p.read (sym (append-nil (t ∷ w.1))) ∙ lp.only w.0 (t ∷ w.1) [] w.2 refl) (local t ts (sym parts) t (inl refl) w.1))
     moved s ts (t ∷ front) is parts local = ap (starts test) (sym parts) ∙ is
 
     fits : (ts : List Lexeme) (r : Reading A) → starts test ts ≡ true → (f : Tells p ts r) → Fits (begun_by test p).Spells f.front r
@@ -232,25 +176,13 @@ begun_by_laws {A} test agrees p lp some goes x passes =
 -- what a bracket opens is closed again
 opened : (t : Lexeme) → is_sign 40 t ≡ true → (v : List ℕ) × (more : List Lexeme) × expression.Spells v (t ∷ more)
 unfolding expression is_sign nest_step nest_done ends_run
-opened t e =
-    let kind = sign_kind 40 t.kind e in
-    let ts = t ∷ a_sign 41 ∷ [] in
-    (source ts, a_sign 41 ∷ [], (ts, refl, (refl, record { last = record { brackets = []; spot = Inside }; runs = rw kind refl; done = refl })))
-
-some_token : (v : List ℕ) → expression.Spells v [] → ⊥
-unfolding expression nest_done
-some_token v spells = cc
+opened t e = (source (t ∷ a_sign 41 ∷ []), a_sign 41 ∷ [], ((t ∷ a_sign 41 ∷ []), refl, (refl, record { last = record { brackets = []; spot = Inside }; runs = rw (sign_kind 40 t.kind e) refl; done = refl })))
 
 pub index_body_laws : Lawful index_body
-unfolding index_body bracketed
+unfolding index_body bracketed expression nest_done
 index_body_laws =
-    let bracket = begun_by_laws (is_sign 40) (sign_agrees 40) expression expression_laws some_token opened (a_sign 40) (sign_is 40) in
-    let method = lawful_next name_laws bracket (λ t. refl) in
+    let method = lawful_next name_laws (begun_by_laws (is_sign 40) (sign_agrees 40) expression expression_laws (λ v spells. cc) opened (a_sign 40) (sign_is 40)) (λ t. refl) in
     lawful_seen index_made (lawful_next name_laws (lawful_word (codes "on") refl (lawful_next qualified_laws (lawful_word (codes "using") refl method) (λ t. refl))) (λ t. refl))
-
-index_parts_laws : Lawful index_parts
-unfolding index_body bracketed
-index_parts_laws = lawful_ended 59 index_body_laws expression_ends
 
 -- ---- ALTER TABLE
 
@@ -258,38 +190,32 @@ new_owner_is : Headed (is_word (codes "owner")) new_owner
 unfolding new_owner
 new_owner_is = headed_word (codes "owner") refl (lawful_word (codes "to") refl (lawful_ended 59 name_laws (free semicolon)))
 
-keyed_laws : Lawful (columns then key_rest)
-keyed_laws = lawful_next columns_are.laws key_rest_laws columns_free
-
 pub constraint_body_laws : Lawful constraint_body
-unfolding constraint_body check_body primary_body unique_body foreign_body
+unfolding constraint_body check_body primary_body unique_body foreign_body key_rest rest_step rest_done columns
 constraint_body_laws =
+    let key_rest_laws : Lawful key_rest = lawful_unless [] (some_rest Begin (is_word (codes "deferrable")) (word_agrees (codes "deferrable") refl) (grind (arith, run_none))) in
+    let keyed_laws : Lawful (columns then key_rest) = lawful_next columns_are.laws key_rest_laws (λ t. refl) in
     let check = lawful_seen Check (lawful_sign 40 (lawful_ended 41 expression_laws expression_ends_bracket)) in
-    let parents = lawful_word (codes "references") refl (lawful_next qualified_laws (lawful_next columns_are.laws foreign_rest_laws columns_free) (λ t. refl)) in
-    let foreign = lawful_seen foreign_of (lawful_word (codes "key") refl (lawful_next columns_are.laws parents columns_free)) in
+    let parents = lawful_word (codes "references") refl (lawful_next qualified_laws (lawful_next columns_are.laws foreign_rest_laws (λ t. refl)) (λ t. refl)) in
+    let foreign = lawful_seen foreign_of (lawful_word (codes "key") refl (lawful_next columns_are.laws parents (λ t. refl))) in
     one_of_laws (record { key = codes "check"; part = check_body })
     (record { key = codes "primary"; part = primary_body } ∷ record { key = codes "unique"; part = unique_body } ∷ record { key = codes "foreign"; part = foreign_body } ∷ [])
     refl (check also lawful_seen primary_of (lawful_word (codes "key") refl keyed_laws) also lawful_seen unique_of keyed_laws also foreign)
 
 constraint_ends : Apart semicolon constraint_body.goes_on
-unfolding constraint_body check_body primary_body unique_body foreign_body
-constraint_ends t e = rw (key_rest_ends t e, foreign_rest_ends t e) refl
-
-default_ends : Apart semicolon default_text.goes_on
-unfolding default_text
-default_ends = run_ends true 59 refl
+unfolding constraint_body check_body primary_body unique_body foreign_body key_rest foreign_rest begins_foreign
+constraint_ends t e =
+    let foreign_rest_ends : (t : Lexeme) → is_sign 59 t ≡ true → foreign_rest.goes_on t ≡ false = λ t e. rw (ends_goes_on t e, sign_no_word 59 (codes "on") t e, sign_no_word 59 (codes "deferrable") t e) refl in
+    let key_rest_ends : (t : Lexeme) → is_sign 59 t ≡ true → key_rest.goes_on t ≡ false = λ t e. rw (ends_goes_on t e, sign_no_word 59 (codes "deferrable") t e) refl in
+    rw (key_rest_ends t e, foreign_rest_ends t e) refl
 
 own_change_laws : Lawful own_change
-unfolding own_change added new_default
-own_change_laws = search (grammar, constraint_body_laws, constraint_ends, default_text_laws, default_ends) depth 30 fits 4000
-
-own_change_avoids : Avoids (is_word (codes "owner")) own_change
-unfolding own_change
-own_change_avoids = one_of_avoids (codes "owner") (record { key = codes "add"; part = added }) (record { key = codes "alter"; part = new_default } ∷ []) refl
+unfolding own_change added new_default default_text
+own_change_laws = search (grammar, constraint_body_laws, constraint_ends, default_text_laws, run_ends) depth 30 fits 4000
 
 table_change_laws : Lawful table_change
-unfolding table_change
-table_change_laws = lawful_choose (headed_seen Owner new_owner_is) own_change_laws own_change_avoids
+unfolding table_change own_change
+table_change_laws = lawful_choose (headed_seen Owner new_owner_is) own_change_laws (one_of_avoids (codes "owner") (record { key = codes "add"; part = added }) (record { key = codes "alter"; part = new_default } ∷ []) refl)
 
 -- ---- which table
 
@@ -316,48 +242,25 @@ other_path_is : Headed is_no_only other_path
 unfolding other_path
 other_path_is = headed_seen its_path (headed_next other_name_is (lawful_sign 46 name_laws) (λ t. refl))
 
-name_no_sign : (b : ℕ) → Apart is_name (is_sign b)
-name_no_sign b = grind (arith, sign_no_name)
-
 altered_table_laws : Lawful altered_table
 unfolding altered_table other_path behind_only
 altered_table_laws =
     let path : Headed is_name qualified = record { laws = qualified_laws; begins = qualified_begins; agrees = name_agrees } in
     let schema = headed_seen (λ x. in_schema x.0 x.1) (headed_sign 46 (lawful_next name_laws table_change_laws (λ t. refl))) in
-    let behind = lawful_either schema (headed_seen (λ x. key_word x.0 x.1) (headed_next path own_change_laws (λ t. refl))) (name_no_sign 46) in
+    let behind = lawful_either schema (headed_seen (λ x. key_word x.0 x.1) (headed_next path own_change_laws (λ t. refl))) (grind (arith, sign_no_name)) in
     lawful_either (headed_seen (λ x. only_changed x.0 x.1) (headed_next only_name_is behind (λ t. refl)))
     (headed_seen (λ x. table_changed x.0 x.1) (headed_next other_path_is table_change_laws (λ t. refl))) (λ t e. not-true (is_word (codes "only") t) e)
-
-labels_end : Apart (is_sign 41) (listed is_literal literal).goes_on
-labels_end t e = rw (sign_no_literal 41 t e, signs_apart 41 44 refl t e) refl
 
 -- ---- what ends a type with what may follow it
 
 closing_ends : (b : ℕ) → (b == 41 || b == 93 || b == 59) ≡ true → (t : Lexeme) → is_sign b t ≡ true → ends_run true t ≡ true
 closing_ends b ends t e = not-false (ends_run true t) (run_ends true b ends t e)
 
-word_ends : (t : Lexeme) → is_word (codes "constraint") t ≡ true → ends_run true t ≡ true
-unfolding ends_run
-word_ends t e = grind arith
-
-bracket_no_attributes : Apart (is_sign 41) attributes.goes_on
-bracket_no_attributes = sign_end 41 (closing_ends 41 refl) refl refl refl
-
-semicolon_no_attributes : Apart semicolon attributes.goes_on
-semicolon_no_attributes = sign_end 59 (closing_ends 59 refl) refl refl refl
-
-constraint_no_attributes : Apart (is_word (codes "constraint")) attributes.goes_on
-constraint_no_attributes t e = attributes_end t (word_ends t e) (words_apart (codes "constraint") (codes "not") refl t e) (words_apart (codes "constraint") (codes "default") refl t e) (stop_no_type (codes "constraint") refl t e)
-
 -- ---- CREATE DOMAIN
 
-abbrev checks : Part (List CheckDef)
-checks = many (is_word (codes "constraint")) checking
-
 -- checks and a semicolon begin with neither
-checks_avoid : (test : Lexeme → Bool) → Apart (is_word (codes "constraint")) test → Apart semicolon test → Avoids test (checks ◂ semicolon)
-checks_avoid test word sign v ts rest spells free =
-    ap (λ (us : List Lexeme). starts test (us ++ rest)) spells.2.2 ∙ ap (starts test) (append_assoc spells.2.0 spells.2.1 rest) ∙ first spells.0.0 spells.2.0 spells.2.3
+checks_avoid : (test : Lexeme → Bool) → Apart (is_word (codes "constraint")) test → Apart semicolon test → Avoids test (many (is_word (codes "constraint")) checking ◂ semicolon)
+checks_avoid test word sign v ts rest spells free = ap (λ (us : List Lexeme). starts test (us ++ rest)) spells.2.2 ∙ ap (starts test) (append_assoc spells.2.0 spells.2.1 rest) ∙ first spells.0.0 spells.2.0 spells.2.3
   where
     apart : (one : Lexeme → Bool) → Apart one test → (us : List Lexeme) → starts one us ≡ true → starts test us ≡ false
     apart one h [] e = refl
@@ -368,10 +271,6 @@ checks_avoid test word sign v ts rest spells free =
     first _ _ (one_more _ w ws c d one others) =
         let begun = starts-append (is_word (codes "constraint")) c d (named_check_is.begins w c one) in
         apart (is_word (codes "constraint")) word ((c ++ d) ++ (spells.2.1 ++ rest)) (starts-append (is_word (codes "constraint")) (c ++ d) (spells.2.1 ++ rest) begun)
-
-bracket_no_elements : Apart (is_sign 41) table_elements.goes_on
-unfolding table_elements
-bracket_no_elements t e = rw (sign_no_name 41 t e, signs_apart 41 44 refl t e, column_ends t (bracket_no_attributes t e)) refl
 
 -- ---- a path in a literal
 
@@ -384,22 +283,9 @@ unfolding reads
 short_path Literal w e = (record { schema = codes "a"; name = codes "a" }, refl)
 short_path x w e = absurd cc
 
-path_shortens : Shortens path_value
-unfolding path_value literal_value
-path_shortens = grind (arith, short_path, word_no_text)
-
 literal_path_laws : Lawful literal_path
-unfolding reads
-literal_path_laws = one_laws path_value path_shortens a_literal_path (record { schema = codes "a"; name = codes "b" }) refl
-
-abbrev read_as : QName → List Lexeme → Reading QName
-read_as q rest = Ok (q, rest)
-
-whole_is : (r : Reading QName) (q : QName) → whole_path false r ≡ Ok q → r ≡ Ok (q, [])
-whole_is r q e = grind arith
-
-fault_is : (r : Reading QName) (q : QName) → whole_path true r ≡ Ok q → ⊥
-fault_is r q e = grind arith
+unfolding reads path_value literal_value
+literal_path_laws = one_laws path_value (grind (arith, short_path, word_no_text)) a_literal_path (record { schema = codes "a"; name = codes "b" }) refl
 
 -- a text's path is what all of its tokens spell, with no fault behind them
 abbrev pub SpellsPath : List ℕ → QName → Type 0
@@ -413,10 +299,8 @@ path_found text q e = by (collected text 0).fault refl e
     ts = lexemes text (collected text 0).pieces
 
     by : (o : Option LexFault) → (collected text 0).fault ≡ o → whole_path (is_some o) (qualified.read ts) ≡ Ok q → SpellsPath text q
-    by (Some f) is e = absurd (fault_is (qualified.read ts) q e)
-    by None is e =
-        let f = qualified_laws.found ts q [] (whole_is (qualified.read ts) q e) in
-        (is, subst (qualified.Spells q) (sym (f.parts ∙ append-nil f.front)) f.spells)
+    by (Some f) is e = absurd (grind arith)
+    by None is e = let f = qualified_laws.found ts q [] (grind arith) in (is, subst (qualified.Spells q) (sym (f.parts ∙ append-nil f.front)) f.spells)
 
 pub path_only : (text : List ℕ) (q : QName) → SpellsPath text q → path_in text ≡ Ok q
 unfolding path_in
@@ -435,24 +319,25 @@ set_value_laws = search (grammar, truth_laws, literal_path_laws, whole_number_la
 -- ---- CREATE ..
 
 created_laws : Lawful created
-unfolding created create_schema create_enum create_domain typed create_table table_elements create_view replace_view create_index create_unique_index
+unfolding created create_schema create_enum create_domain typed create_table table_elements create_view replace_view create_index create_unique_index index_body bracketed ends_run
 created_laws =
-    let schema = lawful_seen stmt.CreateSchema (lawful_ended 59 name_laws (free semicolon)) in
+    let labels_end : Apart (is_sign 41) (listed is_literal literal).goes_on = λ t e. rw (sign_no_literal 41 t e, signs_apart 41 44 refl t e) refl in
+    let bracket_no_elements : Apart (is_sign 41) table_elements.goes_on = λ t e. rw (sign_no_name 41 t e, signs_apart 41 44 refl t e, column_ends t ((sign_end 41 (closing_ends 41 refl) refl refl refl) t e)) refl in
+    let constraint_no_attributes : Apart (is_word (codes "constraint")) attributes.goes_on =
+    λ t e. attributes_end t (grind arith) (words_apart (codes "constraint") (codes "not") refl t e) (words_apart (codes "constraint") (codes "default") refl t e) (stop_no_type (codes "constraint") refl t e) in
+    let index_parts_laws : Lawful index_parts = lawful_ended 59 index_body_laws expression_ends in
     let labels = lawful_ended 59 (lawful_ended 41 (listed_laws is_literal literal_agrees literal literal_laws literal_begins (free comma)) labels_end) (free semicolon) in
-    let enum = lawful_seen enum_of (lawful_next qualified_laws (lawful_word (codes "as") refl (lawful_word (codes "enum") refl (lawful_sign 40 labels))) (λ t. refl)) in
     let checked = lawful_ended 59 (many_laws (is_word (codes "constraint")) checking checks_apart) (sign_no_word 59 (codes "constraint")) in
-    let base = lawful_then typed_laws checked (checks_avoid attributes.goes_on constraint_no_attributes semicolon_no_attributes) in
-    let domain = lawful_seen domain_of (lawful_next qualified_laws (lawful_word (codes "as") refl base) (λ t. refl)) in
+    let base = lawful_then typed_laws checked (checks_avoid attributes.goes_on constraint_no_attributes (sign_end 59 (closing_ends 59 refl) refl refl refl)) in
     let body = lawful_ended 59 (lawful_ended 41 (lawful_seen parted (many_laws more_elements elements elements_apart)) bracket_no_elements) (free semicolon) in
-    let table = lawful_seen table_of (lawful_next qualified_laws (lawful_sign 40 body) (λ t. refl)) in
     let viewed : Lawful view_and_body = lawful_next qualified_laws (lawful_word (codes "as") refl (lawful_ended 59 expression_laws expression_ends)) (λ t. refl) in
-    let view = lawful_seen (λ x. stmt.CreateView x.0 x.1) viewed in
-    let replaced = lawful_word (codes "replace") refl (lawful_word (codes "view") refl (lawful_seen (λ x. stmt.ReplaceView x.0 x.1) viewed)) in
-    let unique = lawful_word (codes "index") refl (lawful_seen unique_index_of index_parts_laws) in
-    one_of_laws (record { key = codes "schema"; part = create_schema })
-    (record { key = codes "type"; part = create_enum } ∷ record { key = codes "domain"; part = create_domain } ∷ record { key = codes "table"; part = create_table }
-    ∷ record { key = codes "role"; part = create_role } ∷ record { key = codes "database"; part = create_database } ∷ view_branch ∷ more_relations)
-    refl (schema also enum also domain also table also create_role_laws also create_database_laws also view also replaced also lawful_seen index_of index_parts_laws also unique also create_sequence_laws)
+    one_of_laws (record { key = codes "schema"; part = create_schema }) (record { key = codes "type"; part = create_enum } ∷ record { key = codes "domain"; part = create_domain }
+    ∷ record { key = codes "table"; part = create_table } ∷ record { key = codes "role"; part = create_role } ∷ record { key = codes "database"; part = create_database } ∷ view_branch ∷ more_relations)
+    refl (lawful_seen stmt.CreateSchema (lawful_ended 59 name_laws (free semicolon)) also lawful_seen enum_of (lawful_next qualified_laws (lawful_word (codes "as") refl (lawful_word (codes "enum") refl (lawful_sign 40 labels))) (λ t. refl))
+    also lawful_seen domain_of (lawful_next qualified_laws (lawful_word (codes "as") refl base) (λ t. refl))
+    also lawful_seen table_of (lawful_next qualified_laws (lawful_sign 40 body) (λ t. refl)) also create_role_laws also create_database_laws also lawful_seen (λ x. stmt.CreateView x.0 x.1) viewed
+    also lawful_word (codes "replace") refl (lawful_word (codes "view") refl (lawful_seen (λ x. stmt.ReplaceView x.0 x.1) viewed)) also lawful_seen index_of index_parts_laws
+    also lawful_word (codes "index") refl (lawful_seen unique_index_of index_parts_laws) also create_sequence_laws)
 
 -- ---- ALTER ..
 
@@ -463,44 +348,32 @@ altered_laws =
     let path : Lawful path_and_owner = lawful_next qualified_laws new_owner_is.laws (λ t. refl) in
     let check = headed_word (codes "add") refl (lawful_ended 59 named_check_is.laws (λ t e. named_check_free t)) in
     let changed = lawful_either (headed_seen its_owner new_owner_is) (headed_seen one_more_check check) (words_apart (codes "add") (codes "owner") refl) in
-    let domain = lawful_seen (λ x. domain_changed x.0 x.1) (lawful_next qualified_laws changed (λ t. refl)) in
     let column = lawful_next qualified_laws (lawful_sign 46 (lawful_ended 59 name_laws (free semicolon))) (λ t. refl) in
     let given = lawful_either (headed_seen its_role new_owner_is) (headed_seen its_column (headed_word (codes "owned") refl (lawful_word (codes "by") refl column))) (words_apart (codes "owned") (codes "owner") refl) in
-    let sequence = lawful_seen (λ x. sequence_changed x.0 x.1) (lawful_next qualified_laws given (λ t. refl)) in
-    one_of_laws (owned_name (codes "schema") owned.Schema)
-    (owned_path (codes "type") owned.Type ∷ record { key = codes "domain"; part = altered_domain } ∷ record { key = codes "table"; part = altered_table }
-    ∷ record { key = codes "sequence"; part = altered_sequence } ∷ owned_path (codes "view") owned.View ∷ owned_name (codes "database") owned.Database
-    ∷ record { key = codes "role"; part = alter_role } ∷ [])
-    refl
-    (lawful_seen (λ x. stmt.OwnerTo (owned.Schema x.0) x.1) name also lawful_seen (λ x. stmt.OwnerTo (owned.Type x.0) x.1) path also domain also altered_table_laws also sequence
+    one_of_laws (owned_name (codes "schema") owned.Schema) (owned_path (codes "type") owned.Type ∷ record { key = codes "domain"; part = altered_domain } ∷ record { key = codes "table"; part = altered_table }
+    ∷ record { key = codes "sequence"; part = altered_sequence } ∷ owned_path (codes "view") owned.View ∷ owned_name (codes "database") owned.Database ∷ record { key = codes "role"; part = alter_role } ∷ [])
+    refl (lawful_seen (λ x. stmt.OwnerTo (owned.Schema x.0) x.1) name also lawful_seen (λ x. stmt.OwnerTo (owned.Type x.0) x.1) path
+    also lawful_seen (λ x. domain_changed x.0 x.1) (lawful_next qualified_laws changed (λ t. refl)) also altered_table_laws also lawful_seen (λ x. sequence_changed x.0 x.1) (lawful_next qualified_laws given (λ t. refl))
     also lawful_seen (λ x. stmt.OwnerTo (owned.View x.0) x.1) path also lawful_seen (λ x. stmt.OwnerTo (owned.Database x.0) x.1) name also alter_role_laws)
 
 -- ---- all statements
 
-some_columns_ends : Apart (is_word (codes "from")) some_columns.goes_on
-unfolding some_columns
-some_columns_ends t e = rw (columns_free t, word_no_sign (codes "from") 40 t e) refl
-
 command_laws : Lawful command
 unfolding command selected set_config setting equals_or_to copy_from some_columns columns
 command_laws =
-    let not_local = lawful_worded (codes "false") refl (lawful_ended 44 literal_laws (free (is_sign 44))) (free (is_word (codes "false"))) in
-    let value = lawful_ended 59 (lawful_ended 41 not_local (free (is_sign 41))) (free semicolon) in
+    let value = lawful_ended 59 (lawful_ended 41 (lawful_worded (codes "false") refl (lawful_ended 44 literal_laws (free (is_sign 44))) (free (is_word (codes "false")))) (free (is_sign 41))) (free semicolon) in
     let config = lawful_seen (λ x. stmt.SetConfig x.0 x.1) (lawful_sign 40 (lawful_next literal_laws (lawful_sign 44 value) (λ t. refl))) in
     let calls : Lawful catalog_calls = one_of_laws (record { key = codes "set_config"; part = set_config }) (record { key = codes "setval"; part = set_value } ∷ []) refl (config also set_value_laws) in
     let equals : Lawful equals_or_to = lawful_either (one_sign 61) (one_word (codes "to") refl) (word_no_sign (codes "to") 61) in
-    let set = lawful_seen (λ x. stmt.Set x.0 x.1.1) (lawful_next name_laws (lawful_next equals (lawful_ended 59 expression_laws expression_ends) (λ t. refl)) (λ t. refl)) in
-    let from = lawful_worded (codes "from") refl (lawful_unless [] columns_are) some_columns_ends in
-    let stdin = lawful_ended 59 (lawful_worded (codes "stdin") refl from (free (is_word (codes "stdin")))) (free (is_sign 59)) in
-    one_of_laws (record { key = codes "create"; part = created }) more_commands refl
-    (created_laws also altered_laws also lawful_word (codes "pg_catalog") refl (lawful_sign 46 calls) also set also lawful_seen (λ x. stmt.CopyRows x.0 x.1 []) (lawful_next qualified_laws stdin (λ t. refl))
-    also granted_laws also revoked_laws also comment_on_laws)
-
-command_avoids : Avoids semicolon command
-unfolding command
-command_avoids = one_of_avoids_others semicolon (λ key. word_no_sign key 59) (record { key = codes "create"; part = created }) more_commands
+    let from = lawful_worded (codes "from") refl (lawful_unless [] columns_are) (λ t e. rw (word_no_sign (codes "from") 40 t e) refl) in
+    one_of_laws (record { key = codes "create"; part = created }) more_commands refl (created_laws also altered_laws also lawful_word (codes "pg_catalog") refl (lawful_sign 46 calls)
+    also lawful_seen (λ x. stmt.Set x.0 x.1.1) (lawful_next name_laws (lawful_next equals (lawful_ended 59 expression_laws expression_ends) (λ t. refl)) (λ t. refl))
+    also lawful_seen (λ x. stmt.CopyRows x.0 x.1 []) (lawful_next qualified_laws (lawful_ended 59 (lawful_worded (codes "stdin") refl from (free (is_word (codes "stdin")))) (free (is_sign 59))) (λ t. refl)) also granted_laws
+    also revoked_laws also comment_on_laws)
 
 -- the grammar of statements has the laws
 pub statement_laws : Lawful statement
-unfolding statement
-statement_laws = lawful_choose (headed_seen (λ x. None) (one_sign 59)) (lawful_seen Some command_laws) (seen_avoids semicolon Some command command_avoids)
+unfolding statement command
+statement_laws =
+    let command_avoids : Avoids semicolon command = one_of_avoids_others semicolon (λ key. word_no_sign key 59) (record { key = codes "create"; part = created }) more_commands in
+    lawful_choose (headed_seen (λ x. None) (one_sign 59)) (lawful_seen Some command_laws) (seen_avoids semicolon Some command command_avoids)

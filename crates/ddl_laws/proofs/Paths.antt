@@ -7,47 +7,26 @@ pub name_utf8 : (n : List ℕ) → IsName n → IsUtf8 (written_name n)
 unfolding is_sound
 name_utf8 n is =
     let h = (a_name n [] none is.utf8 refl).token [] [] refl in
-    let text = written_name n ++ [] in
-    let sound = token_sound text 0 (token_at (written_kind n) 0 (written_name n)) (omega arith) h.found in
-    let utf8 : is_utf8 (spelling text (token_at (written_kind n) 0 (written_name n))) ≡ true = (and_parts _ _ sound).1 in
-    IsUtf8-from_is_utf8 (written_name n) (ap is_utf8 (sym h.spelled) ∙ utf8)
-
-dot_utf8 : is_utf8 (46 ∷ []) ≡ true
-unfolding is_utf8 chars encode
-dot_utf8 = refl
+    IsUtf8-from_is_utf8 (written_name n) (ap is_utf8 (sym h.spelled) ∙ (and_parts _ _ (token_sound (written_name n ++ []) 0 (token_at (written_kind n) 0 (written_name n)) (omega arith) h.found)).1)
 
 pub path_utf8 : (q : QName) → IsPath q → IsUtf8 (path q)
-unfolding path
-path_utf8 q is =
-    IsUtf8-append (written_name q.schema) (46 ∷ written_name q.name) (name_utf8 q.schema is.0)
-    (IsUtf8-append (46 ∷ []) (written_name q.name) (IsUtf8-from_is_utf8 (46 ∷ []) dot_utf8) (name_utf8 q.name is.1))
+unfolding path is_utf8 chars encode
+path_utf8 q is = IsUtf8-append (written_name q.schema) (46 ∷ written_name q.name) (name_utf8 q.schema is.0) (IsUtf8-append (46 ∷ []) (written_name q.name) (IsUtf8-from_is_utf8 (46 ∷ []) refl) (name_utf8 q.name is.1))
 
 abbrev path_tokens : QName → List Lexeme
 path_tokens q = name_token [] q.schema ∷ sign_token [] 46 ∷ name_token [] q.name ∷ []
 
-path_spelled : (q : QName) → path q ≡ spelled (path_tokens q)
-unfolding path
-path_spelled q = ap (λ (x : List ℕ). written_name q.schema ++ (46 ∷ x)) (sym (append-nil (written_name q.name)))
-
-path_stands : (q : QName) → IsPath q → Stood (path_tokens q)
-unfolding is_single
-path_stands q is = (a_name q.schema (46 ∷ (written_name q.name ++ [])) none is.0.utf8 refl, (a_sign 46 (written_name q.name ++ []) none refl, (a_name q.name [] none is.1.utf8 refl, tt)))
-
-path_plain : (q : QName) → NoSemicolon (path_tokens q)
-unfolding is_sign
-path_plain q = (name_no_sign 59 q.schema, (refl, (name_no_sign 59 q.name, tt)))
-
-path_spells : (q : QName) → IsPath q → qualified.Spells q (placed 0 (path_tokens q))
-unfolding is_sign
-path_spells q is =
-    ((q.schema, q.name), refl, (_ ∷ [], _ ∷ _ ∷ [], refl, (_, refl, name_means q.schema is.0 _ refl refl), ((tt, q.name), refl, (_ ∷ [], _ ∷ [], refl, (_, refl, refl), (_, refl, name_means q.name is.1 _ refl refl)))))
-
 -- a written path is read as it, where it is a whole text
 path_is_found : (q : QName) → IsPath q → path_in (path q) ≡ Ok q
+unfolding is_sign path is_single
 path_is_found q is =
-    let text = path q in
-    let c = collects_all text (path_tokens q) (path_spelled q) (path_stands q is) (path_plain q) in
-    path_only text q (c.fault, subst (qualified.Spells q) (sym c.tokens) (path_spells q is))
+    let path_plain : (q : QName) → NoSemicolon (path_tokens q) = λ q. (name_no_sign 59 q.schema, (refl, (name_no_sign 59 q.name, tt))) in
+    let path_stands : (q : QName) → IsPath q → Stood (path_tokens q) =
+    λ q is. (a_name q.schema (46 ∷ (written_name q.name ++ [])) none is.0.utf8 refl, (a_sign 46 (written_name q.name ++ []) none refl, (a_name q.name [] none is.1.utf8 refl, tt))) in
+    let path_spells : (q : QName) → IsPath q → qualified.Spells q (placed 0 (path_tokens q)) =
+    λ q is. ((q.schema, q.name), refl, (_ ∷ [], _ ∷ _ ∷ [], refl, (_, refl, name_means q.schema is.0 _ refl refl), ((tt, q.name), refl, (_ ∷ [], _ ∷ [], refl, (_, refl, refl), (_, refl, name_means q.name is.1 _ refl refl))))) in
+    let c = collects_all (path q) (path_tokens q) (ap (λ (x : List ℕ). written_name q.schema ++ (46 ∷ x)) (sym (append-nil (written_name q.name)))) (path_stands q is) (path_plain q) in
+    path_only (path q) q (c.fault, subst (qualified.Spells q) (sym c.tokens) (path_spells q is))
 
 pub path_read : (t : Lexeme) (q : QName) → path_value t ≡ Ok q → IsPath q
 unfolding path_value

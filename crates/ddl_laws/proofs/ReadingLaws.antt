@@ -11,21 +11,13 @@ statement_closes = (statement_as no_gap).closes refl
 
 -- ---- the tokens that are collected
 
-preceded_last : (text : List ℕ) (p : Piece) (ps : List Piece) → semicolon (lexeme_of text p) ≡ false → only_last semicolon (lexemes text ps) ≡ true → only_last semicolon (lexemes text (p ∷ ps)) ≡ true
-preceded_last text p ps none e = grind arith
-
 collected_last : (text : List ℕ) (at : ℕ) → at ≤ length text → only_last semicolon (lexemes text (collected text at).pieces) ≡ true
 unfolding collected is_sign
 collected_last text = collected_has text (λ at c. only_last semicolon (lexemes text c.pieces) ≡ true) (λ at fault le. refl) (λ at t c le e lies. by (record { from = at; token = t }) c (is_sign_kind 59 t.kind) refl) (length text + 1)
   where
     by : (p : Piece) (c : Collected) (b : Bool) → is_sign_kind 59 p.token.kind ≡ b → (b ≡ true → c.pieces ≡ []) → only_last semicolon (lexemes text c.pieces) ≡ true → only_last semicolon (lexemes text (p ∷ c.pieces)) ≡ true
     by p c true is none behind = ap (λ (ps : List Piece). only_last semicolon (lexemes text (p ∷ ps))) (none refl)
-    by p c false is none behind = preceded_last text p c.pieces is behind
-
--- what a statement's tokens begin with is all of them
-takes_all : (text : List ℕ) (at : ℕ) → at ≤ length text → (s : Option Stmt) (front rest : List Lexeme) → lexemes text (collected text at).pieces ≡ front ++ rest → statement.Spells s front → rest ≡ []
-takes_all text at le s front rest parts spells =
-    nothing_left semicolon front rest (ap (only_last semicolon) (sym parts) ∙ collected_last text at le) (statement_closes s front spells)
+    by p c false is none behind = grind arith
 
 -- ---- where collected tokens end
 
@@ -47,11 +39,6 @@ ok_read limit fault (Err s) v e = absurd cc
 err_read : {A : Type 0} (limit : ℕ) (fault : Option LexFault) (r : Reading A) (f : DdlFault) → told limit fault (value_of r) ≡ Err f → (s : Stop) × (r ≡ Err s) × (f ≡ fault_of limit fault s)
 err_read limit fault r f e = grind arith
 
--- nothing goes on with a statement
-left_free : (ts : List Lexeme) → starts statement.goes_on ts ≡ false
-unfolding statement command created altered set_config truth set_value selected setting create_schema create_enum create_domain create_table altered_domain domain_change new_check name_and_owner path_and_owner new_owner added new_default own_change table_change behind_only altered_table altered_sequence sequence_change owned_by create_view replace_view create_index create_unique_index index_body create_sequence copy_from granted revoked create_role alter_role create_database comment_on commented_object name_remarked path_remarked column_remarked constraint_remarked remark_end
-left_free ts = grind arith
-
 -- what is read of tokens is spelled by a front of them
 pub is_spelled : (limit : ℕ) (ts : List Lexeme) (fault : Option LexFault) (s : Option Stmt) → statement_of limit ts fault ≡ Ok s → (front : List Lexeme) × (rest : List Lexeme) × (ts ≡ front ++ rest) × statement.Spells s front
 unfolding statement_of
@@ -62,10 +49,8 @@ is_spelled limit ts fault s e =
 
 -- what a front of tokens spells is read of them
 pub is_read : (limit : ℕ) (ts : List Lexeme) (fault : Option LexFault) (s : Option Stmt) (front rest : List Lexeme) → ts ≡ front ++ rest → statement.Spells s front → statement_of limit ts fault ≡ Ok s
-unfolding statement_of
-is_read limit ts fault s front rest parts spells =
-    let e : statement.read ts ≡ Ok (s, rest) = ap statement.read parts ∙ statement_laws.only s front rest spells (left_free rest) in
-    ap (λ (r : Reading (Option Stmt)). told limit fault (value_of r)) e
+unfolding statement_of statement command created altered set_config truth set_value selected setting create_schema create_enum create_domain create_table altered_domain domain_change new_check name_and_owner path_and_owner new_owner added new_default own_change table_change behind_only altered_table altered_sequence sequence_change owned_by create_view replace_view create_index create_unique_index index_body create_sequence copy_from granted revoked create_role alter_role create_database comment_on commented_object name_remarked path_remarked column_remarked constraint_remarked remark_end
+is_read limit ts fault s front rest parts spells = ap (λ (r : Reading (Option Stmt)). told limit fault (value_of r)) (ap statement.read parts ∙ statement_laws.only s front rest spells (grind arith))
 
 pub read_whole : (s : Option Stmt) (ts : List Lexeme) → statement.Spells s ts → statement.read ts ≡ Ok (s, [])
 read_whole s ts spells = ap statement.read (sym (append-nil ts)) ∙ statement_laws.only s ts [] spells refl
@@ -87,15 +72,14 @@ unfolding statement_of
 is_stuck text at fault e =
     let ts = lexemes text (collected text at).pieces in
     let t = err_read (length text) (collected text at).fault (statement.read ts) fault e in
-    let read = t.1 in
-    let f = statement_laws.stopped ts t.0 read in
+    let f = statement_laws.stopped ts t.0 t.1 in
     record {
       front = f.front;
       rest = t.0.rest;
       tokens = f.parts;
       finished = (f.value, f.more, f.finished);
       none = λ x behind is s more spells. not_both (statement.read (f.front ++ x ∷ more)) s (record { long = t.0.long; rest = x ∷ more }) (read_whole s (f.front ++ x ∷ more) spells) (f.local x behind is x (inl refl) more);
-      short = λ is s spells. not_both (statement.read ts) s t.0 (ap statement.read (f.parts ∙ ap (λ (r : List Lexeme). f.front ++ r) is ∙ append-nil f.front) ∙ read_whole s f.front spells) read;
+      short = λ is s spells. not_both (statement.read ts) s t.0 (ap statement.read (f.parts ∙ ap (λ (r : List Lexeme). f.front ++ r) is ∙ append-nil f.front) ∙ read_whole s f.front spells) t.1;
       long = t.0.long;
       too_long = (
         λ e. (let n = f.named e in record { token = n.token; behind = n.behind; is = n.is; long = n.long; finished = (n.value, n.more, n.spells) }),
@@ -106,76 +90,37 @@ is_stuck text at fault e =
 
 -- ---- a line that begins with a backslash
 
-abbrev line_by : Token → Bool → Option Token
-line_by t b = cond b (Some t) None
-
-line_kind : (k : TokenKind) → is_line_kind k ≡ true → k ≡ MetaLine
-line_kind x e = grind arith
-
-abbrev with_kind : Token → TokenKind → Token
-with_kind t k = record { kind = k; start = t.start; end = t.end }
-
-abbrev found_token : Token → Result (Option Token) LexFault
-found_token t = Ok (Some t)
-
-line_chosen : (t u : Token) (b : Bool) → is_line_kind t.kind ≡ b → line_by t b ≡ Some u → found_token t ≡ found_token (line_token u.start u.end)
-line_chosen t u b is e = grind arith
-
 line_found : (r : Result (Option Token) LexFault) (u : Token) → line_in r ≡ Some u → r ≡ Ok (Some (line_token u.start u.end))
 line_found r u e = grind arith
-
-a_line : (text : List ℕ) (at : ℕ) (u : Token) → line_at text at ≡ Some u → next_token_of text at ≡ Ok (Some (line_token u.start u.end))
-unfolding line_at
-a_line text at u e = line_found (next_token_of text at) u e
-
-pub line_next : (text : List ℕ) (at start end : ℕ) → next_token_of text at ≡ Ok (Some (line_token start end)) → line_at text at ≡ Some (line_token start end)
-unfolding line_at
-line_next text at start end e = ap line_in e
 
 -- what is collected begins with the next token
 pub collected_first : (text : List ℕ) (at : ℕ) → collected text at ≡ collected_by (collected_within (length text) text) at (next_token_of text at)
 unfolding collected collected_within
 collected_first text at = let fuel : length text + 1 ≡ suc (length text) = omega arith in ap (λ n. collected_within n text at) fuel
 
-none_next : (behind : ℕ → Collected) (at : ℕ) (r : Result (Option Token) LexFault) → first_start (collected_by behind at r).pieces ≡ None → line_in r ≡ None
-none_next behind at v e = grind arith
-
 pub no_line_left : (text : List ℕ) (at : ℕ) → first_start (collected text at).pieces ≡ None → line_at text at ≡ None
 unfolding line_at
-no_line_left text at e = none_next (collected_within (length text) text) at (next_token_of text at) (ap (λ (c : Collected). first_start c.pieces) (sym (collected_first text at)) ∙ e)
-
--- no statement's tokens begin with such a line
-abbrev line_lexeme : List ℕ → List ℕ → ℕ → Lexeme
-line_lexeme gap word start = record { gap = gap; kind = MetaLine; word = word; start = start }
-
-refuses : (gap word : List ℕ) (start : ℕ) (ts : List Lexeme) → statement.read (line_lexeme gap word start ∷ ts) ≡ Err (record { long = false; rest = line_lexeme gap word start ∷ ts })
-unfolding statement command is_sign is_word is_keyword_of
-refuses gap word start ts = refl
+no_line_left text at e =
+    let none_next : (behind : ℕ → Collected) (at : ℕ) (r : Result (Option Token) LexFault) → first_start (collected_by behind at r).pieces ≡ None → line_in r ≡ None = λ behind at v e. grind arith in
+    none_next (collected_within (length text) text) at (next_token_of text at) (ap (λ (c : Collected). first_start c.pieces) (sym (collected_first text at)) ∙ e)
 
 begins_no_line : (text : List ℕ) (at start end : ℕ) (s : Option Stmt) → next_token_of text at ≡ Ok (Some (line_token start end)) → statement.Spells s (lexemes text (collected text at).pieces) → ⊥
+unfolding statement command is_sign is_word is_keyword_of
 begins_no_line text at start end s next spells =
     let t = line_token start end in
     let behind = collected_within (length text) text in
-    let is : collected text at ≡ collected_by behind at (Ok (Some t)) = collected_first text at ∙ ap (collected_by behind at) next in
-    let here = subst (λ (c : Collected). statement.Spells s (lexemes text c.pieces)) is spells in
+    let here = subst (λ (c : Collected). statement.Spells s (lexemes text c.pieces)) (collected_first text at ∙ ap (collected_by behind at) next) spells in
     let l = lexeme_of text (record { from = at; token = t }) in
-    not_both (statement.read (lexemes text (collected_by behind at (Ok (Some t))).pieces)) s (record { long = false; rest = _ }) (read_whole s (lexemes text (collected_by behind at (Ok (Some t))).pieces) here) (refuses l.gap l.word l.start _)
+    not_both (statement.read (lexemes text (collected_by behind at (Ok (Some t))).pieces)) s (record { long = false; rest = _ }) (read_whole s (lexemes text (collected_by behind at (Ok (Some t))).pieces) here) refl
 
 pub no_line_of : (text : List ℕ) (at : ℕ) (s : Option Stmt) → statement.Spells s (lexemes text (collected text at).pieces) → (line : Option Token) → line_at text at ≡ line → line_at text at ≡ None
-no_line_of text at s spells line e = grind (arith, begins_no_line, a_line)
-
--- what a line says hangs on where it stands
-same_spelling : (text : List ℕ) (t : Token) → meta_line (spelling text (line_token t.start t.end)) ≡ meta_line (spelling text t)
-unfolding spelling
-same_spelling text t = refl
+unfolding line_at
+no_line_of text at s spells line e = grind (arith, begins_no_line, line_found)
 
 -- ---- the rows of a COPY
 
-rows_within : (text : List ℕ) (at : ℕ) (q : QName) (columns : List (List ℕ)) (w : Whole) → at ≤ length text → (r : Result Copied ℕ) → rows_behind text at ≡ r → with_rows q columns r ≡ Ok w → (at ≤ w.end) × (w.end ≤ length text)
-rows_within text at q columns w le r is e = grind (arith, rows_bounds)
-
 pub whole_bounds : (text : List ℕ) (at : ℕ) (h : Option Stmt) (w : Whole) → at ≤ length text → completed text at h ≡ Ok w → (at ≤ w.end) × (w.end ≤ length text)
-whole_bounds text at (Some (stmt.CopyRows q columns rows)) w le e = rows_within text at q columns w le (rows_behind text at) refl e
+whole_bounds text at (Some (stmt.CopyRows q columns rows)) w le e = grind (arith, rows_bounds)
 whole_bounds text at h w le e = let same : at ≡ w.end = cc e in (omega (arith, same), rw (← same) le)
 
 -- ---- all statements
@@ -200,16 +145,17 @@ pub begun : (n : ℕ) (text : List ℕ) (at : ℕ) (start : Option ℕ) → line
 begun n text at start plain e = begun_by n text at None plain ∙ ap (by_start n text at) e
 
 pub spelled_whole : (text : List ℕ) (at : ℕ) → at ≤ length text → (h : Option Stmt) → header text at ≡ Ok h → statement.Spells h (lexemes text (collected text at).pieces)
-spelled_whole text at le h e = grind (arith, is_spelled, takes_all, append-nil)
+spelled_whole text at le h e =
+    let takes_all : (text : List ℕ) (at : ℕ) → at ≤ length text → (s : Option Stmt) (front rest : List Lexeme) → lexemes text (collected text at).pieces ≡ front ++ rest → statement.Spells s front → rest ≡ [] =
+    λ text at le s front rest parts spells. nothing_left semicolon front rest (ap (only_last semicolon) (sym parts) ∙ collected_last text at le) (statement_closes s front spells) in
+    grind (arith, is_spelled, takes_all, append-nil)
 
 -- a statement ends behind its place
 pub ends_past : (text : List ℕ) (at : ℕ) (s : Option Stmt) (start end : ℕ) → at ≤ length text → IsStatement text at s start end → (at < end) × (end ≤ length text)
 ends_past text at s start end le is = grind (arith, bounds, whole_bounds, whole)
 
 pub line_past : (text : List ℕ) (at start end : ℕ) → at ≤ length text → next_token_of text at ≡ Ok (Some (line_token start end)) → (at < end) × (end ≤ length text)
-line_past text at start end le e =
-    let lies = lies_behind text at (Ok (Some (line_token start end))) le (sym e) in
-    (omega (arith, lies.0, lies.1), lies.2)
+line_past text at start end le e = let lies = lies_behind text at (Ok (Some (line_token start end))) le (sym e) in (omega (arith, lies.0, lies.1), lies.2)
 
 -- ---- what reading comes to
 
@@ -228,6 +174,7 @@ line_told_on text at s start end is (Ok more) others = line_read at s start end 
 line_told_on text at s start end is (Err fault) others = later_line at s start end fault is others
 
 told_within : (n : ℕ) (text : List ℕ) (at : ℕ) → at ≤ length text → length text - at < n → Told text at (statements_within n text at)
+unfolding line_at spelling
 told_within zero text at le enough = absurd (omega arith)
 told_within (suc n) text at le enough = subst (Told text at) (sym (begun_by n text at (line_at text at) refl)) (by_lines (line_at text at) refl (told_within n text))
   where
@@ -256,18 +203,17 @@ told_within (suc n) text at le enough = subst (Told text at) (sym (begun_by n te
         → Told text at (line_said t.start r >>= λ s. statements_within n text t.end >>= λ more. Ok (listed s t.start t.end more))
     by_said t next behind (Ok s) e =
         let past = line_past text at t.start t.end le next in
-        line_told_on text at s t.start t.end (record { next = next; says = same_spelling text t ∙ e }) (statements_within n text t.end) (behind t.end past.1 (omega (arith, past.0)))
-    by_said t next behind (Err wrong) e = bad_line at (line_fault t.start wrong) (record { start = t.start; end = t.end; next = next; wrong = wrong; none = same_spelling text t ∙ e; is = refl })
+        line_told_on text at s t.start t.end (record { next = next; says = refl ∙ e }) (statements_within n text t.end) (behind t.end past.1 (omega (arith, past.0)))
+    by_said t next behind (Err wrong) e = bad_line at (line_fault t.start wrong) (record { start = t.start; end = t.end; next = next; wrong = wrong; none = refl ∙ e; is = refl })
 
     by_lines : (line : Option Token) → line_at text at ≡ line → ((end : ℕ) → end ≤ length text → length text - end < n → Told text end (statements_within n text end)) → Told text at (by_line n text at line)
     by_lines None plain behind = by_starts plain behind (first_start (collected text at).pieces) refl
-    by_lines (Some t) line behind = by_said t (a_line text at t line) behind (meta_line (spelling text t)) refl
+    by_lines (Some t) line behind = by_said t (line_found (next_token_of text at) t line) behind (meta_line (spelling text t)) refl
 
 -- ---- and back
 
 pub some_fuel : (n k : ℕ) → k < n → (m : ℕ) × (n ≡ suc m)
-some_fuel zero k lt = absurd (omega arith)
-some_fuel (suc n) k lt = (n, refl)
+some_fuel n k lt = (n - 1, omega (arith, lt))
 
 -- behind a statement, or a line, reading goes on
 record Step (text : List ℕ) (at n : ℕ) (s : Option Stmt) (start end : ℕ) : Type 0 where
@@ -291,11 +237,12 @@ statement_step text at n s start end le enough is =
     record { fuel = k.0; low = past.1; enough = omega (arith, past.0, k.1); same = ap (λ m. statements_within m text at) k.1 ∙ begun k.0 text at (Some start) plain is.first ∙ ap (with_others k.0 text start) read }
 
 line_step : (text : List ℕ) (at n : ℕ) (s : Option Stmt) (start end : ℕ) → at ≤ length text → length text - at < n → IsLine text at s start end → Step text at n s start end
+unfolding line_at
 line_step text at n s start end le enough is =
     let k = some_fuel n (length text - at) enough in
     let past = line_past text at start end le is.next in
     let says = ap (λ (r : Result (Option Stmt) Wrong). line_said start r >>= λ s. statements_within k.0 text end >>= λ more. Ok (listed s start end more)) is.says in
-    record { fuel = k.0; low = past.1; enough = omega (arith, past.0, k.1); same = ap (λ m. statements_within m text at) k.1 ∙ begun_by k.0 text at (Some (line_token start end)) (line_next text at start end is.next) ∙ says }
+    record { fuel = k.0; low = past.1; enough = omega (arith, past.0, k.1); same = ap (λ m. statements_within m text at) k.1 ∙ begun_by k.0 text at (Some (line_token start end)) (ap line_in is.next) ∙ says }
 
 abbrev going_on : Option Stmt → ℕ → ℕ → Result (List Located) DdlFault → Result (List Located) DdlFault
 going_on s start end r = r >>= λ more. Ok (listed s start end more)
@@ -307,9 +254,7 @@ reads_only text _ _ (all_read at first none) le n enough =
 reads_only text _ _ (one_read at s start end more is others) le n enough =
     let k = statement_step text at n s start end le enough is in
     k.same ∙ ap (going_on s start end) (reads_only text end more others k.low k.fuel k.enough)
-reads_only text _ _ (line_read at s start end more is others) le n enough =
-    let k = line_step text at n s start end le enough is in
-    k.same ∙ ap (going_on s start end) (reads_only text end more others k.low k.fuel k.enough)
+reads_only text _ _ (line_read at s start end more is others) le n enough = let k = line_step text at n s start end le enough is in k.same ∙ ap (going_on s start end) (reads_only text end more others k.low k.fuel k.enough)
 
 -- ---- where tokens stop
 
@@ -344,21 +289,18 @@ same_front [] (x ∷ b) r e = absurd (omega (arith, length-append (x ∷ b) r, a
 same_front (x ∷ a) [] r e = absurd (omega (arith, length-append (x ∷ a) r, ap (λ (ts : List Lexeme). length ts) e))
 same_front (x ∷ a) (y ∷ b) r e = ap (λ (ts : List Lexeme). x ∷ ts) (same_front a b r (ap behind_first e)) ∙ ap (λ (t : Lexeme). t ∷ b) (ap (first_or x) e)
 
-both_true : (a b : Bool) → (a ≡ true → b ≡ true) → (b ≡ true → a ≡ true) → a ≡ b
-both_true a b f g = grind arith
-
 -- tokens are stuck in one way
 stuck_once : (text : List ℕ) (at : ℕ) (f g : DdlFault) → IsStuck text at f → IsStuck text at g → f ≡ g
 stuck_once text at f g h k =
+    let both_true : (a b : Bool) → (a ≡ true → b ≡ true) → (b ≡ true → a ≡ true) → a ≡ b = λ a b f g. grind arith in
     let ends : Ends Spelled h.front h.rest = λ t behind is more s. h.none t behind is s.0 more s.1 in
     let ends' : Ends Spelled k.front k.rest = λ t behind is more s. k.none t behind is s.0 more s.1 in
     let rest = same_rest Spelled h.front k.front h.rest k.rest h.finished.1 k.finished.1 (sym h.tokens ∙ k.tokens) ends ends' (h.finished.0, h.finished.2) (k.finished.0, k.finished.2) in
     let front = same_front h.front k.front k.rest (ap (λ (r : List Lexeme). h.front ++ r) (sym rest) ∙ sym h.tokens ∙ k.tokens) in
     let there : h.long ≡ true → k.long ≡ true = λ e. k.too_long.1 (subst (λ (x : List Lexeme). IsLongThere x k.rest) front (subst (IsLongThere h.front) rest (h.too_long.0 e))) in
     let back : k.long ≡ true → h.long ≡ true = λ e. h.too_long.1 (subst (λ (x : List Lexeme). IsLongThere x h.rest) (sym front) (subst (IsLongThere k.front) (sym rest) (k.too_long.0 e))) in
-    let limit = length text in
     let fault = (collected text at).fault in
-    h.place ∙ ap (λ (long : Bool). fault_by limit fault long (start_of h.rest)) (both_true h.long k.long there back) ∙ ap (λ (r : List Lexeme). fault_by limit fault k.long (start_of r)) rest ∙ sym k.place
+    h.place ∙ ap (λ (long : Bool). fault_by (length text) fault long (start_of h.rest)) (both_true h.long k.long there back) ∙ ap (λ (r : List Lexeme). fault_by (length text) fault k.long (start_of r)) rest ∙ sym k.place
 
 not_stuck : (text : List ℕ) (at : ℕ) (fault : DdlFault) (s : Option Stmt) → IsStuck text at fault → statement.Spells s (lexemes text (collected text at).pieces) → ⊥
 not_stuck text at fault s h spells = by h.rest refl
@@ -367,30 +309,22 @@ not_stuck text at fault s h spells = by h.rest refl
     by [] is = h.short is s (subst (statement.Spells s) (h.tokens ∙ ap (λ (r : List Lexeme). h.front ++ r) is ∙ append-nil h.front) spells)
     by (t ∷ behind) is = h.none t behind is s behind (subst (statement.Spells s) (h.tokens ∙ ap (λ (r : List Lexeme). h.front ++ r) is) spells)
 
-abbrev failed : DdlFault → Result (Option Stmt) DdlFault
-failed fault = Err fault
-
 header_fails : (text : List ℕ) (at : ℕ) (fault : DdlFault) → at ≤ length text → IsStuck text at fault → header text at ≡ Err fault
 header_fails text at fault le h = by (header text at) refl
   where
     by : (r : Result (Option Stmt) DdlFault) → header text at ≡ r → r ≡ Err fault
     by (Ok s) e = absurd (not_stuck text at fault s h (spelled_whole text at le s e))
-    by (Err g) e = ap failed (stuck_once text at g fault (is_stuck text at g e) h)
+    by (Err g) e = ap (λ fault. Err fault) (stuck_once text at g fault (is_stuck text at g e) h)
 
 -- ---- a statement has a token
 
-reads_nothing : statement.read [] ≡ Err (record { long = false; rest = [] })
-unfolding statement command
-reads_nothing = refl
-
 some_first : (text : List ℕ) (s : Option Stmt) (ps : List Piece) → statement.Spells s (lexemes text ps) → (start : ℕ) × (first_start ps ≡ Some start)
-some_first text s [] spells = absurd (not_both (statement.read []) s (record { long = false; rest = [] }) (read_whole s [] spells) reads_nothing)
+unfolding statement command
+some_first text s [] spells = absurd (not_both (statement.read []) s (record { long = false; rest = [] }) (read_whole s [] spells) refl)
 some_first text s (p ∷ ps) spells = (p.token.start, refl)
 
-abbrev none_read : DdlFault → Result (List Located) DdlFault
-none_read fault = Err fault
-
 fails_only : (text : List ℕ) (at : ℕ) (fault : DdlFault) → FailsAt text at fault → at ≤ length text → (n : ℕ) → length text - at < n → statements_within n text at ≡ Err fault
+unfolding line_at
 fails_only text _ _ (no_token at fault first is) le n enough =
     let k = some_fuel n (length text - at) enough in
     ap (λ m. statements_within m text at) k.1 ∙ begun k.0 text at None (no_line_left text at first) first ∙ ap no_more is
@@ -401,21 +335,15 @@ fails_only text _ _ (stuck at start fault plain first h) le n enough =
 fails_only text _ _ (no_rows at fault h) le n enough =
     let k = some_fuel n (length text - at) enough in
     let end = (collected text at).end in
-    let plain = no_line_of text at h.header h.spells (line_at text at) refl in
     let first = some_first text h.header (collected text at).pieces h.spells in
     let read : parsed text at ≡ Err fault = ap (whole_of text end) (header_is text at h.header h.spells) ∙ h.none in
-    ap (λ m. statements_within m text at) k.1 ∙ begun k.0 text at (Some first.0) plain first.1 ∙ ap (with_others k.0 text first.0) read
+    ap (λ m. statements_within m text at) k.1 ∙ begun k.0 text at (Some first.0) (no_line_of text at h.header h.spells (line_at text at) refl) first.1 ∙ ap (with_others k.0 text first.0) read
 fails_only text _ _ (bad_line at fault h) le n enough =
     let k = some_fuel n (length text - at) enough in
-    let t = line_token h.start h.end in
     let said = ap (λ (r : Result (Option Stmt) Wrong). line_said h.start r >>= λ s. statements_within k.0 text h.end >>= λ more. Ok (listed s h.start h.end more)) h.none in
-    ap (λ m. statements_within m text at) k.1 ∙ begun_by k.0 text at (Some t) (line_next text at h.start h.end h.next) ∙ said ∙ ap none_read (sym h.is)
-fails_only text _ _ (later at s start end fault is others) le n enough =
-    let k = statement_step text at n s start end le enough is in
-    k.same ∙ ap (going_on s start end) (fails_only text end fault others k.low k.fuel k.enough)
-fails_only text _ _ (later_line at s start end fault is others) le n enough =
-    let k = line_step text at n s start end le enough is in
-    k.same ∙ ap (going_on s start end) (fails_only text end fault others k.low k.fuel k.enough)
+    ap (λ m. statements_within m text at) k.1 ∙ begun_by k.0 text at (Some (line_token h.start h.end)) (ap line_in h.next) ∙ said ∙ ap (λ fault. Err fault) (sym h.is)
+fails_only text _ _ (later at s start end fault is others) le n enough = let k = statement_step text at n s start end le enough is in k.same ∙ ap (going_on s start end) (fails_only text end fault others k.low k.fuel k.enough)
+fails_only text _ _ (later_line at s start end fault is others) le n enough = let k = line_step text at n s start end le enough is in k.same ∙ ap (going_on s start end) (fails_only text end fault others k.low k.fuel k.enough)
 
 -- ---- whole texts
 

@@ -16,25 +16,19 @@ first_and_more [] is = absurd is
 first_and_more (n ∷ ns) is = ((n, ns), is, refl)
 
 abbrev pub in_brackets_as : {g : List ℕ} → Gap g → Written (is_sign 40 ▸ (seen names_of (name then further) ◂ is_sign 41))
-in_brackets_as gap =
-    lead_as (opening_as gap) (close_as (shown_as names_of (then_as (name_as none) further_as refl) AreColumns first_and_more (λ x is. is)) (closing_as none) refl) refl
+in_brackets_as gap = lead_as (opening_as gap) (close_as (shown_as names_of (then_as (name_as none) further_as refl) AreColumns first_and_more (λ x is. is)) (closing_as none) refl) refl
 
-abbrev pub in_line : List ℕ → List ℕ
-in_line n = codes ", " ++ written_name n
-
-pub more_is : (ns : List (List ℕ)) (all : AllByRecursion IsName ns) → joined (further_as.pieces ns all) ≡ flat_map in_line ns
+pub more_is : (ns : List (List ℕ)) (all : AllByRecursion IsName ns) → joined (further_as.pieces ns all) ≡ flat_map (λ n. codes ", " ++ written_name n) ns
 more_is [] all = refl
-more_is (n ∷ ns) all = ap (λ (x : List ℕ). in_line n ++ x) (more_is ns all.1)
-
-pub columns_regrouped : (g o n w c : List ℕ) → (g ++ o) ++ (n ++ (w ++ c)) ≡ g ++ ((((o ++ n) ++ w) ++ c) ++ [])
-columns_regrouped g o n w c = simp (append_assoc, append-nil)
+more_is (n ∷ ns) all = ap (λ (x : List ℕ). (codes ", " ++ written_name n) ++ x) (more_is ns all.1)
 
 pub listed_is : {g : List ℕ} (gap : Gap g) (ns : List (List ℕ)) (is : AreColumns ns) → joined ((in_brackets_as gap).pieces ns is) ≡ g ++ (listed ns ++ [])
 unfolding listed
 listed_is {g} gap [] is = absurd is
 listed_is {g} gap (n ∷ ns) is =
+    let columns_regrouped : (g o n w c : List ℕ) → (g ++ o) ++ (n ++ (w ++ c)) ≡ g ++ ((((o ++ n) ++ w) ++ c) ++ []) = λ g o n w c. simp (append_assoc, append-nil) in
     ap (λ (x : List ℕ). (g ++ 40 ∷ []) ++ (written_name n ++ x)) (joined-append (further_as.pieces ns is.1) ((41 ∷ []) ∷ []) ∙ ap (λ (x : List ℕ). x ++ 41 ∷ []) (more_is ns is.1))
-    ∙ columns_regrouped g (40 ∷ []) (written_name n) (flat_map in_line ns) (41 ∷ [])
+    ∙ columns_regrouped g (40 ∷ []) (written_name n) (flat_map (λ n. codes ", " ++ written_name n) ns) (41 ∷ [])
 
 unfoldable pub columns_as : {g : List ℕ} → Gap g → Written columns
 unfolding columns
@@ -82,12 +76,10 @@ unfoldable pub new_owner_as : Written new_owner
 unfolding new_owner is_key
 new_owner_as = word_then (codes "OWNER") refl (word_then (codes "TO") refl (end_as (name_as space) refl) refl) refl
 
-pub check_regrouped : (g c n k v z : List ℕ) → g ++ (c ++ (n ++ (k ++ (v ++ z)))) ≡ g ++ (((((c ++ n) ++ k) ++ v) ++ z) ++ [])
-check_regrouped g c n k v z = simp (append_assoc, append-nil)
-
 unfoldable pub named_check_as : {g : List ℕ} → Gap g → Written named_check
 unfolding named_check is_key expression_as check_text
 named_check_as {g} gap =
+    let check_regrouped : (g c n k v z : List ℕ) → g ++ (c ++ (n ++ (k ++ (v ++ z)))) ≡ g ++ (((((c ++ n) ++ k) ++ v) ++ z) ++ []) = λ g c n k v z. simp (append_assoc, append-nil) in
     let bracket = lead_as (opening_as space) (close_as (expression_as none) (closing_as none) refl) refl in
     pieces_as (shown_as check_of (lead_as (word_as gap (codes "CONSTRAINT") refl) (then_as (name_as space) (word_then (codes "CHECK") refl bracket refl) refl) refl) IsCheck (λ c is. ((c.name, c.text), is, refl)) (λ x is. is))
     (λ c is. g ∷ check_text c.name c.text ∷ []) (λ c is. check_regrouped g (codes "CONSTRAINT ") (written_name c.name) (codes " CHECK (") c.text (codes ")"))
@@ -95,8 +87,7 @@ named_check_as {g} gap =
 unfoldable pub altered_domain_as : Kinds IsWritable altered_domain
 unfolding altered_domain domain_change new_check is_key new_owner_as named_check_as
 altered_domain_as =
-    let check : Written new_check = lead_as (word_as indented (codes "ADD") refl) (end_as (named_check_as space) refl) refl in
-    let change : Written domain_change = choose_as (seen_as its_owner new_owner_as) (seen_as one_more_check check) in
+    let change : Written domain_change = choose_as (seen_as its_owner new_owner_as) (seen_as one_more_check (lead_as (word_as indented (codes "ADD") refl) (end_as (named_check_as space) refl) refl)) in
     kind_as (λ x. domain_changed x.0 x.1) (then_as (path_as space) change refl)
     (λ x h. elim h.1 [ inl o ↦ subst (λ c. IsWritable (domain_changed x.0 c)) o.2 (h.0, o.1) | inr o ↦ subst (λ c. IsWritable (domain_changed x.0 c)) o.2 (h.0, o.1.0, o.1.1) ])
 
@@ -104,8 +95,7 @@ unfoldable pub altered_sequence_as : Kinds IsWritable altered_sequence
 unfolding altered_sequence sequence_change owned_by is_key new_owner_as
 altered_sequence_as =
     let column : Written owned_by = word_then (codes "OWNED") refl (word_then (codes "BY") refl (then_as (path_as space) (lead_as dot_as (end_as (name_as none) refl) refl) refl) refl) refl in
-    let change : Written sequence_change = choose_as (seen_as its_role new_owner_as) (seen_as its_column column) in
-    kind_as (λ x. sequence_changed x.0 x.1) (then_as (path_as space) change refl)
+    kind_as (λ x. sequence_changed x.0 x.1) (then_as (path_as space) (choose_as (seen_as its_role new_owner_as) (seen_as its_column column)) refl)
     (λ x h. elim h.1 [ inl o ↦ subst (λ c. IsWritable (sequence_changed x.0 c)) o.2 (h.0, o.1) | inr o ↦ subst (λ c. IsWritable (sequence_changed x.0 c)) o.2 (h.0, o.1.0, o.1.1) ])
 
 -- ---- settings and calls
@@ -119,8 +109,7 @@ setting_as =
 unfoldable pub set_config_as : Kinds IsWritable set_config
 unfolding set_config is_key
 set_config_as =
-    let falsely = close_as (close_as (literal_as space) comma_as refl) (word_as space (codes "false") refl) refl in
-    let value = end_as (close_as falsely (closing_as none) refl) refl in
+    let value = end_as (close_as (close_as (close_as (literal_as space) comma_as refl) (word_as space (codes "false") refl) refl) (closing_as none) refl) refl in
     kind_as (λ x. stmt.SetConfig x.0 x.1) (lead_as (opening_as none) (then_as (literal_as none) (lead_as comma_as value refl) refl) refl) (λ x is. is)
 
 unfoldable pub set_value_as : Kinds IsWritable set_value
@@ -168,21 +157,14 @@ unfolding bracketed expression
 bracket_made v ts r came spells =
     let e = spells.1 in
     let h = run_read (nested false false) (nested_plain false false) ts r came e.2.1 in
-    let w = source ts in
-    subst IsBracketText (ap source (sym e.2.0) ∙ sym e.1) (h.text, same_start 40 (lexemes w (collected w 0).pieces) ts h.same spells.0)
-
-unfoldable pub bracketed_as : Written bracketed
-bracketed_as = leaf_as IsBracketText IsBracketText (32 ∷ []) (λ v is. v) Safe (λ v is others. bracket_put v others is) bracket_made
-
-abbrev pub IsIndex : Index → Type 0
-IsIndex i = IsName i.name × (IsPath i.table × (IsName i.method × IsBracketText i.rest))
+    subst IsBracketText (ap source (sym e.2.0) ∙ sym e.1) (h.text, same_start 40 (lexemes (source ts) (collected (source ts) 0).pieces) ts h.same spells.0)
 
 unfoldable pub index_parts_as : Written index_parts
-unfolding index_body is_key bracketed_as
+unfolding index_body is_key
 index_parts_as =
-    let method = then_as (name_as space) bracketed_as refl in
+    let method = then_as (name_as space) (leaf_as IsBracketText IsBracketText (32 ∷ []) (λ v is. v) Safe (λ v is others. bracket_put v others is) bracket_made) refl in
     let parts = then_as (name_as space) (word_then (codes "ON") refl (then_as (path_as space) (word_then (codes "USING") refl method refl) refl) refl) refl in
-    end_as (shown_as index_made parts IsIndex (λ i is. ((i.name, (i.table, (i.method, i.rest))), is, refl)) (λ x is. is)) refl
+    end_as (shown_as index_made parts (λ i. IsName i.name × (IsPath i.table × (IsName i.method × IsBracketText i.rest))) (λ i is. ((i.name, (i.table, (i.method, i.rest))), is, refl)) (λ x is. is)) refl
 
 -- ---- COPY
 
@@ -232,8 +214,7 @@ unfolding own_change added new_default is_key constraint_body_as default_as
 own_change_as =
     let constraint : Written (constraint_body) = is_as constraint_body_as.written IsConstraint constraint_body_as.is in
     let add = kind_as added_of (word_then (codes "CONSTRAINT") refl (then_as (name_as space) (end_as constraint refl) refl) refl) (λ x is. is) in
-    let value = word_then (codes "SET") refl (word_then (codes "DEFAULT") refl (end_as default_as refl) refl) refl in
-    let alter = kind_as default_of (word_then (codes "COLUMN") refl (then_as (name_as space) value refl) refl) (λ x is. is) in
+    let alter = kind_as default_of (word_then (codes "COLUMN") refl (then_as (name_as space) (word_then (codes "SET") refl (word_then (codes "DEFAULT") refl (end_as default_as refl) refl) refl) refl) refl) (λ x is. is) in
     or_as (led_as (word_as indented (codes "ADD") refl) add refl) (led_as (word_as space (codes "ALTER") refl) alter refl)
 
 unfoldable pub table_change_as : Kinds IsChange table_change
@@ -250,20 +231,13 @@ change_is q (Added n (ForeignKey ns parent theirs rest)) named is = (named, is.0
 
 -- ---- the table
 
-abbrev pub name_is : List ℕ → Result (List ℕ) Bool
-name_is n = Ok n
-
 -- what a token means by its kind and its word
 abbrev pub only_by : TokenKind → List ℕ → Result (List ℕ) Bool
 only_by k w = cond (is_keyword_of k w (codes "only")) (name_in (name_of k w)) (Err false)
 
-pub only_is_read : only_by Word (codes "ONLY") ≡ Ok (codes "only")
-unfolding is_keyword_of name_in name_of is_utf8 chars encode
-only_is_read = refl
-
 pub only_says : (n : List ℕ) → n ≡ codes "only" → Says only_value (codes "ONLY") n
-unfolding is_bare_word only_value is_word name_value
-only_says n is = (refl, λ t kind word. ap (λ (k : TokenKind). only_by k t.word) kind ∙ ap (only_by Word) word ∙ only_is_read ∙ ap name_is (sym is))
+unfolding is_bare_word only_value is_word name_value is_keyword_of name_in name_of is_utf8 chars encode
+only_says n is = (refl, λ t kind word. ap (λ (k : TokenKind). only_by k t.word) kind ∙ ap (only_by Word) word ∙ refl ∙ ap (λ n. Ok n) (sym is))
 
 -- the bare word ONLY
 abbrev pub only_name_as : Written only_name

@@ -12,10 +12,6 @@ use Rattle.cat_model.specs.declared.stmt.Stmt.TheVariants as stmt
 abbrev pub connect_line : List ℕ → List ℕ
 connect_line n = codes "\\connect " ++ written_name n
 
-pub connect_is : (n : List ℕ) → connect_text n ≡ connect_line n ++ 10 ∷ []
-unfolding connect_text
-connect_is n = ap (λ (x : List ℕ). codes "\\connect " ++ x) refl
-
 -- ---- the name behind the command
 
 abbrev behind_space : List ℕ → List ℕ
@@ -40,33 +36,24 @@ piece n = record { from = 0; token = name_at n }
 abbrev by_sign : List ℕ → Bool → Collected
 by_sign n b = preceded (piece n) (cond b (nothing_more (name_at n).end None) (collected_within (length (behind_space n)) (behind_space n) (name_at n).end))
 
-nothing_behind : (text : List ℕ) (n : ℕ) → (collected_within (suc n) text (length text)).pieces ≡ []
-unfolding collected_within
-nothing_behind text n = ap (λ (r : Result (Option Token) LexFault). (collected_by (collected_within n text) (length text) r).pieces) (next_at_end text (length text) refl)
-
 one_piece : (n : List ℕ) → IsUtf8 n → (collected (behind_space n) 0).pieces ≡ piece n ∷ []
+unfolding collected_within
 one_piece n utf8 =
+    let nothing_behind : (text : List ℕ) (n : ℕ) → (collected_within (suc n) text (length text)).pieces ≡ [] =
+    λ text n. ap (λ (r : Result (Option Token) LexFault). (collected_by (collected_within n text) (length text) r).pieces) (next_at_end text (length text) refl) in
     let text = behind_space n in
-    let is : collected text 0 ≡ by_sign n (is_sign_kind 59 (written_kind n)) = collected_first text 0 ∙ ap (collected_by (collected_within (length text) text) 0) (name_next n utf8).0 in
-    ap (λ (c : Collected). c.pieces) (is ∙ ap (by_sign n) (name_no_sign 59 n))
+    ap (λ (c : Collected). c.pieces) ((collected_first text 0 ∙ ap (collected_by (collected_within (length text) text) 0) (name_next n utf8).0) ∙ ap (by_sign n) (name_no_sign 59 n))
     ∙ ap (λ k. piece n ∷ (collected_within (length text) text k).pieces) (let one : 1 + length (written_name n) ≡ length text = omega arith in one) ∙ ap (λ (ps : List Piece). piece n ∷ ps) (nothing_behind text (length (written_name n)))
 
-alone : (n : List ℕ) → stands_alone (behind_space n) (piece n) ≡ true
-unfolding stands_alone is_blank
-alone n = ap (λ (x : List ℕ). list_all is_blank x) (drop_all (1 + length (written_name n)) (behind_space n) (omega arith))
-
 name_found : (len : ℕ) (n : List ℕ) → IsName n → name_alone len (behind_space n) ≡ Ok n
-unfolding name_alone is_name
+unfolding name_alone is_name stands_alone is_blank
 name_found len n is =
+    let alone : (n : List ℕ) → stands_alone (behind_space n) (piece n) ≡ true = λ n. ap (λ (x : List ℕ). list_all is_blank x) (drop_all (1 + length (written_name n)) (behind_space n) (omega arith)) in
     let t = lexeme_of (behind_space n) (piece n) in
     let means = name_means n is t refl (name_next n is.utf8).1 in
     ap (one_name len (behind_space n)) (one_piece n is.utf8)
     ∙ ap (λ (b : Bool). cond b (named (len + 1) (name_value t)) unknown) (and_from (stands_alone (behind_space n) (piece n)) (is_name_kind t.kind) (alone n) (name_begins n (t ∷ []) (t, refl, means)))
     ∙ ap (named (len + 1)) means
-
-pub line_says : (n : List ℕ) → IsName n → meta_line (connect_line n) ≡ Ok (Some (stmt.Connect n))
-unfolding meta_line command_len said_by is_blank
-line_says n is = ap connected (name_found 8 n is)
 
 -- ---- the line as a token
 
@@ -81,14 +68,6 @@ in_one_line q (b ∷ n) mark all =
       | inr isnt ↦ rw isnt (and_from (in_line b) (list_all in_line (doubled q n)) parts.0 more)
     ]
 
-name_in_line : (n : List ℕ) → list_all in_line n ≡ true → list_all in_line (written_name n) ≡ true
-unfolding written_name quoted in_line
-name_in_line n all = grind (arith, and_from, list_all-append, in_one_line)
-
-words_utf8 : IsUtf8 (codes "\\connect ")
-unfolding is_utf8 chars encode
-words_utf8 = IsUtf8-from_is_utf8 (codes "\\connect ") refl
-
 -- a place where a line begins: the text begins there, or a line feed stands before it
 abbrev pub IsFresh : List ℕ → Type 0
 IsFresh front = (front ≡ []) ⊎ ((before : List ℕ) × (front ≡ before ++ 10 ∷ []))
@@ -97,11 +76,9 @@ fresh_begins : (front rest : List ℕ) → IsFresh front → begins_line (front 
 unfolding begins_line
 fresh_begins front rest (inl is) = rw is refl
 fresh_begins front rest (inr h) =
-    let len : length front ≡ length h.0 + 1 = ap (λ (x : List ℕ). length x) h.1 ∙ length-append h.0 (10 ∷ []) in
-    let less : length front - 1 ≡ length h.0 = omega (arith, len) in
+    let less : length front - 1 ≡ length h.0 = omega (arith, (ap (λ (x : List ℕ). length x) h.1 ∙ length-append h.0 (10 ∷ []))) in
     let whole : front ++ rest ≡ h.0 ++ 10 ∷ rest = ap (λ (x : List ℕ). x ++ rest) h.1 ∙ append_assoc h.0 (10 ∷ []) rest in
-    let byte : slice_index (front ++ rest) (length front - 1) ≡ 10 = ap (λ n. slice_index (front ++ rest) n) less ∙ ap (λ (x : List ℕ). slice_index x (length h.0)) whole ∙ index_at h.0 10 rest in
-    rw byte (or_right (length front == 0) true refl)
+    rw (ap (λ n. slice_index (front ++ rest) n) less ∙ ap (λ (x : List ℕ). slice_index x (length h.0)) whole ∙ index_at h.0 10 rest) (or_right (length front == 0) true refl)
   where
     index_at : (before : List ℕ) (b : ℕ) (rest : List ℕ) → slice_index (before ++ b ∷ rest) (length before) ≡ b
     index_at [] b rest = refl
@@ -109,13 +86,13 @@ fresh_begins front rest (inr h) =
 
 pub line_stands : (front g n rest : List ℕ) → Gap g → IsFresh (front ++ g) → IsName n → list_all in_line n ≡ true
     → IsLine (front ++ (g ++ (connect_line n ++ 10 ∷ rest))) (length front) (Some (stmt.Connect n)) (length front + length g) (length front + length g + length (connect_line n))
-unfolding goes_on next_is in_line is_blank
+unfolding goes_on next_is in_line is_blank meta_line command_len said_by written_name quoted is_utf8 chars encode
 line_stands front g n rest gap fresh is plain =
     let line = connect_line n in
     let text = front ++ (g ++ (line ++ 10 ∷ rest)) in
     let whole : text ≡ (front ++ g) ++ (line ++ 10 ∷ rest) = sym (append_assoc front g (line ++ 10 ∷ rest)) in
-    let spells : IsMetaLine line = (_, name_line n (name_in_line n plain), refl) in
-    let utf8 = is_utf8-from_IsUtf8 line (IsUtf8-append (codes "\\connect ") (written_name n) words_utf8 (name_utf8 n is)) in
+    let spells : IsMetaLine line = (_, name_line n (grind (arith, and_from, list_all-append, in_one_line)), refl) in
+    let utf8 = is_utf8-from_IsUtf8 line (IsUtf8-append (codes "\\connect ") (written_name n) (IsUtf8-from_is_utf8 (codes "\\connect ") refl) (name_utf8 n is)) in
     let there = spelling_is_read (front ++ g) line (10 ∷ rest) MetaLine spells refl utf8 (λ e. fresh_begins (front ++ g) (line ++ 10 ∷ rest) fresh) in
     let place : length (front ++ g) ≡ length front + length g = length-append front g in
     let passed : next_token_of text (length front) ≡ next_token_of text (length front + length g) =
@@ -124,7 +101,7 @@ line_stands front g n rest gap fresh is plain =
     subst (λ (x : List ℕ). next_token_of x (length front + length g) ≡ Ok (Some (token_at MetaLine (length front + length g) line))) (sym whole) (subst (λ k. next_token_of ((front ++ g) ++ (line ++ 10 ∷ rest)) k ≡ Ok (Some (token_at MetaLine k line))) place there.found) in
     let same : token_text text (token_at MetaLine (length front + length g) line) ≡ line =
     subst (λ (x : List ℕ). token_text x (token_at MetaLine (length front + length g) line) ≡ line) (sym whole) (subst (λ k. token_text ((front ++ g) ++ (line ++ 10 ∷ rest)) (token_at MetaLine k line) ≡ line) place there.spelled) in
-    record { next = passed ∙ found; says = ap meta_line same ∙ line_says n is }
+    record { next = passed ∙ found; says = ap meta_line same ∙ ap connected (name_found 8 n is) }
   where
     name_line : (n : List ℕ) → list_all in_line (written_name n) ≡ true → list_all in_line (codes "connect " ++ written_name n) ≡ true
     name_line n e = e
@@ -142,11 +119,10 @@ pub record IsLaidOut (g : List ℕ) (s : Stmt) (text : List ℕ) : Type 0 where
 pub laid_out : {g : List ℕ} (gap : Gap g) (s : Stmt) (text : List ℕ) → IsSpelled gap s text → IsLaidOut g s text
 unfolding statement_as
 laid_out gap s text is =
-    let pieces = (command_as gap).written.pieces s is.0 in
     let k = (statement_as gap).put (Some s) (inr (s, is.0, refl)) [] nothing_follows refl in
     record {
       tokens = k.tokens;
-      bytes = ap (λ (x : List ℕ). x ++ 10 ∷ []) k.bytes ∙ (sym (joined-append pieces ((10 ∷ []) ∷ [])) ∙ is.1);
+      bytes = ap (λ (x : List ℕ). x ++ 10 ∷ []) k.bytes ∙ (sym (joined-append ((command_as gap).written.pieces s is.0) ((10 ∷ []) ∷ [])) ∙ is.1);
       stood = subst Stood (append-nil k.tokens) k.stood;
       says = k.spells;
       last = ap (only_last semicolon) (sym (append-nil k.tokens)) ∙ k.last;
@@ -159,16 +135,13 @@ pub data Lies (g : List ℕ) : Stmt → List ℕ → Type 0 where
   by_line : (n : List ℕ) → IsName n → list_all in_line n ≡ true → Lies g (stmt.Connect n) (connect_line n ++ 10 ∷ [])
 
 pub can_be_written : {g : List ℕ} (gap : Gap g) (s : Stmt) → IsWritable s → Lies g s (spelling s)
-unfolding spelling
+unfolding spelling connect_text
 can_be_written {g} gap (stmt.CopyRows q columns rows) is =
     subst (Lies g (stmt.CopyRows q columns rows)) (sym (copy_is q columns rows)) (by_rows q columns rows (laid_out gap (stmt.CopyRows q columns []) (copy_head q columns) (copy_spelled gap q columns rows is)) is.2)
-can_be_written {g} gap (stmt.Connect n) is = subst (Lies g (stmt.Connect n)) (sym (connect_is n)) (by_line n is.0 is.1)
+can_be_written {g} gap (stmt.Connect n) is = subst (Lies g (stmt.Connect n)) (sym (ap (λ (x : List ℕ). codes "\\connect " ++ x) refl)) (by_line n is.0 is.1)
 can_be_written gap s is = by_tokens s (spelling s) (laid_out gap s (spelling s) (spelled_so gap s tt is)) (λ t end. refl)
 
 -- ---- where nothing is left
-
-none_collected : (text : List ℕ) (at : ℕ) → next_token_of text at ≡ Ok None → (first_start (collected text at).pieces ≡ None) × ((collected text at).fault ≡ None)
-none_collected text at e = grind (arith, collected_first)
 
 no_token : (front g : List ℕ) → Gap g → next_token_of (front ++ g) (length front) ≡ Ok None
 no_token front g gap =
@@ -177,9 +150,6 @@ no_token front g gap =
     over ∙ next_at_end (front ++ g) (length front + length g) (sym (length-append front g))
 
 -- ---- one after another
-
-first_is : (text : List ℕ) (ps : List Piece) → start_of (lexemes text ps) ≡ first_start ps
-first_is text ps = grind arith
 
 ends_placed : (at : ℕ) (ts : List Lexeme) → ends_with semicolon (placed at ts) ≡ ends_with semicolon ts
 unfolding is_sign
@@ -200,18 +170,6 @@ pub record ReadsAs (text : List ℕ) (at : ℕ) (statements : List Stmt) : Type 
 abbrev ends_at : Option Stmt → ℕ → Result Whole DdlFault
 ends_at s n = Ok (whole s n)
 
-abbrev copied_to : List ℕ → ℕ → Result Copied ℕ
-copied_to rows n = Ok (record { rows = rows; end = n })
-
-head_behind : (head rows mark feed rest : List ℕ) → (head ++ (rows ++ (mark ++ feed))) ++ rest ≡ head ++ (rows ++ (mark ++ (feed ++ rest)))
-head_behind head rows mark feed rest = simp append_assoc
-
-front_behind : (head rows mark : List ℕ) (b : ℕ) (rest : List ℕ) → head ++ (10 ∷ (rows ++ (mark ++ (b ∷ rest)))) ≡ (head ++ (10 ∷ (rows ++ (mark ++ b ∷ [])))) ++ rest
-front_behind head rows mark b rest = simp append_assoc
-
-fresh_behind : (head rows mark : List ℕ) (b : ℕ) → (head ++ (10 ∷ (rows ++ (mark ++ b ∷ [])))) ++ [] ≡ (head ++ (10 ∷ (rows ++ mark))) ++ b ∷ []
-fresh_behind head rows mark b = simp (append_assoc, append-nil)
-
 -- what is read of the text behind a statement
 abbrev ReadsRest : List ℕ → List ℕ → List Stmt → Type 0
 ReadsRest text rest more = (front g : List ℕ) → Gap g → IsFresh (front ++ g) → text ≡ front ++ (g ++ rest) → ReadsAs text (length front) more
@@ -230,7 +188,7 @@ tokens_collected text front rest ts s e stood last says =
     let first = some_first semicolon (length front) ts ends in
     record {
       start = first.0;
-      first = sym (first_is text (collected text (length front)).pieces) ∙ ap start_of k.tokens ∙ first.1;
+      first = sym (grind arith) ∙ ap start_of k.tokens ∙ first.1;
       spells = subst (λ (us : List Lexeme). statement.Spells (Some s) us) (sym k.tokens) (says (length front));
       place = k.end ∙ sym (length-append front (spelled ts));
     }
@@ -241,18 +199,16 @@ regrouped g text rest tokens bytes = sym (append_assoc g text rest) ∙ ap (λ (
 one_as : (text : List ℕ) (at : ℕ) (s : Stmt) (start end : ℕ) (more : List Stmt) → IsStatement text at (Some s) start end → ReadsAs text end more → ReadsAs text at (s ∷ more)
 one_as text at s start end more is others = record { found = listed (Some s) start end others.found; reads = one_read at (Some s) start end others.found is others.reads; same = ap (λ (x : List Stmt). s ∷ x) others.same }
 
-tokens_read : (text front g : List ℕ) (s : Stmt) (words : List ℕ) (more : List Stmt) (rest : List ℕ) → (l : IsLaidOut g s words) → ((t : List ℕ) (end : ℕ) → completed t end (Some s) ≡ Ok (whole (Some s) end)) → text ≡ front ++ (g ++ (words ++ rest)) → ReadsRest text rest more → ReadsAs text (length front) (s ∷ more)
-tokens_read text front g s words more rest l complete e later =
+one_statement : (text front g : List ℕ) (s : Stmt) (words : List ℕ) (more : List Stmt) (rest : List ℕ) → Gap g → IsFresh (front ++ g) → Lies g s words → text ≡ front ++ (g ++ (words ++ rest)) → ReadsRest text rest more → ReadsAs text (length front) (s ∷ more)
+one_statement text front g _ _ more rest gap fresh (by_tokens s words l complete) e later =
     let e' : text ≡ front ++ (spelled l.tokens ++ (10 ∷ rest)) = e ∙ ap (λ (x : List ℕ). front ++ x) (regrouped g words rest (spelled l.tokens) l.bytes) in
     let k = tokens_collected text front rest l.tokens s e' l.stood l.last l.says in
     let front' = front ++ spelled l.tokens in
     let others = later front' (10 ∷ []) newline (inr (front', refl)) (e' ∙ sym (append_assoc front (spelled l.tokens) (10 ∷ rest))) in
     let all = complete text (collected text (length front)).end ∙ ap (λ n. ends_at (Some s) n) k.place in
     one_as text (length front) s k.start (length front') more (record { first = k.first; header = Some s; spells = k.spells; all = all }) others
-
-rows_read : (text front g : List ℕ) (q : QName) (columns : List (List ℕ)) (rows : List ℕ) (more : List Stmt) (rest : List ℕ) → IsLaidOut g (stmt.CopyRows q columns []) (copy_head q columns) → AreRows rows
-    → text ≡ front ++ (g ++ ((copy_head q columns ++ (rows ++ (end_mark ++ line_feed ∷ []))) ++ rest)) → ReadsRest text rest more → ReadsAs text (length front) (stmt.CopyRows q columns rows ∷ more)
-rows_read text front g q columns rows more rest l are e later =
+one_statement text front g _ _ more rest gap fresh (by_rows q columns rows l are) e later =
+    let head_behind : (head rows mark feed rest : List ℕ) → (head ++ (rows ++ (mark ++ feed))) ++ rest ≡ head ++ (rows ++ (mark ++ (feed ++ rest))) = λ head rows mark feed rest. simp append_assoc in
     let s = stmt.CopyRows q columns rows in
     let behind = rows ++ (end_mark ++ (line_feed ∷ rest)) in
     let e' : text ≡ front ++ (spelled l.tokens ++ (10 ∷ behind)) =
@@ -261,37 +217,28 @@ rows_read text front g q columns rows more rest l are e later =
     let head = front ++ spelled l.tokens in
     let text_is : text ≡ head ++ (10 ∷ behind) = e' ∙ sym (append_assoc front (spelled l.tokens) (10 ∷ behind)) in
     let front' = head ++ (10 ∷ (rows ++ (end_mark ++ line_feed ∷ []))) in
-    let there : text ≡ front' ++ ([] ++ rest) = text_is ∙ front_behind head rows end_mark line_feed rest in
-    let others = later front' [] none (inr (head ++ (10 ∷ (rows ++ end_mark)), fresh_behind head rows end_mark line_feed)) there in
+    let others = later front' [] none (inr (head ++ (10 ∷ (rows ++ end_mark)), simp (append_assoc, append-nil))) (text_is ∙ (simp append_assoc)) in
     let place : length head + 1 + length rows + 3 ≡ length front' = omega (arith, length-append head (10 ∷ (rows ++ (end_mark ++ line_feed ∷ []))), length-append rows (end_mark ++ line_feed ∷ [])) in
     let found : rows_behind text (collected text (length front)).end ≡ Ok (record { rows = rows; end = length front' }) =
-    ap (rows_behind text) k.place ∙ ap (λ (x : List ℕ). rows_behind x (length head)) text_is ∙ rows_read_back head rows rest are ∙ ap (λ n. copied_to rows n) place in
+    ap (rows_behind text) k.place ∙ ap (λ (x : List ℕ). rows_behind x (length head)) text_is ∙ rows_read_back head rows rest are ∙ ap (λ n. Ok (record { rows = rows; end = n })) place in
     one_as text (length front) s k.start (length front') more (record { first = k.first; header = Some (stmt.CopyRows q columns []); spells = k.spells; all = ap (with_rows q columns) found }) others
-
-line_behind : (text front g : List ℕ) (n : List ℕ) (more : List Stmt) (rest : List ℕ) → Gap g → IsFresh (front ++ g) → IsName n → list_all in_line n ≡ true → text ≡ front ++ (g ++ ((connect_line n ++ 10 ∷ []) ++ rest)) → ReadsRest text rest more → ReadsAs text (length front) (stmt.Connect n ∷ more)
-line_behind text front g n more rest gap fresh is plain e later =
+one_statement text front g _ _ more rest gap fresh (by_line n is plain) e later =
     let s = stmt.Connect n in
     let line = connect_line n in
     let e' : text ≡ front ++ (g ++ (line ++ 10 ∷ rest)) = e ∙ ap (λ (x : List ℕ). front ++ (g ++ x)) (append_assoc line (10 ∷ []) rest) in
-    let front' = front ++ (g ++ line) in
-    let there : text ≡ front' ++ ((10 ∷ []) ++ rest) = e' ∙ both_behind front g line (10 ∷ rest) in
-    let place : length front + length g + length line ≡ length front' = omega (arith, length-append front (g ++ line), length-append g line) in
     let l = subst (λ (x : List ℕ). IsLine x (length front) (Some s) (length front + length g) (length front + length g + length line)) (sym e') (line_stands front g n rest gap fresh is plain) in
-    let others = later front' (10 ∷ []) newline (inr (front', refl)) there in
-    let reads = subst (λ k. Reads text k others.found) (sym place) others.reads in
+    let others = later (front ++ (g ++ line)) (10 ∷ []) newline (inr ((front ++ (g ++ line)), refl)) (e' ∙ both_behind front g line (10 ∷ rest)) in
+    let reads = subst (λ k. Reads text k others.found) (sym (omega (arith, length-append front (g ++ line), length-append g line))) others.reads in
     record {
       found = listed (Some s) (length front + length g) (length front + length g + length line) others.found;
       reads = line_read (length front) (Some s) (length front + length g) (length front + length g + length line) others.found l reads;
       same = ap (λ (x : List Stmt). s ∷ x) others.same;
     }
 
-one_statement : (text front g : List ℕ) (s : Stmt) (words : List ℕ) (more : List Stmt) (rest : List ℕ) → Gap g → IsFresh (front ++ g) → Lies g s words → text ≡ front ++ (g ++ (words ++ rest)) → ReadsRest text rest more → ReadsAs text (length front) (s ∷ more)
-one_statement text front g _ _ more rest gap fresh (by_tokens s words l complete) e later = tokens_read text front g s words more rest l complete e later
-one_statement text front g _ _ more rest gap fresh (by_rows q columns rows l are) e later = rows_read text front g q columns rows more rest l are e later
-one_statement text front g _ _ more rest gap fresh (by_line n is plain) e later = line_behind text front g n more rest gap fresh is plain e later
-
 none_left : (text : List ℕ) (at : ℕ) → next_token_of text at ≡ Ok None → ReadsAs text at []
-none_left text at e = let h = none_collected text at e in record { found = []; reads = all_read at h.0 h.1; same = refl }
+none_left text at e =
+    let none_collected : (text : List ℕ) (at : ℕ) → next_token_of text at ≡ Ok None → (first_start (collected text at).pieces ≡ None) × ((collected text at).fault ≡ None) = λ text at e. grind (arith, collected_first) in
+    let h = none_collected text at e in record { found = []; reads = all_read at h.0 h.1; same = refl }
 
 -- statements with empty lines and comments between them
 pub laid_read : (text front g rest : List ℕ) (statements : List Stmt) → Gap g → IsFresh (front ++ g) → Lays rest statements → text ≡ front ++ (g ++ rest) → ReadsAs text (length front) statements
@@ -300,8 +247,7 @@ laid_read text front g _ _ gap fresh (empty_line rest statements lays) is =
     laid_read text front (g ++ 10 ∷ []) rest statements (passed (g ++ 10 ∷ []) (both_passed g (10 ∷ []) (passes g gap) feed_passed)) (inr (front ++ g, sym (append_assoc front g (10 ∷ [])))) lays
     (is ∙ ap (λ (x : List ℕ). front ++ x) (sym (append_assoc g (10 ∷ []) rest)))
 laid_read text front g _ _ gap fresh (comment_line line rest statements shown lays) is =
-    let over = comment_passed line shown.0 shown.1 in
-    laid_read text front (g ++ comment line) rest statements (passed (g ++ comment line) (both_passed g (comment line) (passes g gap) over))
+    laid_read text front (g ++ comment line) rest statements (passed (g ++ comment line) (both_passed g (comment line) (passes g gap) (comment_passed line shown.0 shown.1)))
     (inr (front ++ (g ++ (45 ∷ 45 ∷ line)), ap (λ (x : List ℕ). front ++ x) (sym (append_assoc g (45 ∷ 45 ∷ line) (10 ∷ []))) ∙ sym (append_assoc front (g ++ (45 ∷ 45 ∷ line)) (10 ∷ [])))) lays
     (is ∙ ap (λ (x : List ℕ). front ++ x) (sym (append_assoc g (comment line) rest)))
 laid_read text front g _ _ gap fresh (statement_text s rest statements can lays) is =
@@ -311,9 +257,7 @@ laid_read text front g _ _ gap fresh (statement_text s rest statements can lays)
 -- ---- whole texts
 
 pub laid_out_read : (text : List ℕ) (statements : List Stmt) → Lays text statements → (found : List Located) × (statements_of text ≡ Ok found) × (said found ≡ statements)
-laid_out_read text statements lays =
-    let r = laid_read text [] [] text statements none (inl refl) lays refl in
-    (r.found, only text r.found r.reads, r.same)
+laid_out_read text statements lays = let r = laid_read text [] [] text statements none (inl refl) lays refl in (r.found, only text r.found r.reads, r.same)
 
 -- spellings that are joined lie one behind another
 all_lay : (statements : List Stmt) → AllWritable statements → Lays (spellings statements) statements
@@ -350,11 +294,8 @@ whole_is s t end n e = ap stmt_of e
     stmt_of (Ok w) = w.stmt
     stmt_of (Err fault) = None
 
-with_rows_done : (text : List ℕ) (at : ℕ) (q : QName) (columns : List (List ℕ)) (s : Option Stmt) (end : ℕ) → IsPath q × AllByRecursion IsName columns → (r : Result Copied ℕ) → rows_behind text at ≡ r → with_rows q columns r ≡ ends_at s end → IsDone s
-with_rows_done text at q columns s end is r e f = grind (arith, whole_is, read_are_rows)
-
 done : (text : List ℕ) (at : ℕ) (h s : Option Stmt) (end : ℕ) → IsDone h → completed text at h ≡ ends_at s end → IsDone s
-done text at h s end is e = grind (arith, with_rows_done, whole_is)
+done text at h s end is e = grind (arith, whole_is, read_are_rows)
 
 header_done : (text : List ℕ) (at : ℕ) (h : Option Stmt) → at ≤ length text → statement.Spells h (lexemes text (collected text at).pieces) → IsDone h
 header_done text at None le spells = tt
@@ -366,9 +307,7 @@ one_more start end more s is later = grind arith
 -- what a line with a backslash says can be written
 line_spelled : (text : List ℕ) (at start end : ℕ) → at ≤ length text → next_token_of text at ≡ Ok (Some (line_token start end)) → list_all in_line (token_text text (line_token start end)) ≡ true
 unfolding in_line
-line_spelled text at start end le e =
-    let c = came_token text at (line_token start end) le e in
-    ap (list_all in_line) c.spells.2 ∙ and_from (in_line 92) (list_all in_line c.spells.0) refl c.spells.1
+line_spelled text at start end le e = let c = came_token text at (line_token start end) le e in ap (list_all in_line) c.spells.2 ∙ and_from (in_line 92) (list_all in_line c.spells.0) refl c.spells.1
 
 line_done : (text : List ℕ) (at start end : ℕ) (s : Option Stmt) → at ≤ length text → IsLine text at s start end → IsDone s
 line_done text at start end s le is = by (said_is_a_name (token_text text (line_token start end)) s (line_spelled text at start end le is.next) is.says)

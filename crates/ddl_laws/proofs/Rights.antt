@@ -20,9 +20,8 @@ pub thenby_puts : {A B : Type 0} {p : Part A} {f : A → Part B} (a : Written p)
 thenby_puts {p = p} {f = f} a b opens m v e w fit other others follows h =
     let x = b v in
     let both = and_parts (meets a.after x) (covers x.after m && (covers opens x.opens && not x.lacks)) e in
-    let after = and_parts (covers x.after m) (covers opens x.opens && not x.lacks) both.1 in
     put_as (p then f v) (p thenby f) (v, w) w (joined (a.pieces v fit ++ x.pieces w other)) others
-    (then_puts a x both.0 v w fit other others follows (admitted x.after m (spelled others) after.0 h)) (λ ts s. (v, s.0, s.1, s.2, s.3, s.4))
+    (then_puts a x both.0 v w fit other others follows (admitted x.after m (spelled others) (and_parts (covers x.after m) (covers opens x.opens && not x.lacks) both.1).0 h)) (λ ts s. (v, s.0, s.1, s.2, s.3, s.4))
 
 pub thenby_begins : {A B : Type 0} {p : Part A} {f : A → Part B} (a : Written p) (b : (v : A) → Written (f v)) (opens m : Behind) (v : A) → decides opens m a (b v) ≡ true → (w : B) (fit : a.Fit v) (other : (b v).Fit w)
     → Opens (cond a.lacks false false) (cond a.lacks (looser a.opens opens) a.opens) (joined (a.pieces v fit ++ (b v).pieces w other))
@@ -241,12 +240,9 @@ rights_is (These r) x h = h
 
 -- ---- grantees
 
-abbrev pub name_ok : List ℕ → Result (List ℕ) Bool
-name_ok n = Ok n
-
 pub public_says : (n : List ℕ) → n ≡ codes "public" → Says name_value (codes "PUBLIC") n
 unfolding is_bare_word name_value name_in name_of is_utf8 chars encode
-public_says n is = (refl, λ t k w. rw (k, w) (ap name_ok (sym is)))
+public_says n is = (refl, λ t k w. rw (k, w) (ap (λ n. Ok n) (sym is)))
 
 pub grantee_is : (n : List ℕ) → IsName n → IsGrantee (grantee_of n)
 unfolding grantee_of
@@ -322,10 +318,6 @@ revoked_as =
 
 -- ---- GRANT
 
-unfoldable pub grant_rights_as : (w : Wanted) → Written (grant_rights w)
-unfolding grant_rights
-grant_rights_as w = seen_as (λ x. stmt.Grant x.0.0 x.0.1 x.1.0 x.1.1) (then_as (rights_and_object_as w) to_as (rights_meet w).0)
-
 abbrev pub CanFollow : Option Wanted → Type 0
 CanFollow None = Unit {0}
 CanFollow (Some w) = AreSome w
@@ -334,10 +326,10 @@ abbrev pub IsFirst : First → Type 0
 IsFirst x = IsName x.0 × CanFollow x.1
 
 unfoldable pub behind_as : (n : List ℕ) → (o : Option Wanted) → Written (behind_first n o)
-unfolding membership_as grant_rights_as to_as
+unfolding membership_as to_as grant_rights
 behind_as n None = is_as (membership_as n) (λ s. IsFirst (n, None) → IsWritable s) (λ s h is. subst IsWritable h.2 (is.0, h.1.0, h.1.1.1))
 behind_as n (Some w) =
-    is_as (choose_as (membership_as n) (grant_rights_as w)) (λ s. IsFirst (n, Some w) → IsWritable s)
+    is_as (choose_as (membership_as n) (seen_as (λ x. stmt.Grant x.0.0 x.0.1 x.1.0 x.1.1) (then_as (rights_and_object_as w) to_as (rights_meet w).0))) (λ s. IsFirst (n, Some w) → IsWritable s)
     (λ s h is. elim h [ inl x ↦ subst IsWritable x.2 (is.0, x.1.0, x.1.1.1) | inr y ↦ (let on = rights_is w y.0.0 y.1.0 is.1 in subst IsWritable y.2 (on.0, on.1, y.1.1.0)) ])
 
 pub behind_is : (n : List ℕ) (o : Option Wanted) (s : Stmt) → (behind_as n o).Is s → IsFirst (n, o) → IsWritable s
@@ -365,19 +357,11 @@ role_spelled n (Some w) s fit t = refl
 abbrev pub role_wanted : List ℕ → Option Wanted
 role_wanted n = wanted_first (name_token (32 ∷ []) n ∷ [])
 
-pub same_wanted : (t u : Lexeme) → t.kind ≡ u.kind → t.word ≡ u.word → wanted_first (t ∷ []) ≡ wanted_first (u ∷ [])
-unfolding wanted_first right_first is_word
-same_wanted t u k w = cc
-
 pub role_means : (x : First) → IsName x.0 × (role_wanted x.0 ≡ x.1) → (t : Lexeme) → t.kind ≡ written_kind x.0 → t.word ≡ written_name x.0 → name_value t ≡ Ok x.0 → named_by (wanted_first (t ∷ [])) (name_value t) ≡ Ok x
-role_means x fit t kind word e = ap (λ o. named_by o (name_value t)) (same_wanted t (name_token (32 ∷ []) x.0) kind word ∙ fit.1) ∙ ap (named_by x.1) e
-
-abbrev pub first_ok : First → Result First Bool
-first_ok x = Ok x
-
-pub opening_means : (x : First) (fit : (o : Option Right) × ((opening_name o, Some (wanting o)) ≡ x)) (t : Lexeme) → t.kind ≡ Word → t.word ≡ opening_word fit.0 → named_by (wanted_first (t ∷ [])) (name_value t) ≡ Ok x
-opening_means x fit t kind word =
-    ap (λ o. named_by o (name_value t)) (wanted_says fit.0 t kind word) ∙ ap (named_by (Some (wanting fit.0))) (wanted_named fit.0 t kind word) ∙ ap first_ok fit.1
+unfolding wanted_first right_first is_word
+role_means x fit t kind word e =
+    let same_wanted : (t u : Lexeme) → t.kind ≡ u.kind → t.word ≡ u.word → wanted_first (t ∷ []) ≡ wanted_first (u ∷ []) = λ t u k w. cc in
+    ap (λ o. named_by o (name_value t)) (same_wanted t (name_token (32 ∷ []) x.0) kind word ∙ fit.1) ∙ ap (named_by x.1) e
 
 pub first_made : (t : Lexeme) (x : First) → named_by (wanted_first (t ∷ [])) (name_value t) ≡ Ok x → IsFirst x
 first_made t x e = by (name_value t) refl e
@@ -391,6 +375,8 @@ first_made t x e = by (name_value t) refl e
 
 unfoldable pub first_as : Written first
 first_as =
+    let opening_means : (x : First) (fit : (o : Option Right) × ((opening_name o, Some (wanting o)) ≡ x)) (t : Lexeme) → t.kind ≡ Word → t.word ≡ opening_word fit.0 → named_by (wanted_first (t ∷ [])) (name_value t) ≡ Ok x =
+    λ x fit t kind word. ap (λ o. named_by o (name_value t)) (wanted_says fit.0 t kind word) ∙ ap (named_by (Some (wanting fit.0))) (wanted_named fit.0 t kind word) ∙ ap (λ x. Ok x) fit.1 in
     also_as (name_said space (λ x. IsName x.0 × (role_wanted x.0 ≡ x.1)) IsFirst (λ x. x.0) (λ x fit. fit.0) role_means first_made)
     (word_said space (λ x. (o : Option Right) × ((opening_name o, Some (wanting o)) ≡ x)) IsFirst (λ x fit. opening_word fit.0) (λ x fit. (opening_bare fit.0, opening_means x fit)) first_made)
 
@@ -441,8 +427,7 @@ list_opened o r is are =
     let x = l.first in
     let xs = l.more in
     let whole : all_of (only x) xs ≡ r = ap (all_of no_rights) (sym l.same) ∙ listed_is r in
-    let go = all_go (kind_of o) (only x) xs (ap (λ (y : Rights). within y (kind_rights (kind_of o))) whole ∙ are.1) in
-    let fit = list_fit (only x) (only x) xs go in
+    let fit = list_fit (only x) (only x) xs (all_go (kind_of o) (only x) xs (ap (λ (y : Rights). within y (kind_rights (kind_of o))) whole ∙ are.1)) in
     let items = items_pieces (more_rights (only x)) more_as (only x) xs fit in
     let behind = (on_object_as (These r)).pieces (o, r) (on_fit (These r) o r are.1 refl is) in
     let object = (granted_words o ++ granted_name o) ++ [] in
@@ -460,13 +445,10 @@ rights_opened o r is are = by (is_all o r) refl
     by : (b : Bool) → is_all o r ≡ b → IsOpened o r (cond b (codes "ALL") (right_list r))
     by b e = grind (arith, all_opened, list_opened)
 
-pub spelled_regrouped : (a b c : List ℕ) → (a ++ (b ++ [])) ++ c ≡ a ++ (b ++ c)
-spelled_regrouped a b c = simp (append_assoc, append-nil)
-
 -- before what stands behind them
 pub rights_spelled : (o : Granted) (r : Rights) (h : IsOpened o r (rights_text o r)) (t u : List (List ℕ))
     → opening_word h.opening ++ joined (((rights_and_object_as (wanting h.opening)).pieces (o, r) h.fit ++ t) ++ u) ≡ rights_text o r ++ ((granted_words o ++ granted_name o) ++ joined (t ++ u))
 rights_spelled o r h t u =
     let rights = (rights_and_object_as (wanting h.opening)).pieces (o, r) h.fit in
     ap (λ (x : List (List ℕ)). opening_word h.opening ++ joined x) (append_assoc rights t u) ∙ ap (λ (x : List ℕ). opening_word h.opening ++ x) (joined-append rights (t ++ u))
-    ∙ sym (append_assoc (opening_word h.opening) (joined rights) (joined (t ++ u))) ∙ ap (λ (x : List ℕ). x ++ joined (t ++ u)) h.same ∙ spelled_regrouped (rights_text o r) (granted_words o ++ granted_name o) (joined (t ++ u))
+    ∙ sym (append_assoc (opening_word h.opening) (joined rights) (joined (t ++ u))) ∙ ap (λ (x : List ℕ). x ++ joined (t ++ u)) h.same ∙ (simp (append_assoc, append-nil))

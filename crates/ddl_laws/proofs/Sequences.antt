@@ -12,31 +12,18 @@ use Rattle.cat_model.specs.declared.stmt.Stmt.TheVariants as stmt
 pub counted_by : (o : Option ℕ) (n : ℕ) → counted o ≡ (let r : Result ℕ Bool = Ok n in r) → o ≡ Some n
 counted_by o n e = grind arith
 
-pub is_counted : (limit : ℕ) (t : Lexeme) (n : ℕ) → count_value limit t ≡ Ok n → count_first limit (t ∷ []) ≡ Some n
-unfolding count_value
-is_counted limit t n e = counted_by (count_first limit (t ∷ [])) n e
-
 pub no_minus : (limit : ℕ) (t : Lexeme) (n : ℕ) → count_value limit t ≡ Ok n → is_sign 45 t ≡ false
 no_minus limit t n e = number_no_sign 45 t (count_begins limit n (t ∷ []) (t, refl, e))
-
-pub positive_runs : (f : Field) (c : Clauses) (t : Lexeme) (n : ℕ) → count_value (2 ^ 63) t ≡ Ok n → run clausing (Some (reached c (Due f))) (t ∷ []) ≡ Some (reached (with_number f (pos n) c) Between)
-unfolding step_first
-positive_runs f c t n e = rw (no_minus (2 ^ 63) t n e, is_counted (2 ^ 63) t n e) refl
 
 pub minus_is : (t : Lexeme) (u : Unit {0}) → passes (is_sign 45) t ≡ Ok u → is_sign 45 t ≡ true
 minus_is t u e = passed u (is_sign 45 t) e
 
 pub negative_runs : (f : Field) (c : Clauses) (m t : Lexeme) (n : ℕ) → is_sign 45 m ≡ true → count_value (2 ^ 63 + 1) t ≡ Ok n → run clausing (Some (reached c (Due f))) (m ∷ t ∷ []) ≡ Some (reached (with_number f (opposite n) c) Between)
-unfolding step_first
-negative_runs f c m t n minus e = rw (minus, is_counted (2 ^ 63 + 1) t n e) refl
+unfolding step_first count_value
+negative_runs f c m t n minus e = rw (minus, counted_by (count_first (2 ^ 63 + 1) (t ∷ [])) n e) refl
 
 abbrev pub Runs : Field → Clauses → ℤ → List Lexeme → Type 0
 Runs f c z ts = run clausing (Some (reached c (Due f))) ts ≡ Some (reached (with_number f z c) Between)
-
--- what spells a number brings the clauses on by it
-pub number_runs : (f : Field) (c : Clauses) (z : ℤ) (ts : List Lexeme) → whole_number.Spells z ts → Runs f c z ts
-unfolding whole_number
-number_runs f c z ts spells = grind (arith, negative_runs, minus_is, positive_runs)
 
 -- ---- from one state to another
 
@@ -81,19 +68,21 @@ pub word : {r : Reached} {b : ℕ} {g : List ℕ} (x : Reached) → Gap (b ∷ g
 unfolding is_sign
 word {r} {b} {g} x gap safe w is steps = record {
   put = λ others follows e.
-      let bare = bare_word w is in
       let t : Lexeme = record { gap = b ∷ g; kind = Word; word = w; start = 0 } in
       same_text ((b ∷ g) ++ w) ((b ∷ g) ++ (w ++ [])) (ap (λ (x : List ℕ). (b ∷ g) ++ x) (sym (append-nil w)))
-      (one_put (moves r x) tt t others (a_word w (spelled others) gap bare.0 bare.1 (admitted Words Safe (spelled others) refl e)) (inl refl) (λ at. steps _) follows);
+      (one_put (moves r x) tt t others (a_word w (spelled others) gap (bare_word w is).0 (bare_word w is).1 (admitted Words Safe (spelled others) refl e)) (inl refl) (λ at. steps _) follows);
   begins = safely b (g ++ (w ++ [])) safe;
 }
 
 pub number : (f : Field) (c : Clauses) (z : ℤ) → IsInt z → Move (reached c (Due f)) (reached (with_number f z c) Between) ((32 ∷ []) ∷ signed_decimal z ∷ [])
-number f c z is = record {
-  put = λ others follows e.
-      put_as whole_number (moves (reached c (Due f)) (reached (with_number f z c) Between)) z tt ((32 ∷ []) ++ (signed_decimal z ++ [])) others ((number_as space).put z is others follows e) (number_runs f c z);
-  begins = safely 32 (signed_decimal z ++ []) refl;
-}
+unfolding whole_number step_first count_value
+number f c z is =
+    let number_runs : (f : Field) (c : Clauses) (z : ℤ) (ts : List Lexeme) → whole_number.Spells z ts → Runs f c z ts = λ f c z ts spells. grind (arith, negative_runs, minus_is, no_minus, counted_by) in
+    record {
+      put = λ others follows e.
+          put_as whole_number (moves (reached c (Due f)) (reached (with_number f z c) Between)) z tt ((32 ∷ []) ++ (signed_decimal z ++ [])) others ((number_as space).put z is others follows e) (number_runs f c z);
+      begins = safely 32 (signed_decimal z ++ []) refl;
+    }
 
 -- ---- the clauses as they are written
 
@@ -123,14 +112,6 @@ type_moves SmallInt = so refl (both (line_word (reached no_clauses BehindAs) (co
 type_moves Integer = so refl (both (line_word (reached no_clauses BehindAs) (codes "AS") refl (λ at. refl)) (next_word (between (record no_clauses { kind = Some Integer })) (codes "integer") refl (λ at. refl)))
 type_moves BigInt = so refl (stay first_reached)
 
-pub start_moves : (d : Clauses) (a : ℤ) → IsInt a → Move (between (record d { start = None })) (between (record d { start = Some a })) (codes "\n    START WITH " ∷ signed_decimal a ∷ [])
-unfolding is_bare_word is_keyword_of is_word step_first clause_first
-start_moves d a is = let c = record d { start = None } in so refl (both (line_word (reached c BehindStart) (codes "START") refl (λ at. refl)) (both (next_word (reached c (Due First)) (codes "WITH") refl (λ at. refl)) (number First c a is)))
-
-pub step_moves : (d : Clauses) (a : ℤ) → IsInt a → Move (between (record d { step = None })) (between (record d { step = Some a })) (codes "\n    INCREMENT BY " ∷ signed_decimal a ∷ [])
-unfolding is_bare_word is_keyword_of is_word step_first clause_first
-step_moves d a is = let c = record d { step = None } in so refl (both (line_word (reached c BehindIncrement) (codes "INCREMENT") refl (λ at. refl)) (both (next_word (reached c (Due Step)) (codes "BY") refl (λ at. refl)) (number Step c a is)))
-
 pub min_moves : (d : Clauses) (u : Bool) (m : ℤ) → IsInt m → Move (between (record d { least = Unsaid; greatest = Unsaid })) (between (record d { least = bound_of u m; greatest = Unsaid })) (bound u (codes "\n    NO MINVALUE") (codes "\n    MINVALUE ") m ∷ [])
 unfolding is_bare_word is_keyword_of is_word step_first clause_first usual_first bound
 min_moves d true m is =
@@ -138,21 +119,12 @@ min_moves d true m is =
     so refl (both (line_word (reached c (BehindNo Both)) (codes "NO") refl (λ at. refl)) (next_word (between (record c { least = Usual })) (codes "MINVALUE") refl (λ at. refl)))
 min_moves d false m is = let c = record d { least = Unsaid; greatest = Unsaid } in so refl (both (line_word (reached c (Due Least)) (codes "MINVALUE") refl (λ at. refl)) (number Least c m is))
 
--- NO, where a bound below was said
-pub no_steps : (d : Clauses) (usual : Bool) (l : ℤ) → IsStep (between (record d { least = bound_of usual l; greatest = Unsaid })) (reached (record d { least = bound_of usual l; greatest = Unsaid }) (BehindNo Upper)) indent (codes "NO")
-unfolding is_keyword_of is_word step_first clause_first
-no_steps d usual l = grind arith
-
 pub max_moves : (d : Clauses) (usual : Bool) (l : ℤ) (u : Bool) (m : ℤ) → IsInt m → Move (between (record d { least = bound_of usual l; greatest = Unsaid })) (between (record d { least = bound_of usual l; greatest = bound_of u m })) (bound u (codes "\n    NO MAXVALUE") (codes "\n    MAXVALUE ") m ∷ [])
 unfolding is_bare_word is_keyword_of is_word step_first clause_first usual_first bound
 max_moves d usual l true m is =
     let c = record d { least = bound_of usual l; greatest = Unsaid } in
-    so refl (both (line_word (reached c (BehindNo Upper)) (codes "NO") refl (no_steps d usual l)) (next_word (between (record c { greatest = Usual })) (codes "MAXVALUE") refl (λ at. refl)))
+    so refl (both (line_word (reached c (BehindNo Upper)) (codes "NO") refl (grind arith)) (next_word (between (record c { greatest = Usual })) (codes "MAXVALUE") refl (λ at. refl)))
 max_moves d usual l false m is = let c = record d { least = bound_of usual l; greatest = Unsaid } in so refl (both (line_word (reached c (Due Greatest)) (codes "MAXVALUE") refl (λ at. refl)) (number Greatest c m is))
-
-pub cache_moves : (d : Clauses) (n : ℤ) → IsInt n → Move (between (record d { cache = None })) (between (record d { cache = Some n })) (codes "\n    CACHE " ∷ signed_decimal n ∷ [])
-unfolding is_bare_word is_keyword_of is_word step_first clause_first
-cache_moves d n is = let c = record d { cache = None } in so refl (both (line_word (reached c (Due Cache)) (codes "CACHE") refl (λ at. refl)) (number Cache c n is))
 
 pub cycle_moves : (d : Clauses) (cycle : Bool) → Move (between (record d { cycle = false })) (between (record d { cycle = cycle })) (words_if cycle (codes "\n    CYCLE") ∷ [])
 unfolding is_bare_word is_keyword_of is_word step_first clause_first
@@ -190,6 +162,7 @@ clause_pieces v =
 
 -- clause by clause
 pub clauses_move : (v : Values) → AreInts v → Move first_reached (between (written v)) (clause_pieces v)
+unfolding is_bare_word is_keyword_of is_word step_first clause_first
 clauses_move v is =
     let u = int_eq v.min (usual_min v.kind v.step) in
     let w = int_eq v.max (usual_max v.kind v.step) in
@@ -197,19 +170,14 @@ clauses_move v is =
     let started = record typed { start = Some v.start } in
     let stepping = record started { step = Some v.step } in
     let bounded = record stepping { least = bound_of u v.min; greatest = bound_of w v.max } in
-    let last = both (cache_moves bounded v.cache is.4) (cycle_moves (record bounded { cache = Some v.cache }) v.cycle) in
-    let bounds = both (min_moves stepping u v.min is.2) (both (max_moves stepping u v.min w v.max is.3) last) in
-    both (type_moves v.kind) (both (start_moves typed v.start is.0) (both (step_moves started v.step is.1) bounds))
-
-pub said_is : (kind : SequenceKind) → given_or BigInt (said kind) ≡ kind
-said_is x = grind arith
-
-pub bound_is : (usual n : ℤ) → bound_or usual (bound_of (int_eq n usual) n) ≡ n
-bound_is usual n = grind arith
-
-pub sequence_is : (q : QName) (v : Values) → sequence_of q (written v) ≡ stmt.CreateSequence q v.kind v.start v.step v.min v.max v.cache v.cycle
-unfolding sequence_of
-sequence_is q v = rw (said_is v.kind, bound_is (usual_min v.kind v.step) v.min, bound_is (usual_max v.kind v.step) v.max) refl
+    let start : Move (between typed) (between started) (codes "\n    START WITH " ∷ signed_decimal v.start ∷ []) =
+    so refl (both (line_word (reached typed BehindStart) (codes "START") refl (λ at. refl)) (both (next_word (reached typed (Due First)) (codes "WITH") refl (λ at. refl)) (number First typed v.start is.0))) in
+    let step : Move (between started) (between stepping) (codes "\n    INCREMENT BY " ∷ signed_decimal v.step ∷ []) =
+    so refl (both (line_word (reached started BehindIncrement) (codes "INCREMENT") refl (λ at. refl)) (both (next_word (reached started (Due Step)) (codes "BY") refl (λ at. refl)) (number Step started v.step is.1))) in
+    let cache : Move (between bounded) (between (record bounded { cache = Some v.cache })) (codes "\n    CACHE " ∷ signed_decimal v.cache ∷ []) =
+    so refl (both (line_word (reached bounded (Due Cache)) (codes "CACHE") refl (λ at. refl)) (number Cache bounded v.cache is.4)) in
+    let bounds = both (min_moves stepping u v.min is.2) (both (max_moves stepping u v.min w v.max is.3) (both cache (cycle_moves (record bounded { cache = Some v.cache }) v.cycle))) in
+    both (type_moves v.kind) (both start (both step bounds))
 
 -- ---- the numbers so far
 
@@ -235,9 +203,6 @@ pub record Keeps (o : Option Reached) : Type 0 where
 pub keeps : (r : Reached) → AreGiven r.clauses → Keeps (Some r)
 keeps r k = record { kept = k }
 
-pub nothing : Keeps None
-nothing = record { kept = tt }
-
 pub if_keeps : (b : Bool) (p q : Option Reached) → Keeps p → Keeps q → Keeps (cond b p q)
 if_keeps b p q kp kq = grind arith
 
@@ -246,17 +211,6 @@ only_keeps b r k = grind arith
 
 pub no_keeps : (c : Clauses) (a b : Bool) → AreGiven c → Keeps (behind_no c a b)
 no_keeps c a b k = grind arith
-
-pub clause_keeps : (c : Clauses) (ts : List Lexeme) → AreGiven c → Keeps (clause_first c ts)
-unfolding clause_first
-clause_keeps c ts k = grind (arith, if_keeps, starts, only_keeps, no_keeps)
-
-pub kind_keeps : (c : Clauses) (ts : List Lexeme) → AreGiven c → Keeps (kind_first c ts)
-unfolding kind_first
-kind_keeps c ts k = grind arith
-
-pub with_given : (f : Field) (z : ℤ) (c : Clauses) → IsInt z → AreGiven c → AreGiven (with_number f z c)
-with_given f z c is k = grind arith
 
 pub number_keeps : (f : Field) (sign : ℕ → ℤ) (limit : ℕ) (c : Clauses) (o : Option ℕ) → ((n : ℕ) → n < limit → IsInt (sign n)) → AreGiven c → IsBelow limit o → Keeps (numbered f sign c o)
 number_keeps f sign limit c o ints k below = grind arith
@@ -268,9 +222,9 @@ pub upper_keeps : (c : Clauses) (ts : List Lexeme) → AreGiven c → Keeps (upp
 upper_keeps c ts k = only_keeps (starts (is_word (codes "maxvalue")) ts) (reached (record c { greatest = Usual }) Between) (k.0, (k.1.0, (k.1.1.0, (tt, k.1.1.1.1))))
 
 pub step_keeps : (spot : ClauseSpot) (c : Clauses) (ts : List Lexeme) → AreGiven c → Keeps (step_first (reached c spot) ts)
-unfolding step_first usual_first
-step_keeps Between c ts k = clause_keeps c ts k
-step_keeps BehindAs c ts k = kind_keeps c ts k
+unfolding step_first usual_first clause_first kind_first
+step_keeps Between c ts k = grind (arith, if_keeps, starts, only_keeps, no_keeps)
+step_keeps BehindAs c ts k = grind arith
 step_keeps BehindStart c ts k = only_keeps (starts (is_word (codes "with")) ts) (reached c (Due First)) k
 step_keeps BehindIncrement c ts k = only_keeps (starts (is_word (codes "by")) ts) (reached c (Due Step)) k
 step_keeps (BehindNo Both) c ts k = if_keeps (starts (is_word (codes "minvalue")) ts) _ _ (lower_keeps c ts k) (upper_keeps c ts k)
@@ -280,19 +234,16 @@ step_keeps (Due f) c ts k = if_keeps (starts (is_sign 45) ts) (Some (reached c (
 step_keeps (BehindMinus f) c ts k = number_keeps f opposite (2 ^ 63 + 1) c (count_first (2 ^ 63 + 1) ts) opposite_is k (count_below (2 ^ 63 + 1) ts)
 
 pub one_keeps : (o : Option Reached) (t : Lexeme) → Keeps o → Keeps (option_and_then (λ r. clausing.step r t) o)
-one_keeps None t k = nothing
+one_keeps None t k = record { kept = tt }
 one_keeps (Some r) t k = step_keeps r.spot r.clauses (t ∷ []) k.kept
 
 pub run_keeps : (o : Option Reached) (ts : List Lexeme) → Keeps o → Keeps (run clausing o ts)
 run_keeps o [] k = k
 run_keeps o (t ∷ ts) k = run_keeps (option_and_then (λ r. clausing.step r t) o) ts (one_keeps o t k)
 
-pub clauses_keep : (o : Option Reached) → Keeps o → AreGiven (clauses_of o)
-clauses_keep o k = grind arith
-
 pub sequence_clauses_yield : Yields AreGiven sequence_clauses
 unfolding sequence_clauses
-sequence_clauses_yield = grind (arith, clauses_keep, run_keeps, keeps)
+sequence_clauses_yield = grind (arith, run_keeps, keeps)
 
 pub writable : (q : QName) (c : Clauses) → IsPath q → AreGiven c → IsWritable (sequence_of q c)
 unfolding sequence_of usual_min usual_max
@@ -321,7 +272,3 @@ clauses_as = record {
   made = sequence_clauses_yield;
   closes = not_closed sequence_clauses;
 }
-
-unfoldable pub create_sequence_as : Kinds IsWritable create_sequence
-unfolding create_sequence
-create_sequence_as = kind_as (λ x. sequence_of x.0 x.1) (then_as (path_as space) (end_as clauses_as refl) refl) (λ x is. writable x.0 x.1 is.0 is.1)

@@ -51,28 +51,22 @@ labels_same (t ∷ labels) all = ap (λ (x : List ℕ). (indent ++ written_liter
 unfoldable pub create_enum_as : Kinds IsWritable create_enum
 unfolding create_enum is_key
 create_enum_as =
-    let labels = pieces_as labels_as (λ ls is. in_lines (map written_literal ls) ∷ []) labels_same in
-    let bracket = lead_as (opening_as space) (end_as (close_as labels (closing_as newline) refl) refl) refl in
+    let bracket = lead_as (opening_as space) (end_as (close_as (pieces_as labels_as (λ ls is. in_lines (map written_literal ls) ∷ []) labels_same) (closing_as newline) refl) refl) refl in
     kind_as enum_of (then_as (path_as space) (word_then (codes "AS") refl (word_then (codes "ENUM") refl bracket refl) refl) refl) (λ x is. is)
 
 -- ---- defaults and NOT NULL
 
 unfoldable pub null_first_as : Written null_first
 unfolding null_first is_key default_as
-null_first_as =
-    let default : Written (optional (is_word (codes "default")) (is_word (codes "default") ▸ default_text)) = maybe_as (is_word (codes "default")) (word_then (codes "DEFAULT") refl default_as refl) in
-    seen_as not_null (word_then (codes "NOT") refl (word_then (codes "NULL") refl default refl) refl)
+null_first_as = seen_as not_null (word_then (codes "NOT") refl (word_then (codes "NULL") refl (maybe_as (is_word (codes "default")) (word_then (codes "DEFAULT") refl default_as refl)) refl) refl)
 
 unfoldable pub default_first_as : Written default_first
 unfolding default_first is_key
 default_first_as = seen_as given (word_then (codes "DEFAULT") refl default_and_null_as refl)
 
-abbrev pub none_given : Attributes
-none_given = (None, false)
-
 -- how values are written: NOT NULL first or last, where both are there
 abbrev pub Attributed : Attributes → Type 0
-Attributed x = ((d : Option (List ℕ)) × OptionFit IsDefaultText d × (not_null d ≡ x)) ⊎ (((y : List ℕ × Bool) × IsDefaultText y.0 × (given y ≡ x)) ⊎ (x ≡ none_given))
+Attributed x = ((d : Option (List ℕ)) × OptionFit IsDefaultText d × (not_null d ≡ x)) ⊎ (((y : List ℕ × Bool) × IsDefaultText y.0 × (given y ≡ x)) ⊎ (x ≡ (None, false)))
 
 abbrev pub attributed : (domain : Bool) → (d : Option (List ℕ)) → (b : Bool) → IsDefault d → Attributed (d, b)
 attributed domain None true is = inl (None, tt, refl)
@@ -90,16 +84,13 @@ default_is x (inl h) = subst (λ (y : Attributes). IsDefault y.0) h.2 (option_is
 default_is x (inr (inl h)) = subst (λ (y : Attributes). IsDefault y.0) h.2 h.1
 default_is x (inr (inr e)) = subst (λ (y : Attributes). IsDefault y.0) (sym e) tt
 
-abbrev pub IsAttributes : Attributes → Type 0
-IsAttributes x = IsDefault x.0
-
 abbrev pub attribute_pieces : Bool → Option (List ℕ) → Bool → List (List ℕ)
 attribute_pieces true d b = only_if b null_words ∷ given_default d ∷ []
 attribute_pieces false d b = given_default d ∷ only_if b null_words ∷ []
 
 unfoldable pub either_attributes_as : (domain : Bool) → Written attributes
 unfolding attributes null_first_as default_first_as
-either_attributes_as domain = like_as (choose_as null_first_as (choose_as default_first_as (nothing_as none_given))) IsAttributes (λ x is. attributed domain x.0 x.1 is) default_is
+either_attributes_as domain = like_as (choose_as null_first_as (choose_as default_first_as (nothing_as (None, false)))) (λ x. IsDefault x.0) (λ x is. attributed domain x.0 x.1 is) default_is
 
 -- NOT NULL before a default, as domains have them, or behind it, as columns do
 unfoldable pub attributes_as : (domain : Bool) → Written attributes
@@ -160,15 +151,11 @@ unfoldable pub element_as : Kinds IsElement element
 unfolding element named_check_as column_as
 element_as = or_as (kind_as Check (named_check_as indented) (λ c is. is)) (kind_as Column column_as (λ c is. is))
 
-unfoldable pub last_element_as : Kinds IsElement last_element
-unfolding last_element named_check_as
-last_element_as = kind_as Check (named_check_as indented) (λ c is. is)
-
 unfoldable pub at_spot : (s : Spot) → Kinds IsElement (element_at s)
-unfolding element_as last_element_as
+unfolding element_as last_element named_check_as
 at_spot Opening = element_as
 at_spot BehindColumn = led_as comma_as element_as refl
-at_spot BehindCheck = led_as comma_as last_element_as refl
+at_spot BehindCheck = led_as comma_as (kind_as Check (named_check_as indented) (λ c is. is)) refl
 
 unfoldable pub many_elements_as : Written (many more_elements elements)
 unfolding at_spot

@@ -1,65 +1,52 @@
 -- A statement as one composition of its kinds: which statements can be written, and that its text is its spelling behind
 -- a gap.
-use Rattle.ddl_laws.proofs.Common.{ℕ, List, Some, None, refl, codes, ◌≡◌, suc, Bool, true, false, [], ◌∷◌, ◌++◌, map, append_assoc, Option, sym, ap, ◌∙◌, inl, inr, create_role, create_view, replace_view, index_of, create_index, unique_index_of, create_unique_index, its_role, its_column, create_schema, created, name_and_owner, path_and_owner, altered, selected, command, statement, its_owner, one_more_check, Gap, none, space, Written, Kinds, is_key, dot_as, word_as, ending as end_mark_as, mark_as, name_as, path_as, then_as, end_as, seen_as, choose_as, kind_as, led_as, or_as, IsWritable, quoted, doubled, written_name, written_literal, IsName, end_mark, QName, Utf8, Stmt, Constraint, Check, Primary, Unique, Foreign, TableChange, Owner, Default, Added, table_changed, key_word, path, joined, owned_object, schema_text, set_text, setting_text, owner_text, domain_check_text, enum_text, domain_text, table_text, check_text, table_lines, sequence_text, owned_by_text, value_text, view_text, key_text, foreign_text, added_check_text, index_text, grant_text, revoke_text, comment_text, role_text, changes_text, member_text, database_text, IsPath}
+use Rattle.ddl_laws.proofs.Common.{ℕ, List, Some, None, refl, codes, ◌≡◌, suc, Bool, true, false, [], ◌∷◌, ◌++◌, map, append_assoc, Option, sym, ap, ◌∙◌, inl, inr, create_role, create_view, replace_view, index_of, create_index, unique_index_of, create_unique_index, its_role, its_column, create_schema, created, name_and_owner, path_and_owner, altered, selected, command, statement, its_owner, one_more_check, Gap, none, space, Written, Kinds, is_key, dot_as, word_as, ending as end_mark_as, mark_as, name_as, path_as, then_as, end_as, seen_as, choose_as, kind_as, led_as, or_as, IsWritable, quoted, doubled, written_name, written_literal, IsName, end_mark, QName, Utf8, Stmt, Constraint, Check, Primary, Unique, Foreign, TableChange, Owner, Default, Added, table_changed, key_word, path, joined, owned_object, schema_text, set_text, setting_text, owner_text, domain_check_text, enum_text, domain_text, table_text, check_text, table_lines, sequence_text, owned_by_text, value_text, view_text, key_text, foreign_text, added_check_text, index_text, grant_text, revoke_text, comment_text, role_text, changes_text, member_text, database_text, IsPath, comment_on, sequence_of, usual_min, usual_max, create_sequence, arith, bound_or, ℤ}
 use Rattle.ddl_parts.proofs.Lemmas.{newline}
 use Rattle.ddl_write.specs.{Paths.listed, Paths.ending, Spelling.spelling, Views.default_text, RowsText.copy_text}
-use Rattle.ddl_laws.proofs.{Relations.new_owner_as, Relations.altered_domain_as, Relations.altered_sequence_as, Relations.setting_as, Relations.set_config_as, Relations.set_value_as, Relations.view_and_body_as, Relations.index_parts_as, Relations.copy_from_as, Relations.altered_table_as, Relations.constraint_body_as, Relations.own_change_as, Tables.create_enum_as, Tables.create_domain_as, Tables.create_table_as, Tables.lines_end, Admin.comment_on_as, Admin.alter_role_as, Admin.create_database_as, Admin.commented_object_as, Rights.granted_as, Rights.revoked_as, Rights.membership_as, Rights.to_as, Rights.from_as, Rights.opening_name, Rights.wanting, Rights.role_wanted, Rights.role_fit, Rights.role_spelled, Rights.rights_opened, Rights.rights_spelled, Sequences.create_sequence_as, Sequences.Values, Sequences.written, Sequences.sequence_is}
+use Rattle.ddl_laws.proofs.{Relations.new_owner_as, Relations.altered_domain_as, Relations.altered_sequence_as, Relations.setting_as, Relations.set_config_as, Relations.set_value_as, Relations.view_and_body_as, Relations.index_parts_as, Relations.copy_from_as, Relations.altered_table_as, Relations.constraint_body_as, Relations.own_change_as, Tables.create_enum_as, Tables.create_domain_as, Tables.create_table_as, Tables.lines_end, Admin.alter_role_as, Admin.create_database_as, Admin.commented_object_as, Rights.granted_as, Rights.revoked_as, Rights.membership_as, Rights.to_as, Rights.from_as, Rights.opening_name, Rights.wanting, Rights.role_wanted, Rights.role_fit, Rights.role_spelled, Rights.rights_opened, Rights.rights_spelled, Sequences.Values, Sequences.written, Sequences.clauses_as, Sequences.writable, Sequences.said, Sequences.bound_of}
 use Rattle.cat_model.specs.declared.grant.Owned.TheVariants as owned
 use Rattle.cat_model.specs.declared.stmt.Stmt.TheVariants as stmt
 use Rattle.cat_model.specs.declared.grant.Commented.TheVariants as commented
+use Rattle.ddl_read.specs.{SequenceGrammar.given_or}
+use Rattle.cat_model.specs.{declared.constraint.SequenceKind.TheVariants.BigInt, declared.constraint.SequenceKind.SequenceKind}
+use Rattle.std.specs.Ordering.{int_eq}
 
 -- ---- the kinds, behind their first words
 
 unfoldable pub created_as : Kinds IsWritable created
-unfolding created create_schema create_role create_view replace_view create_index create_unique_index is_key create_enum_as create_domain_as create_table_as create_database_as view_and_body_as index_parts_as create_sequence_as
+unfolding created create_schema create_role create_view replace_view create_index create_unique_index is_key create_enum_as create_domain_as create_table_as create_database_as view_and_body_as index_parts_as create_sequence
 created_as =
-    let schema = led_as (word_as space (codes "SCHEMA") refl) (kind_as stmt.CreateSchema (end_as (name_as space) refl) (λ n is. is)) refl in
-    let enum = led_as (word_as space (codes "TYPE") refl) create_enum_as refl in
-    let domain = led_as (word_as space (codes "DOMAIN") refl) create_domain_as refl in
-    let table = led_as (word_as space (codes "TABLE") refl) create_table_as refl in
-    let role = led_as (word_as space (codes "ROLE") refl) (kind_as stmt.CreateRole (end_as (name_as space) refl) (λ n is. is)) refl in
-    let database = led_as (word_as space (codes "DATABASE") refl) create_database_as refl in
-    let view = led_as (word_as space (codes "VIEW") refl) (kind_as (λ x. stmt.CreateView x.0 x.1) view_and_body_as (λ x is. is)) refl in
     let again = led_as (word_as space (codes "REPLACE") refl) (led_as (word_as space (codes "VIEW") refl) (kind_as (λ x. stmt.ReplaceView x.0 x.1) view_and_body_as (λ x is. is)) refl) refl in
-    let replaced = led_as (word_as space (codes "OR") refl) again refl in
-    let index = led_as (word_as space (codes "INDEX") refl) (kind_as index_of index_parts_as (λ x is. (is.1.0, is.0, is.1.1.0, is.1.1.1))) refl in
-    let unique = led_as (word_as space (codes "UNIQUE") refl) (led_as (word_as space (codes "INDEX") refl) (kind_as unique_index_of index_parts_as (λ x is. (is.1.0, is.0, is.1.1.0, is.1.1.1))) refl) refl in
-    let sequence = led_as (word_as space (codes "SEQUENCE") refl) create_sequence_as refl in
-    or_as schema (or_as enum (or_as domain (or_as table (or_as role (or_as database (or_as view (or_as replaced (or_as index (or_as unique sequence)))))))))
+    or_as (led_as (word_as space (codes "SCHEMA") refl) (kind_as stmt.CreateSchema (end_as (name_as space) refl) (λ n is. is)) refl) (or_as (led_as (word_as space (codes "TYPE") refl) create_enum_as refl)
+    (or_as (led_as (word_as space (codes "DOMAIN") refl) create_domain_as refl) (or_as (led_as (word_as space (codes "TABLE") refl) create_table_as refl)
+    (or_as (led_as (word_as space (codes "ROLE") refl) (kind_as stmt.CreateRole (end_as (name_as space) refl) (λ n is. is)) refl) (or_as (led_as (word_as space (codes "DATABASE") refl) create_database_as refl)
+    (or_as (led_as (word_as space (codes "VIEW") refl) (kind_as (λ x. stmt.CreateView x.0 x.1) view_and_body_as (λ x is. is)) refl) (or_as (led_as (word_as space (codes "OR") refl) again refl)
+    (or_as (led_as (word_as space (codes "INDEX") refl) (kind_as index_of index_parts_as (λ x is. (is.1.0, is.0, is.1.1.0, is.1.1.1))) refl)
+    (or_as (led_as (word_as space (codes "UNIQUE") refl) (led_as (word_as space (codes "INDEX") refl) (kind_as unique_index_of index_parts_as (λ x is. (is.1.0, is.0, is.1.1.0, is.1.1.1))) refl) refl)
+    (led_as (word_as space (codes "SEQUENCE") refl) (kind_as (λ x. sequence_of x.0 x.1) (then_as (path_as space) (end_as clauses_as refl) refl) (λ x is. writable x.0 x.1 is.0 is.1)) refl))))))))))
 
 unfoldable pub altered_as : Kinds IsWritable altered
 unfolding altered name_and_owner path_and_owner is_key new_owner_as altered_domain_as altered_table_as altered_sequence_as alter_role_as
 altered_as =
     let name : Written name_and_owner = then_as (name_as space) new_owner_as refl in
     let path : Written path_and_owner = then_as (path_as space) new_owner_as refl in
-    let schema = led_as (word_as space (codes "SCHEMA") refl) (kind_as (λ x. stmt.OwnerTo (owned.Schema x.0) x.1) name (λ x is. is)) refl in
-    let types = led_as (word_as space (codes "TYPE") refl) (kind_as (λ x. stmt.OwnerTo (owned.Type x.0) x.1) path (λ x is. is)) refl in
-    let domain = led_as (word_as space (codes "DOMAIN") refl) altered_domain_as refl in
-    let table = led_as (word_as space (codes "TABLE") refl) altered_table_as refl in
-    let sequence = led_as (word_as space (codes "SEQUENCE") refl) altered_sequence_as refl in
-    let view = led_as (word_as space (codes "VIEW") refl) (kind_as (λ x. stmt.OwnerTo (owned.View x.0) x.1) path (λ x is. is)) refl in
-    let database = led_as (word_as space (codes "DATABASE") refl) (kind_as (λ x. stmt.OwnerTo (owned.Database x.0) x.1) name (λ x is. is)) refl in
-    let role = led_as (word_as space (codes "ROLE") refl) alter_role_as refl in
-    or_as schema (or_as types (or_as domain (or_as table (or_as sequence (or_as view (or_as database role))))))
+    or_as (led_as (word_as space (codes "SCHEMA") refl) (kind_as (λ x. stmt.OwnerTo (owned.Schema x.0) x.1) name (λ x is. is)) refl)
+    (or_as (led_as (word_as space (codes "TYPE") refl) (kind_as (λ x. stmt.OwnerTo (owned.Type x.0) x.1) path (λ x is. is)) refl) (or_as (led_as (word_as space (codes "DOMAIN") refl) altered_domain_as refl)
+    (or_as (led_as (word_as space (codes "TABLE") refl) altered_table_as refl) (or_as (led_as (word_as space (codes "SEQUENCE") refl) altered_sequence_as refl)
+    (or_as (led_as (word_as space (codes "VIEW") refl) (kind_as (λ x. stmt.OwnerTo (owned.View x.0) x.1) path (λ x is. is)) refl)
+    (or_as (led_as (word_as space (codes "DATABASE") refl) (kind_as (λ x. stmt.OwnerTo (owned.Database x.0) x.1) name (λ x is. is)) refl) (led_as (word_as space (codes "ROLE") refl) alter_role_as refl)))))))
 
 unfoldable pub selected_as : Kinds IsWritable selected
 unfolding selected is_key set_config_as set_value_as
 selected_as =
-    let calls = or_as (led_as (word_as none (codes "set_config") refl) set_config_as refl) (led_as (word_as none (codes "setval") refl) set_value_as refl) in
-    led_as (word_as space (codes "pg_catalog") refl) (led_as dot_as calls refl) refl
+    led_as (word_as space (codes "pg_catalog") refl) (led_as dot_as (or_as (led_as (word_as none (codes "set_config") refl) set_config_as refl) (led_as (word_as none (codes "setval") refl) set_value_as refl)) refl) refl
 
 unfoldable pub command_as : {g : List ℕ} → Gap g → Kinds IsWritable command
-unfolding command is_key created_as altered_as selected_as setting_as copy_from_as granted_as revoked_as comment_on_as
+unfolding command is_key created_as altered_as selected_as setting_as copy_from_as granted_as revoked_as comment_on commented_object_as
 command_as gap =
-    let create = led_as (word_as gap (codes "CREATE") refl) created_as refl in
-    let alter = led_as (word_as gap (codes "ALTER") refl) altered_as refl in
-    let select = led_as (word_as gap (codes "SELECT") refl) selected_as refl in
-    let set = led_as (word_as gap (codes "SET") refl) setting_as refl in
-    let copy = led_as (word_as gap (codes "COPY") refl) copy_from_as refl in
-    let grant = led_as (word_as gap (codes "GRANT") refl) granted_as refl in
-    let revoke = led_as (word_as gap (codes "REVOKE") refl) revoked_as refl in
-    let comment = led_as (word_as gap (codes "COMMENT") refl) comment_on_as refl in
-    or_as create (or_as alter (or_as select (or_as set (or_as copy (or_as grant (or_as revoke comment))))))
+    or_as (led_as (word_as gap (codes "CREATE") refl) created_as refl) (or_as (led_as (word_as gap (codes "ALTER") refl) altered_as refl) (or_as (led_as (word_as gap (codes "SELECT") refl) selected_as refl)
+    (or_as (led_as (word_as gap (codes "SET") refl) setting_as refl) (or_as (led_as (word_as gap (codes "COPY") refl) copy_from_as refl) (or_as (led_as (word_as gap (codes "GRANT") refl) granted_as refl)
+    (or_as (led_as (word_as gap (codes "REVOKE") refl) revoked_as refl) (led_as (word_as gap (codes "COMMENT") refl) (led_as (word_as space (codes "ON") refl) commented_object_as refl) refl)))))))
 
 unfoldable pub statement_as : {g : List ℕ} → Gap g → Written statement
 unfolding statement command_as
@@ -125,7 +112,7 @@ role_spelled_so {g} gap role m c admin inherit z is text e =
     )
 
 pub spelled_so : {g : List ℕ} (gap : Gap g) (s : Stmt) → IsWords s → IsWritable s → IsSpelled gap s (spelling s)
-unfolding in_create in_alter in_comment added_fit member_fit spelling schema_text enum_text domain_text table_text sequence_text role_text database_text view_text index_text owner_text owned_object domain_check_text owned_by_text changes_text key_text foreign_text added_check_text default_text set_text setting_text value_text grant_text revoke_text member_text comment_text written_literal quoted doubled
+unfolding in_create in_alter in_comment added_fit member_fit spelling schema_text enum_text domain_text table_text sequence_text role_text database_text view_text index_text owner_text owned_object domain_check_text owned_by_text changes_text key_text foreign_text added_check_text default_text set_text setting_text value_text grant_text revoke_text member_text comment_text written_literal quoted doubled sequence_of
 spelled_so gap (stmt.CreateSchema n) words is = (in_create gap _ 0 (n, is, refl), refl)
 spelled_so {g} gap (stmt.CreateEnum q labels) words is = (
   in_create gap _ 1 ((q, labels), (is.0, is.1), refl),
@@ -144,8 +131,10 @@ spelled_so gap (stmt.ReplaceView q body) words is = (in_create gap _ 7 ((q, body
 spelled_so gap (stmt.CreateIndex q n m rest) words is = (in_create gap _ 8 (record { name = n; table = q; method = m; rest = rest }, (is.1, (is.0, (is.2, is.3))), refl), refl)
 spelled_so gap (stmt.CreateUniqueIndex q n m rest) words is = (in_create gap _ 9 (record { name = n; table = q; method = m; rest = rest }, (is.1, (is.0, (is.2, is.3))), refl), refl)
 spelled_so gap (stmt.CreateSequence q kind start step min max cache cycle) words is =
+    let bound_is : (usual n : ℤ) → bound_or usual (bound_of (int_eq n usual) n) ≡ n = λ usual n. grind arith in
+    let said_is : (kind : SequenceKind) → given_or BigInt (said kind) ≡ kind = λ x. grind arith in
     let v : Values = record { kind = kind; start = start; step = step; min = min; max = max; cache = cache; cycle = cycle } in
-    (in_create gap _ 10 ((q, written v), (is.0, (v, (is.1, is.2, is.3, is.4, is.5), refl)), sequence_is q v), refl)
+    (in_create gap _ 10 ((q, written v), (is.0, (v, (is.1, is.2, is.3, is.4, is.5), refl)), rw (said_is v.kind, bound_is (usual_min v.kind v.step) v.min, bound_is (usual_max v.kind v.step) v.max) refl), refl)
 spelled_so {g} gap (stmt.OwnerTo (owned.Schema n) r) words is = (in_alter gap _ 0 ((n, r), (is.0, is.1), refl), owner_behind g (codes "ALTER SCHEMA ") (written_name n) (written_name r))
 spelled_so {g} gap (stmt.OwnerTo (owned.Type q) r) words is = (in_alter gap _ 1 ((q, r), (is.0, is.1), refl), owner_behind g (codes "ALTER TYPE ") (path q) (written_name r))
 spelled_so {g} gap (stmt.OwnerTo (owned.Domain q) r) words is = (in_alter gap _ 2 ((q, its_owner r), (is.0, inl (r, is.1, refl)), refl), owner_behind g (codes "ALTER DOMAIN ") (path q) (written_name r))

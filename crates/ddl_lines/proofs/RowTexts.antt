@@ -1,7 +1,6 @@
 -- Rows as a text: what is read are rows, and rows that are written are read back.
 use Rattle.ddl_lines.proofs.Common.{◌≡◌, ℕ, suc, ◌+◌, ◌≤◌, min, false, eqb, List, [], ◌∷◌, ◌++◌, length, drop, Ok, refl, sym, ap, ◌∙◌, arith, append_assoc, append-nil, length-append, onto_first, prefix_len, AllByRecursion as ByRecursion, drop-append_seam, drop-append-add, cond-false, length-drop, flat_map-cons, newline, end_mark, lines, before_end_mark, data_lines, lines_nil, is_between, with_feeds, rows_in, AreRows, Copied, copied, rows_from, rows_by, rows_at, rows_behind}
-use Rattle.std.proofs.{lemmas.Grind.flat_map-append, lemmas.List.Sums.prefix_len-le-length}
-use Rattle.std.specs.Str.{bytes_eq}
+use Rattle.std.{proofs.lemmas.Grind.flat_map-append, proofs.lemmas.List.Sums.prefix_len-le-length, specs.Str.bytes_eq}
 
 -- ---- lines
 
@@ -32,12 +31,10 @@ unfolding lines
 line_is_first [] rest plain = refl
 line_is_first (b ∷ line) rest plain = rw plain.0 (ap (onto_first b) (line_is_first line rest plain.1))
 
-data_line : (line rest : List ℕ) → IsLine line → data_lines (line ++ newline ∷ rest) ≡ line ∷ data_lines rest
-data_line line rest is = ap before_end_mark (line_is_first line rest is.0) ∙ cond-false _ _ _ is.1
-
 lines_are_first : (ls : List (List ℕ)) (rest : List ℕ) → ByRecursion IsLine ls → data_lines (with_feeds ls ++ rest) ≡ ls ++ data_lines rest
 lines_are_first [] rest all = refl
 lines_are_first (l ∷ ls) rest all =
+    let data_line : (line rest : List ℕ) → IsLine line → data_lines (line ++ newline ∷ rest) ≡ line ∷ data_lines rest = λ line rest is. ap before_end_mark (line_is_first line rest is.0) ∙ cond-false _ _ _ is.1 in
     let one : with_feeds (l ∷ ls) ≡ (l ++ newline ∷ []) ++ with_feeds ls = flat_map-cons (λ (line : List ℕ). line ++ newline ∷ []) l ls in
     let joined : ((l ++ newline ∷ []) ++ with_feeds ls) ++ rest ≡ l ++ (newline ∷ (with_feeds ls ++ rest)) = simp append_assoc in
     ap (λ (x : List ℕ). data_lines (x ++ rest)) one ∙ ap data_lines joined ∙ data_line l (with_feeds ls ++ rest) all.0 ∙ ap (λ (x : List (List ℕ)). l ∷ x) (lines_are_first ls rest all.1)
@@ -46,14 +43,6 @@ lines_are_first (l ∷ ls) rest all =
 
 no_lines : data_lines [] ≡ []
 no_lines = ap before_end_mark lines_nil
-
-no_rows : AreRows []
-unfolding rows_in
-no_rows = ap with_feeds no_lines
-
-ended : (rest : List ℕ) → data_lines (end_mark ++ newline ∷ rest) ≡ []
-unfolding lines
-ended rest = refl
 
 -- rows before more of a text
 rows_are_first : (rows rest : List ℕ) → AreRows rows → rows_in (rows ++ rest) ≡ rows ++ rows_in rest
@@ -71,39 +60,31 @@ rows_again bytes =
 -- ---- rows behind a place
 
 pub read_are_rows : (text : List ℕ) (at : ℕ) (c : Copied) → rows_behind text at ≡ Ok c → AreRows c.rows
-unfolding rows_at rows_behind rows_from
-read_are_rows text at c e = let place = at + prefix_len is_between (drop at text) in (grind (arith, no_rows, rows_again))
-
-by_bounds : (text : List ℕ) (at : ℕ) (rest : List ℕ) (c : Copied) → at ≤ length text → rows_by text at rest ≡ Ok c → (at ≤ c.end) × (c.end ≤ length text)
-unfolding rows_from
-by_bounds text at rest c le e = grind arith
+unfolding rows_at rows_behind rows_from rows_in
+read_are_rows text at c e = let place = at + prefix_len is_between (drop at text) in (grind (arith, rows_again, no_lines))
 
 pub rows_bounds : (text : List ℕ) (at : ℕ) (c : Copied) → at ≤ length text → rows_behind text at ≡ Ok c → (at ≤ c.end) × (c.end ≤ length text)
-unfolding rows_behind rows_at
+unfolding rows_behind rows_at rows_from
 rows_bounds text at c le e =
+    let by_bounds : (text : List ℕ) (at : ℕ) (rest : List ℕ) (c : Copied) → at ≤ length text → rows_by text at rest ≡ Ok c → (at ≤ c.end) × (c.end ≤ length text) = λ text at rest c le e. grind arith in
     let place = at + prefix_len is_between (drop at text) in
-    let within : place ≤ length text = omega (arith, prefix_len-le-length is_between (drop at text), length-drop at text) in
-    let found = by_bounds text place (drop place text) c within e in
+    let found = by_bounds text place (drop place text) c (omega (arith, prefix_len-le-length is_between (drop at text), length-drop at text)) e in
     (omega (arith, found.0), found.1)
 
 -- ---- written rows
-
-by_feed : (text more : List ℕ) (at : ℕ) (rest : List ℕ) → rest ≡ newline ∷ more → rows_by text at rest ≡ Ok (rows_from text (at + 1))
-by_feed text more at rest is = ap (rows_by text at) is
 
 abbrev copied_as : List ℕ → ℕ → Copied
 copied_as rows n = record { rows = rows; end = n }
 
 pub rows_read_back : (front rows rest : List ℕ) → AreRows rows → rows_behind (front ++ (newline ∷ (rows ++ (end_mark ++ (newline ∷ rest))))) (length front)
     ≡ Ok (record { rows = rows; end = length front + 1 + length rows + 3 })
-unfolding is_between rows_at rows_behind rows_from rows_in
+unfolding is_between rows_at rows_behind rows_from rows_in lines
 rows_read_back front rows rest are =
+    let ended : (rest : List ℕ) → data_lines (end_mark ++ newline ∷ rest) ≡ [] = λ rest. refl in
     let behind : List ℕ = rows ++ (end_mark ++ (newline ∷ rest)) in
     let text : List ℕ = front ++ (newline ∷ behind) in
     let at = length front in
     let feed : drop at text ≡ newline ∷ behind = drop-append_seam front (newline ∷ behind) in
-    let here : drop (at + 1) text ≡ behind = drop-append-add front (newline ∷ behind) 1 in
     let read : rows_in behind ≡ rows = rows_are_first rows (end_mark ++ (newline ∷ rest)) are ∙ ap (λ (x : List (List ℕ)). rows ++ with_feeds x) (ended rest) ∙ append-nil rows in
-    let size : length text ≡ at + suc (length rows + suc (suc (suc (length rest)))) = length-append front (newline ∷ behind) ∙ ap (λ n. at + suc n) (length-append rows (end_mark ++ (newline ∷ rest))) in
-    let high : min (at + 1 + length rows + 3) (length text) ≡ at + 1 + length rows + 3 = omega (arith, size) in
-    (grind arith) ∙ ap (λ (x : List ℕ). Ok (copied text (at + 1) x)) (ap rows_in here ∙ read) ∙ ap (λ n. Ok (copied_as rows n)) high
+    let high : min (at + 1 + length rows + 3) (length text) ≡ at + 1 + length rows + 3 = omega (arith, (length-append front (newline ∷ behind) ∙ ap (λ n. at + suc n) (length-append rows (end_mark ++ (newline ∷ rest))))) in
+    (grind arith) ∙ ap (λ (x : List ℕ). Ok (copied text (at + 1) x)) (ap rows_in (drop-append-add front (newline ∷ behind) 1) ∙ read) ∙ ap (λ n. Ok (copied_as rows n)) high

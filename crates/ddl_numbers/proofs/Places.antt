@@ -1,6 +1,6 @@
 -- The token at a place, and a number that is read there.
-use Rattle.ddl_parts.proofs.Lemmas.{◌≡◌, ℕ, zero, suc, ◌+◌, ◌<◌, ◌≤◌, List, [], ◌∷◌, length, drop, Option, Some, None, Ok, refl, ap, ◌∙◌, arith, Lexeme, Reading, stop, first_by}
-use Rattle.ddl_numbers.specs.Numbers.{count_first, counted, count_value, count}
+use Rattle.ddl_parts.proofs.Lemmas.{◌≡◌, ℕ, zero, suc, ◌+◌, ◌<◌, ◌≤◌, List, [], ◌∷◌, length, drop, Some, None, Ok, refl, ap, ◌∙◌, arith, Lexeme, stop}
+use Rattle.ddl_numbers.specs.Numbers.{count_first, count_value, count}
 
 -- the token at a place before the end
 pub record IsAt (ts : List Lexeme) (at : ℕ) : Type 0 where
@@ -19,9 +19,6 @@ none_behind (t ∷ ts) zero low = absurd (omega arith)
 none_behind (t ∷ ts) (suc at) low = none_behind ts at (omega arith)
 
 -- ---- a number
-
-abbrev by_count : Lexeme → List Lexeme → Option ℕ → Reading ℕ
-by_count t ts n = first_by t ts (counted n)
 
 pub count_is : (limit : ℕ) (ts : List Lexeme) (at n : ℕ) (h : IsAt ts at) → count_first limit (drop at ts) ≡ Some n → (count limit).read (drop at ts) ≡ Ok (n, drop (at + 1) ts)
 unfolding count_value

@@ -5,7 +5,7 @@ ghost use Rattle.sql_lex.specs.Bytes.{is_digit};
 ghost use Rattle.ddl_parts.specs.Pieces.{GivesPart};
 ghost use Rattle.ddl_numbers.specs.Numbers.{digits_below, count_first, count, opposite, whole_number};
 
-use ddl_parts::{Halt, Parsed, Pieces, ReadError};
+use ddl_parts::{Halt, Parsed, Pieces, ReadError, read};
 
 /// One more than the greatest number of 64 bits.
 pub const LIMIT: u64 = 1 << 63;
@@ -86,11 +86,8 @@ fn count(pieces: &Pieces<'_>, at: usize, limit: u64) -> Parsed<u64>
 pub fn whole_number(pieces: &Pieces<'_>, at: usize) -> Parsed<i64>
     ensures { GivesPart pieces.now (λ n. n) result (whole_number.read (drop at pieces.now)) }
 {
-    if pieces.is_sign(at, b'-') {
-        let at = pieces.sign(at, b'-')?;
-        let (number, at) = count(pieces, at, LIMIT + 1)?;
-        return Ok((opposite(number), at));
+    if let Some(at) = pieces.after_sign(at, b'-') {
+        return read!(pieces, at; number: count[pieces, at, LIMIT + 1] => opposite(number));
     }
-    let (number, at) = count(pieces, at, LIMIT)?;
-    Ok((number as i64, at))
+    read!(pieces, at; number: count[pieces, at, LIMIT] => number as i64)
 }

@@ -1,6 +1,6 @@
 -- The laws of one of two parts, and of a part that may be left out.
-use Rattle.ddl_parts.proofs.Common.{arith, ◌≡◌, Bool, true, false, List, ◌++◌, Ok, refl, ap, ◌∙◌, ◌⊎◌, inl, inr, Some, None, ◌∷◌, Lexeme, starts, Part, choose, choose_at, optional, nothing, seen, Lawful, Begins, Avoids, Apart}
-use Rattle.ddl_parts.proofs.{Steps.Agrees, Steps.starts_again, Steps.starts_neither, Steps.starts-append, Steps.avoids_begun, Told.Tells, Told.left_of, Told.long_of, Told.told, Told.lawful, Told.told_as, Simple.seen_laws, Simple.seen_begins, Simple.nothing_laws, Simple.nothing_avoids}
+use Rattle.ddl_parts.proofs.Common.{arith, ◌≡◌, Bool, true, false, List, ◌++◌, Ok, refl, ap, ◌∙◌, ◌⊎◌, inl, inr, ◌∷◌, Lexeme, starts, Part, choose, choose_at, Lawful, Begins, Avoids, Apart}
+use Rattle.ddl_parts.proofs.{Steps.Agrees, Steps.starts_again, Steps.starts_neither, Steps.starts-append, Steps.avoids_begun, Told.Tells, Told.left_of, Told.long_of, Told.told, Told.lawful, Told.told_as}
 
 -- the reading by whether the first is taken
 chosen : {A : Type 0} (test : Lexeme → Bool) (p q : Part A) (ts : List Lexeme) (b : Bool) → starts test ts ≡ b → (choose test p q).read ts ≡ choose_at b (p.read ts) (q.read ts)
@@ -17,12 +17,10 @@ choose_tells test agrees p q lp lq ts false e =
 -- one of two parts has the laws where the next token tells them apart
 pub choose_laws : {A : Type 0} (test : Lexeme → Bool) → Agrees test → (p q : Part A) → Lawful p → Lawful q → Begins test p → Avoids test q → Lawful (choose test p q)
 choose_laws {A} test agrees p q lp lq begins avoids =
-    lawful (λ ts. choose_tells test agrees p q lp lq ts (starts test ts) refl) (λ v front rest spells free. by v front rest spells (starts_neither p.goes_on q.goes_on rest free))
-    (record { value = lp.example.value; tokens = lp.example.tokens; spells = inl lp.example.spells })
-  where
-    by : (v : A) (front rest : List Lexeme) → p.Spells v front ⊎ q.Spells v front → (starts p.goes_on rest ≡ false) × (starts q.goes_on rest ≡ false) → (choose test p q).read (front ++ rest) ≡ Ok (v, rest)
-    by v front rest (inl spells) free = chosen test p q (front ++ rest) true (starts-append test front rest (begins v front spells)) ∙ lp.only v front rest spells free.0
-    by v front rest (inr spells) free = chosen test p q (front ++ rest) false (avoids v front rest spells free.1) ∙ lq.only v front rest spells free.1
+    lawful (λ ts. choose_tells test agrees p q lp lq ts (starts test ts) refl) (λ v front rest spells free. let none = starts_neither p.goes_on q.goes_on rest free in elim spells [
+      | inl s ↦ chosen test p q (front ++ rest) true (starts-append test front rest (begins v front s)) ∙ lp.only v front rest s none.0
+      | inr s ↦ chosen test p q (front ++ rest) false (avoids v front rest s none.1) ∙ lq.only v front rest s none.1
+    ]) (record { value = lp.example.value; tokens = lp.example.tokens; spells = inl lp.example.spells })
 
 -- where the second begins with other tokens
 pub choose_apart : {A : Type 0} (test other : Lexeme → Bool) → Agrees test → (p q : Part A) → Lawful p → Lawful q → Begins test p → Begins other q → Apart other test → Lawful (choose test p q)
@@ -31,6 +29,3 @@ choose_apart test other agrees p q lp lq begins begins' apart = choose_laws test
 -- what spells one of two parts begins as one of them does
 pub choose_begins : {A : Type 0} (test begun : Lexeme → Bool) (p q : Part A) → Begins begun p → Begins begun q → Begins begun (choose test p q)
 choose_begins test begun p q b c = grind arith
-
-pub optional_laws : {A : Type 0} (test : Lexeme → Bool) → Agrees test → (p : Part A) → Lawful p → Begins test p → Lawful (optional test p)
-optional_laws test agrees p lp begins = choose_laws test agrees (seen Some p) (nothing test None) (seen_laws Some p lp) (nothing_laws test None) (seen_begins test Some p begins) (nothing_avoids test None)

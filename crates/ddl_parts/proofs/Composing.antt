@@ -1,6 +1,6 @@
 -- Laws of parts put together, where the parts themselves go without saying, and with which tokens they begin.
 use Rattle.ddl_parts.proofs.Common.{◌≡◌, ℕ, Bool, true, false, List, Some, None, Lexeme, is_word, is_sign, Part, mark, seen, choose, nothing, optional, ◌then◌, ◌▸◌, ◌◂◌, Lawful, Apart, Avoids, Begins, name, is_name, literal, is_literal}
-use Rattle.ddl_parts.proofs.{Steps.Agrees, Steps.avoids_begun, Shorter.is_far, Shorter.word_agrees, Shorter.sign_agrees, Shorter.name_agrees, Shorter.literal_agrees, Simple.seen_laws, Simple.seen_begins, Simple.mark_laws, Simple.mark_begins, Simple.nothing_laws, Simple.nothing_avoids, Sequence.then_laws, Sequence.then_begins, Sequence.lead_begins, Choice.choose_laws, Leads.a_word, Leads.a_sign, Leads.word_is, Leads.sign_is, Leads.word_laws, Leads.sign_laws, Leads.ended_laws, Leads.worded_laws, Leads.choose_avoids, Leads.name_laws, Leads.name_begins, Leads.literal_laws, Leads.literal_begins, Leads.qualified_laws, Leads.words_apart, Leads.word_no_sign, Tables.one_of_laws, Telling.avoids_where, Telling.free, Telling.nothing_avoids_some, Telling.sign_no_word, Telling.signs_apart}
+use Rattle.ddl_parts.proofs.{Steps.Agrees, Steps.avoids_begun, Shorter.is_far, Shorter.word_agrees, Shorter.sign_agrees, Shorter.name_agrees, Shorter.literal_agrees, Simple.seen_laws, Simple.seen_begins, Simple.mark_laws, Simple.mark_begins, Simple.nothing_laws, Simple.nothing_avoids, Sequence.then_laws, Sequence.then_begins, Sequence.lead_begins, Choice.choose_laws, Leads.a_word, Leads.a_sign, Leads.word_is, Leads.sign_is, Leads.word_laws, Leads.sign_laws, Leads.ended_laws, Leads.choose_avoids, Leads.name_laws, Leads.name_begins, Leads.literal_laws, Leads.literal_begins, Leads.qualified_laws, Leads.words_apart, Leads.word_no_sign, Tables.one_of_laws, Telling.avoids_where, Telling.free, Telling.nothing_avoids_some, Telling.sign_no_word, Telling.signs_apart, Sequence.close_laws}
 
 -- ---- the laws
 
@@ -17,7 +17,7 @@ pub lawful_ended : {A : Type 0} {p : Part A} (b : ℕ) → Lawful p → Apart (i
 lawful_ended {p = p} b lp apart = ended_laws b p lp apart
 
 pub lawful_worded : {A : Type 0} {p : Part A} (key : List ℕ) → is_far key ≡ true → Lawful p → Apart (is_word key) p.goes_on → Lawful (p ◂ is_word key)
-lawful_worded {p = p} key far lp apart = worded_laws key far p lp apart
+lawful_worded {p = p} key far lp apart = close_laws p (is_word key) (word_agrees key far) (a_word key) (word_is key) lp apart
 
 pub lawful_then : {A B : Type 0} {p : Part A} {q : Part B} → Lawful p → Lawful q → Avoids p.goes_on q → Lawful (p then q)
 lawful_then {p = p} {q = q} lp lq avoids = then_laws p q lp lq avoids

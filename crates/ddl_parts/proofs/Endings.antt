@@ -1,5 +1,5 @@
 -- The last two tokens of a run.
-use Rattle.ddl_parts.proofs.Common.{◌≡◌, ◌+◌, ◌-◌, ◌≤◌, ℕ, List, ◌&&◌, length, take, drop, codes, ap, ◌∙◌, arith, drop-take, length-drop, Lexeme, is_word, starts, are_not_null}
+use Rattle.ddl_parts.proofs.Common.{◌≡◌, ◌+◌, ◌-◌, ◌≤◌, ℕ, List, ◌&&◌, length, take, drop, codes, ap, ◌∙◌, arith, drop-take, Lexeme, is_word, starts, are_not_null}
 use Rattle.ddl_parts.proofs.Slices.{drop_twice}
 
 last_two : (ts : List Lexeme) (from end : ℕ) → from + 2 ≤ end → drop (end - from - 2) (take (end - from) (drop from ts)) ≡ take 2 (drop (end - 2) ts)
@@ -9,13 +9,10 @@ last_two ts from end le =
     ∙ ap (take 2) (drop_twice (end - from - 2) from ts)
     ∙ ap (λ n. take 2 (drop n ts)) (let e : from + (end - from - 2) ≡ end - 2 = omega arith in e)
 
-first_two : (ts : List Lexeme) → 2 ≤ length ts → are_not_null (take 2 ts) ≡ (starts (is_word (codes "not")) ts && starts (is_word (codes "null")) (drop 1 ts))
-first_two ts le = grind arith
-
 -- a run ends with NOT NULL where these two stand before its end
 pub ends_null : (ts : List Lexeme) (from end : ℕ) → from + 2 ≤ end → end ≤ length ts
     → are_not_null (drop (end - from - 2) (take (end - from) (drop from ts))) ≡ (starts (is_word (codes "not")) (drop (end - 2) ts) && starts (is_word (codes "null")) (drop (end - 1) ts))
 ends_null ts from end le high =
     ap are_not_null (last_two ts from end le)
-    ∙ first_two (drop (end - 2) ts) (omega (arith, length-drop (end - 2) ts))
+    ∙ (grind arith)
     ∙ ap (λ (r : List Lexeme). starts (is_word (codes "not")) (drop (end - 2) ts) && starts (is_word (codes "null")) r) (drop_twice 1 (end - 2) ts ∙ ap (λ n. drop n ts) (let e : end - 2 + 1 ≡ end - 1 = omega arith in e))

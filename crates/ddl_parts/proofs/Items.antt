@@ -1,6 +1,6 @@
 -- Items that a loop reads, one after another: those so far and those behind the place are the whole.
 use Rattle.ddl_parts.proofs.Common.{◌≡◌, ℕ, zero, suc, ◌-◌, ◌<◌, Bool, true, false, List, [], ◌∷◌, ◌++◌, length, drop, Ok, sym, ap, ◌∙◌, append_assoc, append-nil, length-append, arith, ReadError, Lexeme, starts, Reading, ◌>>=◌, Items, GivesPart, Fails}
-use Rattle.ddl_parts.proofs.{Steps.gives, Repeated.AreApart, Repeated.begun_long, Repeated.from_none, Repeated.from_stop, Repeated.from_read}
+use Rattle.ddl_parts.proofs.{Repeated.AreApart, Repeated.begun_long, Repeated.from_none, Repeated.from_stop, Repeated.from_read}
 pub use Rattle.ddl_parts.proofs.Repeated.{items_from}
 
 -- items that were read, before those that are read behind them
@@ -13,15 +13,9 @@ preceded front read = read >>= λ others. Ok (front ++ others.0, others.1)
 pub record AreLeft {A : Type 0} (items : Items A) (whole : Reading (List A)) (ts : List Lexeme) (so_far : List A) (s : items.State) (at : ℕ) : Type 0 where
   pub same : whole ≡ preceded so_far (items_from items s (drop at ts))
 
-nothing_before : {A : Type 0} (read : Reading (List A)) → preceded [] read ≡ read
-nothing_before read = grind arith
-
-one_before : {A : Type 0} (so_far : List A) (v : A) (read : Reading (List A)) → preceded so_far (read >>= λ others. gives (v ∷ others.0) others.1) ≡ preceded (so_far ++ v ∷ []) read
-one_before so_far v read = grind (arith, append_assoc)
-
 -- at the start
 pub all_left : {A : Type 0} (items : Items A) (ts : List Lexeme) (at : ℕ) → AreLeft items (items_from items items.start (drop at ts)) ts [] items.start at
-all_left items ts at = record { same = sym (nothing_before (items_from items items.start (drop at ts))) }
+all_left items ts at = record { same = sym (grind arith) }
 
 -- an item was read
 pub one_more : {A B : Type 0} (goes_on : Lexeme → Bool) (items : Items A) → AreApart goes_on items → (view : B → A) (whole : Reading (List A)) (ts : List Lexeme) (so_far : List A) (s : items.State) (at : ℕ) (x : B × ℕ)
@@ -29,7 +23,7 @@ pub one_more : {A B : Type 0} (goes_on : Lexeme → Bool) (items : Items A) → 
 one_more goes_on items h view whole ts so_far s at x left begins e = record {
   same = left.same
       ∙ ap (preceded so_far) (from_read h s (drop at ts) (Ok (view x.0, drop x.1 ts)) begins e)
-      ∙ one_before so_far (view x.0) (items_from items (items.next s (view x.0)) (drop x.1 ts));
+      ∙ (grind (arith, append_assoc));
 }
 
 length_drop : {X : Type 0} (n : ℕ) (xs : List X) → length (drop n xs) ≡ length xs - n
@@ -42,9 +36,7 @@ pub fewer : {A B : Type 0} (goes_on : Lexeme → Bool) (items : Items A) → Are
     → GivesPart ts view (Ok x) ((items.item s).read (drop at ts)) → length ts - x.1 < length ts - at
 fewer goes_on items h view ts s at x e =
     let f = (h.laws s).found (drop at ts) (view x.0) (drop x.1 ts) e in
-    let long = begun_long (items.more s) f.front (h.begins s (view x.0) f.front f.spells) in
-    let sizes = ap (λ (r : List Lexeme). length r) f.parts ∙ length-append f.front (drop x.1 ts) in
-    omega (arith, long, sizes, length_drop at ts, length_drop x.1 ts)
+    omega (arith, (begun_long (items.more s) f.front (h.begins s (view x.0) f.front f.spells)), (ap (λ (r : List Lexeme). length r) f.parts ∙ length-append f.front (drop x.1 ts)), length_drop at ts, length_drop x.1 ts)
 
 -- no item begins: those so far are all
 pub none_more : {A : Type 0} (items : Items A) (whole : Reading (List A)) (ts : List Lexeme) (so_far : List A) (s : items.State) (at : ℕ)

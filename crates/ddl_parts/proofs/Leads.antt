@@ -1,6 +1,6 @@
 -- The laws of words, signs, names and literals; key words that differ are told apart.
-use Rattle.ddl_parts.proofs.Common.{◌≡◌, ℕ, Bool, true, false, List, [], ◌∷◌, refl, ap, ◌∙◌, bytes_eq, codes, eq-eqb, arith, str_eq_ignore_ascii_case, str_to_ascii_lowercase, is_utf8, chars, encode, bytes_eq-Decides, next_is, TokenKind, Word, QuotedName, Literal, Sign, name_of, literal_of, is_keyword_of, undoubled, inside, Lexeme, is_word, is_sign, is_sign_kind, Part, choose, ◌then◌, ◌▸◌, ◌◂◌, Lawful, Begins, Avoids, Apart, name, name_value, name_in, is_name, literal, literal_value, text_in, is_literal, qualified}
-use Rattle.ddl_parts.proofs.{Steps.avoids_never, Steps.avoids_begun, Shorter.is_far, Shorter.word_agrees, Shorter.sign_agrees, Shorter.name_shortens, Shorter.literal_shortens, Simple.one_laws, Simple.seen_laws, Simple.seen_begins, Sequence.then_laws, Sequence.then_begins, Sequence.lead_laws, Sequence.close_laws}
+use Rattle.ddl_parts.proofs.Common.{AllByRecursion, ◌≢◌, list_any, ◌==◌, or_parts, nat_tests, length, nat_lt, IsName, IsUtf8-from_is_utf8, All-from_recursion, Option, Some, Ok, ◌≡◌, ℕ, Bool, true, false, List, [], ◌∷◌, refl, ap, ◌∙◌, bytes_eq, codes, eq-eqb, arith, str_eq_ignore_ascii_case, str_to_ascii_lowercase, is_utf8, chars, encode, bytes_eq-Decides, next_is, TokenKind, Word, QuotedName, Literal, Sign, name_of, literal_of, is_keyword_of, undoubled, inside, Lexeme, is_word, is_sign, Part, choose, ◌then◌, ◌▸◌, ◌◂◌, Lawful, Begins, Avoids, Apart, name, name_value, name_in, is_name, literal, literal_value, text_in, is_literal, qualified, Err, path_value, shortened, IsTooLong}
+use Rattle.ddl_parts.proofs.{Steps.avoids_never, Steps.avoids_begun, Shorter.is_far, Shorter.word_agrees, Shorter.sign_agrees, Shorter.name_shortens, Simple.one_laws, Simple.seen_laws, Simple.seen_begins, Sequence.then_laws, Sequence.then_begins, Sequence.lead_laws, Sequence.close_laws, Shorter.no_long_text, Shorter.word_no_text}
 
 -- ---- tokens that stand for something
 
@@ -26,8 +26,10 @@ unfolding name_value name_in name_of is_utf8 chars encode
 name_laws = one_laws name_value name_shortens (a_word (codes "a")) (codes "a") refl
 
 pub literal_laws : Lawful literal
-unfolding literal_value text_in literal_of undoubled inside next_is is_utf8 chars encode
-literal_laws = one_laws literal_value literal_shortens a_literal [] refl
+unfolding literal_value text_in literal_of undoubled inside next_is is_utf8 chars encode path_value
+literal_laws =
+    let no_text : (t : Lexeme) → IsTooLong t → literal_value t ≡ Err false → literal_value (shortened t) ≡ Err false = λ t h f. grind (arith, word_no_text) in
+    one_laws literal_value (record { long = λ t e. absurd (no_long_text t e); none = no_text }) a_literal [] refl
 
 pub name_begins : Begins is_name name
 unfolding is_name name_value name_in name_of
@@ -36,6 +38,19 @@ name_begins = grind arith
 pub literal_begins : Begins is_literal literal
 unfolding is_literal literal_value text_in literal_of
 literal_begins = grind arith
+
+-- ---- a name that was read
+
+no_zero : (bytes : List ℕ) → list_any (λ b. b == 0) bytes ≡ false → AllByRecursion (λ b. b ≢ 0) bytes
+no_zero [] e = tt
+no_zero (b ∷ bytes) e = let h = or_parts (b == 0) (list_any (λ b. b == 0) bytes) e in ((λ (is : b ≡ 0). grind (arith, nat_tests)), no_zero bytes h.1)
+
+pub name_in_is : (o : Option (List ℕ)) (n : List ℕ) → name_in o ≡ Ok n → (o ≡ Some n) × IsName n
+unfolding name_in
+name_in_is o n e =
+    let is_a_name : (bytes : List ℕ) → (length bytes == 0) ≡ false → list_any (λ b. b == 0) bytes ≡ false → nat_lt 63 (length bytes) ≡ false → is_utf8 bytes ≡ true → IsName bytes =
+    λ bytes some zeros short utf8. record { some = grind (arith, nat_tests); short = grind (arith, nat_tests); utf8 = IsUtf8-from_is_utf8 bytes utf8; no_zero = All-from_recursion (λ b. b ≢ 0) bytes (no_zero bytes zeros) } in
+    grind (arith, or_parts, is_a_name)
 
 -- ---- a word or a sign before a part, or behind it
 
@@ -48,9 +63,6 @@ sign_laws b p lp = lead_laws (is_sign b) (sign_agrees b) (a_sign b) p (sign_is b
 -- behind a part that never goes on
 pub ended_laws : {A : Type 0} (b : ℕ) (p : Part A) → Lawful p → Apart (is_sign b) p.goes_on → Lawful (p ◂ is_sign b)
 ended_laws b p lp apart = close_laws p (is_sign b) (sign_agrees b) (a_sign b) (sign_is b) lp apart
-
-pub worded_laws : {A : Type 0} (key : List ℕ) → is_far key ≡ true → (p : Part A) → Lawful p → Apart (is_word key) p.goes_on → Lawful (p ◂ is_word key)
-worded_laws key far p lp apart = close_laws p (is_word key) (word_agrees key far) (a_word key) (word_is key) lp apart
 
 pub qualified_laws : Lawful qualified
 qualified_laws = search (seen_laws, then_laws, name_laws, sign_laws, avoids_never, arith)
@@ -70,13 +82,9 @@ pub words_apart : (a b : List ℕ) → str_eq_ignore_ascii_case a b ≡ false �
 unfolding is_word
 words_apart a b differ t e = words_by t.kind t.word a b differ e
 
-word_no_sign_by : (k : TokenKind) (w key : List ℕ) (b : ℕ) → is_keyword_of k w key ≡ true → is_sign_kind b k ≡ false
-unfolding is_keyword_of
-word_no_sign_by k w key b e = grind arith
-
 pub word_no_sign : (key : List ℕ) (b : ℕ) → Apart (is_word key) (is_sign b)
-unfolding is_word is_sign
-word_no_sign key b t e = word_no_sign_by t.kind t.word key b e
+unfolding is_word is_sign is_keyword_of
+word_no_sign key b t e = grind arith
 
 -- ---- one of two parts that both avoid some tokens
 
@@ -86,6 +94,3 @@ choose_avoids test which p q a b = grind arith
 -- what begins with one word doesn't begin with another
 pub word_avoids : {A : Type 0} (other key : List ℕ) (p : Part A) → str_eq_ignore_ascii_case key other ≡ false → Begins (is_word key) p → Avoids (is_word other) p
 word_avoids other key p differ begins = avoids_begun (is_word key) (is_word other) p begins (words_apart key other differ)
-
-pub sign_avoids : {A : Type 0} (b : ℕ) (key : List ℕ) (p : Part A) → Begins (is_word key) p → Avoids (is_sign b) p
-sign_avoids b key p begins = avoids_begun (is_word key) (is_sign b) p begins (word_no_sign key b)

@@ -1,10 +1,16 @@
 -- The laws of lists with commas between their items.
-use Rattle.ddl_parts.proofs.Common.{◌≡◌, Bool, true, false, ◌||◌, refl, or_parts, Lexeme, Part, Lawful, Begins, Apart, name, is_name, comma, item_begins, item_of, listing, listed}
+use Rattle.ddl_parts.proofs.Common.{arith, Bool, true, false, ◌||◌, refl, or_parts, Lexeme, Part, Lawful, Begins, Apart, name, is_name, comma, item_begins, item_of, listing, listed}
 use Rattle.ddl_parts.proofs.{Steps.Agrees, Shorter.sign_agrees, Shorter.name_agrees, Sequence.lead_begins, Leads.sign_laws, Leads.name_laws, Leads.name_begins, Repeated.AreApart, Repeated.many_laws}
 
 -- a comma can't go on with an item, so that items are told apart
 pub listing_apart : {A : Type 0} (first : Lexeme → Bool) → Agrees first → (p : Part A) → Lawful p → Begins first p → Apart comma p.goes_on → AreApart (λ t. first t || (comma t || p.goes_on t)) (listing first p)
-listing_apart {A} first agrees p lp begins apart = record { laws = laws; agrees = agreeing; begins = begun; apart = behind; covers = covers }
+listing_apart first agrees p lp begins apart = record {
+  laws = laws;
+  agrees = agreeing;
+  begins = grind (arith, lead_begins);
+  apart = grind arith;
+  covers = grind (arith, or_parts);
+}
   where
     laws : (s : Bool) → Lawful (item_of p s)
     laws true = sign_laws 44 p lp
@@ -13,18 +19,6 @@ listing_apart {A} first agrees p lp begins apart = record { laws = laws; agrees 
     agreeing : (s : Bool) → Agrees (item_begins first s)
     agreeing true = sign_agrees 44
     agreeing false = agrees
-
-    begun : (s : Bool) → Begins (item_begins first s) (item_of p s)
-    begun true = lead_begins comma p
-    begun false = begins
-
-    behind : (s : Bool) (v : A) → Apart comma (item_of p s).goes_on
-    behind true v = apart
-    behind false v = apart
-
-    covers : (s : Bool) (t : Lexeme) → (first t || (comma t || p.goes_on t)) ≡ false → (item_begins first s t ≡ false) × ((item_of p s).goes_on t ≡ false)
-    covers true t e = or_parts (comma t) (p.goes_on t) (or_parts (first t) (comma t || p.goes_on t) e).1
-    covers false t e = let h = or_parts (first t) (comma t || p.goes_on t) e in (h.0, (or_parts (comma t) (p.goes_on t) h.1).1)
 
 pub listed_laws : {A : Type 0} (first : Lexeme → Bool) → Agrees first → (p : Part A) → Lawful p → Begins first p → Apart comma p.goes_on → Lawful (listed first p)
 listed_laws first agrees p lp begins apart = many_laws (λ t. first t || (comma t || p.goes_on t)) (listing first p) (listing_apart first agrees p lp begins apart)

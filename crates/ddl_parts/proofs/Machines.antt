@@ -1,6 +1,6 @@
 -- The laws of a run of tokens that a machine takes.
 use Rattle.ddl_parts.proofs.Common.{arith, ◌≡◌, Bool, true, false, cond, List, [], ◌∷◌, ◌++◌, Option, Some, None, Ok, Err, refl, sym, ap, subst, ◌∙◌, inl, inr, Lexeme, starts, Reading, ◌>>=◌, Machine, run, ends, scan, scan_step, runs_of, IsTooLong, shortened, Like, Lawful}
-use Rattle.ddl_parts.proofs.{Steps.gives, Told.Told, Told.long_of, Told.lawful, Told.told_as, Told.named_by, Simple.head_is}
+use Rattle.ddl_parts.proofs.{Steps.gives, Told.Told, Told.long_of, Told.lawful, Told.told_as, Told.told_on}
 
 -- A token that a state doesn't take: where it says that it is too long, it takes a shorter one, and else it doesn't take
 -- such a one either. It says so only where it isn't done.
@@ -27,10 +27,6 @@ run_none m (t ∷ ts) = run_none m ts
 -- how a scan goes on, by the step that is taken
 abbrev by_step : (m : Machine) → m.State → Lexeme → List Lexeme → Option m.State → Reading (List Lexeme)
 by_step m s t ts next = scan_step (ends m s (m.long s t) (t ∷ ts)) (λ x. scan m x ts >>= λ r. gives (t ∷ r.0) r.1) next
-
-stepped : (m : Machine) (s : m.State) (t : Lexeme) (ts : List Lexeme) (next : Option m.State) → m.step s t ≡ next → scan m s (t ∷ ts) ≡ by_step m s t ts next
-unfolding scan
-stepped m s t ts next e = ap (by_step m s t ts) e
 
 abbrev by_done : (m : Machine) → Bool → List Lexeme → Bool → Reading (List Lexeme)
 by_done m long rest d = cond d (gives [] rest) (Err (record { long = long; rest = rest }))
@@ -64,24 +60,17 @@ stays m h s long ts same goes false e = record {
       record { token = g.0; behind = g.1; is = g.2; long = g.3; value = shortened g.0 ∷ h.finish x; more = h.finish x; spells = (refl, h.last x, ap (λ o. run m o (h.finish x)) g.4.1 ∙ h.finished x, h.done x) };
 }
 
+-- what stands behind the first token
+abbrev behind_one : List Lexeme → Reading (Unit {0})
+behind_one [] = Err (record { long = false; rest = [] })
+behind_one (t ∷ ts) = Ok (tt, ts)
+
 -- one is, and what is scanned behind it
 goes : (m : Machine) (s : m.State) (t : Lexeme) (x : m.State) → m.step s t ≡ Some x → (ts : List Lexeme) (r : Reading (List Lexeme)) → Scans m x ts r → Scans m s (t ∷ ts) (r >>= λ r. gives (t ∷ r.0) r.1)
-goes m s t x is ts (Ok r) f = record {
-  front = t ∷ f.front;
-  parts = ap (λ (us : List Lexeme). t ∷ us) f.parts;
-  fits = (ap (λ (us : List Lexeme). t ∷ us) f.fits.0, f.fits.1, ap (λ o. run m o f.front) is ∙ f.fits.2, f.fits.3);
-  local = λ y behind i z like other. stepped m s t (f.front ++ z ∷ other) (Some x) is ∙ ap (λ r. r >>= λ r. gives (t ∷ r.0) r.1) (f.local y behind i z like other);
-  named = λ e. absurd cc;
-}
-goes m s t x is ts (Err u) f = record {
-  front = t ∷ f.front;
-  parts = ap (λ (us : List Lexeme). t ∷ us) f.parts;
-  fits = (t ∷ f.fits.0, f.fits.1, (ap (λ (us : List Lexeme). t ∷ us) f.fits.2.0, f.fits.2.1, ap (λ o. run m o (f.front ++ f.fits.1)) is ∙ f.fits.2.2, f.fits.2.3));
-  local = λ y behind i z like other. stepped m s t (f.front ++ z ∷ other) (Some x) is ∙ ap (λ r. r >>= λ r. gives (t ∷ r.0) r.1) (f.local y behind i z like other);
-  named = λ e.
-      let n = f.named e in
-      named_by n (t ∷ n.value) n.more (ap (λ (us : List Lexeme). t ∷ us) n.spells.0, n.spells.1, ap (λ o. run m o (f.front ++ shortened n.token ∷ n.more)) is ∙ n.spells.2, n.spells.3);
-}
+unfolding scan
+goes m s t x is ts r f =
+    let one : Told (λ u us. us ≡ t ∷ []) behind_one (t ∷ ts) (Ok (tt, ts)) = record { front = t ∷ []; parts = refl; fits = refl; local = λ y behind i z like other. refl; named = λ e. absurd cc } in
+    told_on (λ v. t ∷ v) (t ∷ ts) tt ts r one f (λ v b h. (ap (λ (us : List Lexeme). t ∷ us) h.0, h.1, ap (λ o. run m o b) is ∙ h.2, h.3)) (λ rest e. ap (by_step m s t rest) is)
 
 scans : (m : Machine) → CanEnd m → (s : m.State) (ts : List Lexeme) → Scans m s ts (scan m s ts)
 unfolding scan
@@ -90,24 +79,18 @@ scans m h s (t ∷ ts) = by (λ x. scans m h x ts) (m.step s t) refl
   where
     -- a token that isn't taken, or a shorter one where nothing hangs on that
     again : m.step s t ≡ None → (d : Bool) → m.done s ≡ d → (u : Lexeme) → Like (long_of (by_done m (m.long s t) (t ∷ ts) d)) t u → (other : List Lexeme) → scan m s (u ∷ other) ≡ by_done m (m.long s t) (u ∷ other) (m.done s)
-    again is d e u (inl same) other = subst (λ (z : Lexeme). scan m s (z ∷ other) ≡ by_done m (m.long s t) (z ∷ other) (m.done s)) same (stepped m s t other None is)
+    again is d e u (inl same) other = subst (λ (z : Lexeme). scan m s (z ∷ other) ≡ by_done m (m.long s t) (z ∷ other) (m.done s)) same (ap (by_step m s t other) is)
     again is d e u (inr l) other = subst (λ (z : Lexeme). scan m s (z ∷ other) ≡ by_done m (m.long s t) (z ∷ other) (m.done s)) l.2 (short (m.long s t) refl d e l.0)
       where
         short : (long : Bool) → m.long s t ≡ long → (d : Bool) → m.done s ≡ d → long_of (by_done m long (t ∷ ts) d) ≡ false → scan m s (shortened t ∷ other) ≡ by_done m long (shortened t ∷ other) (m.done s)
-        short false f d e g =
-            let h' = (h.shorter s t is).stays f l.1 in
-            stepped m s (shortened t) other None h'.0 ∙ ap (λ (b : Bool). by_done m b (shortened t ∷ other) (m.done s)) h'.1
+        short false f d e g = let h' = (h.shorter s t is).stays f l.1 in ap (by_step m s (shortened t) other) h'.0 ∙ ap (λ (b : Bool). by_done m b (shortened t ∷ other) (m.done s)) h'.1
         short true f true e g = absurd (cc ((h.shorter s t is).undone f, e))
         short true f false e g = absurd cc
 
-    none : m.step s t ≡ None → (y : Lexeme) (behind : List Lexeme) → t ∷ ts ≡ y ∷ behind → (u : Lexeme) → Like (long_of (by_done m (m.long s t) (t ∷ ts) (m.done s))) y u → (other : List Lexeme) → scan m s (u ∷ other) ≡ by_done m (m.long s t) (u ∷ other) (m.done s)
-    none is y behind i u like other = again is (m.done s) refl u (subst (λ (z : Lexeme). Like (long_of (by_done m (m.long s t) (t ∷ ts) (m.done s))) z u) (sym (head_is t y ts behind i)) like) other
-
-    taken : m.step s t ≡ None → m.long s t ≡ true → m.done s ≡ false → (y : Lexeme) × (behind : List Lexeme) × (t ∷ ts ≡ y ∷ behind) × IsTooLong y × ((x : m.State) × (m.step s (shortened y) ≡ Some x))
-    taken is l d = let g = (h.shorter s t is).takes l in (t, ts, refl, g.0, g.1)
-
     by : ((x : m.State) → Scans m x ts (scan m x ts)) → (next : Option m.State) → m.step s t ≡ next → Scans m s (t ∷ ts) (by_step m s t ts next)
-    by later None is = stays m h s (m.long s t) (t ∷ ts) (none is) (taken is) (m.done s) refl
+    by later None is =
+        stays m h s (m.long s t) (t ∷ ts) (λ y behind i u like other. again is (m.done s) refl u (subst (λ (z : Lexeme). Like (long_of (by_done m (m.long s t) (t ∷ ts) (m.done s))) z u) (sym cc) like) other)
+        (λ l d. (let g = (h.shorter s t is).takes l in (t, ts, refl, g.0, g.1))) (m.done s) refl
     by later (Some x) is = goes m s t x is ts (scan m x ts) (later x)
 
 -- ---- what runs
@@ -115,12 +98,11 @@ scans m h s (t ∷ ts) = by (λ x. scans m h x ts) (m.step s t) refl
 scan_only : (m : Machine) (h : CanEnd m) (s last : m.State) (taken rest : List Lexeme) → run m (Some s) taken ≡ Some last → m.done last ≡ true → starts m.goes_on rest ≡ false → scan m s (taken ++ rest) ≡ Ok (taken, rest)
 unfolding scan
 scan_only m h s last [] [] e d free = let is : s ≡ last = cc in ap (by_done m false []) (ap m.done is ∙ d)
-scan_only m h s last [] (t ∷ rest) e d free = grind (arith, by_done, stepped, run_none)
+scan_only m h s last [] (t ∷ rest) e d free = grind (arith, by_done, run_none)
 scan_only m h s last (t ∷ taken) rest e d free = by_next (λ x e. scan_only m h x last taken rest e d free) (m.step s t) refl e
   where
     by_next : ((x : m.State) → run m (Some x) taken ≡ Some last → scan m x (taken ++ rest) ≡ Ok (taken, rest)) → (next : Option m.State) → m.step s t ≡ next → run m next taken ≡ Some last → scan m s (t ∷ (taken ++ rest)) ≡ Ok (t ∷ taken, rest)
-    by_next later None is e = absurd (cc (run_none m taken))
-    by_next later (Some x) is e = stepped m s t (taken ++ rest) (Some x) is ∙ ap (λ r. r >>= λ r. gives (t ∷ r.0) r.1) (later x e)
+    by_next e next f h = grind (arith, run_none)
 
 -- a machine that can end has the laws
 pub machine_laws : (m : Machine) → CanEnd m → Lawful (runs_of m)

@@ -1,6 +1,6 @@
 -- The laws of any number of parts, one after another.
-use Rattle.ddl_parts.proofs.Common.{◌≡◌, ℕ, zero, suc, ◌<◌, ◌≤◌, Bool, true, false, cond, List, [], ◌∷◌, ◌++◌, length, Ok, Err, refl, sym, ap, subst, ◌∙◌, append_assoc, append-nil, length-append, arith, Lexeme, starts, Stop, Reading, ◌>>=◌, Items, Many, no_more, one_more, many, many_at, shortened, Lawful, Begins, Apart}
-use Rattle.ddl_parts.proofs.{Steps.Agrees, Steps.starts-append, Steps.starts_again, Steps.starts_covered, Told.Told, Told.Tells, Told.told, Told.lawful, Told.told_on, Told.named_by}
+use Rattle.ddl_parts.proofs.Common.{◌≡◌, ℕ, zero, suc, ◌<◌, ◌≤◌, Bool, true, false, cond, List, [], ◌∷◌, ◌++◌, length, Ok, Err, refl, sym, ap, subst, ◌∙◌, append_assoc, length-append, arith, Lexeme, starts, Stop, Reading, ◌>>=◌, Items, Many, no_more, one_more, many, many_at, Lawful, Begins, Apart}
+use Rattle.ddl_parts.proofs.{Steps.Agrees, Steps.starts-append, Steps.starts_again, Told.Told, Told.Tells, Told.told, Told.lawful, Told.told_on, Told.told_stopped}
 
 -- What items need so that they can be told apart: each has the laws and begins with its own tokens, an item can't go on
 -- with the beginning of the next, and what `goes_on` leaves out begins no item and goes on with none.
@@ -17,7 +17,7 @@ pub record AreApart {A : Type 0} (goes_on : Lexeme → Bool) (items : Items A) :
 pub begun_long : (test : Lexeme → Bool) (ts : List Lexeme) → starts test ts ≡ true → 0 < length ts
 begun_long test ts e = grind arith
 
-some_left : (n : ℕ) → 0 < n → (m : ℕ) × (n ≡ suc m)
+pub some_left : (n : ℕ) → 0 < n → (m : ℕ) × (n ≡ suc m)
 some_left zero some = absurd (omega arith)
 some_left (suc n) some = (n, refl)
 
@@ -30,12 +30,7 @@ with_first v r = r >>= λ others. Ok (v ∷ others.0, others.1)
 
 -- by whether an item begins
 abbrev turn : {A : Type 0} → (items : Items A) → ℕ → items.State → List Lexeme → Bool → Reading (List A)
-turn items n s ts b =
-    cond b ((items.item s).read ts >>= λ first. with_first first.0 (many_at items n (items.next s first.0) first.1)) (Ok ([], ts))
-
-turned : {A : Type 0} (items : Items A) (n : ℕ) (s : items.State) (ts : List Lexeme) (b : Bool) → starts (items.more s) ts ≡ b → many_at items (suc n) s ts ≡ turn items n s ts b
-unfolding many_at
-turned items n s ts b e = ap (turn items n s ts) e
+turn items n s ts b = cond b ((items.item s).read ts >>= λ first. with_first first.0 (many_at items n (items.next s first.0) first.1)) (Ok ([], ts))
 
 none_read : {A : Type 0} (items : Items A) (n : ℕ) (s : items.State) (ts : List Lexeme) → starts (items.more s) ts ≡ false → many_at items n s ts ≡ Ok ([], ts)
 unfolding many_at
@@ -43,8 +38,8 @@ none_read items n s ts e = grind arith
 
 item_read : {A : Type 0} (items : Items A) (n : ℕ) (s : items.State) (ts : List Lexeme) (r : Reading A) → starts (items.more s) ts ≡ true → (items.item s).read ts ≡ r
     → many_at items (suc n) s ts ≡ (r >>= λ first. with_first first.0 (many_at items n (items.next s first.0) first.1))
-item_read items n s ts r begins e =
-    turned items n s ts true begins ∙ ap (λ r. r >>= λ first. with_first first.0 (many_at items n (items.next s first.0) first.1)) e
+unfolding many_at
+item_read items n s ts r begins e = ap (turn items n s ts) begins ∙ ap (λ r. r >>= λ first. with_first first.0 (many_at items n (items.next s first.0) first.1)) e
 
 -- each item takes a token, so that there are no more items than tokens
 enough : {A : Type 0} {goes_on : Lexeme → Bool} {items : Items A} (h : AreApart goes_on items) (n m : ℕ) (s : items.State) (ts : List Lexeme) → length ts ≤ n → length ts ≤ m → many_at items n s ts ≡ many_at items m s ts
@@ -79,8 +74,7 @@ from_read {A} {items = items} h s ts r begins is = let k = some_left (length ts)
     by k long (Err u) is = refl
     by k long (Ok x) is =
         let f = (h.laws s).found ts x.0 x.1 is in
-        let fits = shorter (items.more s) k ts f.front x.1 (h.begins s x.0 f.front f.spells) f.parts (omega (arith, long)) in
-        ap (with_first x.0) (enough h k (length x.1) (items.next s x.0) x.1 fits (omega arith))
+        ap (with_first x.0) (enough h k (length x.1) (items.next s x.0) x.1 (shorter (items.more s) k ts f.front x.1 (h.begins s x.0 f.front f.spells) f.parts (omega (arith, long))) (omega arith))
 
 pub from_stop : {A : Type 0} (items : Items A) (s : items.State) (ts : List Lexeme) (u : Stop) → starts (items.more s) ts ≡ true → (items.item s).read ts ≡ Err u → items_from items s ts ≡ Err u
 from_stop items s ts u begins e = let k = some_left (length ts) (begun_long (items.more s) ts begins) in ap (λ n. many_at items n s ts) k.1 ∙ item_read items k.0 s ts (Err u) begins e
@@ -107,17 +101,8 @@ item_tells {items = items} h n later s ts le begins (Ok x) f =
     told_on (λ vs. x.0 ∷ vs) ts x.0 x.1 (items_from items (items.next s x.0) x.1) f (later (items.next s x.0) x.1 (shorter (items.more s) n ts f.front x.1 begun f.parts le)) (λ vs b others. one_more s x.0 vs f.front b f.fits others)
     (λ rest e. from_read h s (f.front ++ rest) (Ok (x.0, rest)) (starts-append (items.more s) f.front rest begun) e)
 item_tells {items = items} h n later s ts le begins (Err u) f =
-    let one = one_more s f.fits.0 [] (f.front ++ f.fits.1) [] f.fits.2 (no_more (items.next s f.fits.0)) in
-    record {
-      front = f.front;
-      parts = f.parts;
-      fits = (f.fits.0 ∷ [], f.fits.1, subst (Many items s (f.fits.0 ∷ [])) (append-nil (f.front ++ f.fits.1)) one);
-      local = λ t behind is x like other. from_read h s (f.front ++ x ∷ other) (Err (record { long = u.long; rest = x ∷ other })) (starts_again (items.more s) (h.agrees s) true ts f.front u.rest t behind begins f.parts is u.long x like other) (f.local t behind is x like other);
-      named = λ e.
-          let n = f.named e in
-          let all = f.front ++ shortened n.token ∷ n.more in
-          named_by n (n.value ∷ []) n.more (subst (Many items s (n.value ∷ [])) (append-nil all) (one_more s n.value [] all [] n.spells (no_more (items.next s n.value))));
-    }
+    told_stopped ts u f (λ v a spells. (v ∷ [], [], one_more s v [] a [] spells (no_more (items.next s v))))
+    (λ t behind is x like other e. from_read h s (f.front ++ x ∷ other) (Err (record { long = u.long; rest = x ∷ other })) (starts_again (items.more s) (h.agrees s) true ts f.front u.rest t behind begins f.parts is u.long x like other) e)
 
 many_tell : {A : Type 0} {goes_on : Lexeme → Bool} {items : Items A} (h : AreApart goes_on items) (n : ℕ) (s : items.State) (ts : List Lexeme) → length ts ≤ n → TellsFrom items s ts (items_from items s ts)
 many_tell {items = items} h zero s [] le = none_tell items s (h.agrees s) [] refl
@@ -126,9 +111,7 @@ many_tell {items = items} h (suc n) s ts le = by (λ s' us le'. many_tell h n s'
   where
     by : ((s' : items.State) (us : List Lexeme) → length us ≤ n → TellsFrom items s' us (items_from items s' us)) → (b : Bool) → starts (items.more s) ts ≡ b → TellsFrom items s ts (items_from items s ts)
     by later false none = none_tell items s (h.agrees s) ts none
-    by later true begins =
-        let r = (items.item s).read ts in
-        subst (TellsFrom items s ts) (sym (from_read h s ts r begins refl)) (item_tells h n later s ts le begins r (told (h.laws s) ts r refl))
+    by later true begins = let r = (items.item s).read ts in subst (TellsFrom items s ts) (sym (from_read h s ts r begins refl)) (item_tells h n later s ts le begins r (told (h.laws s) ts r refl))
 
 -- ---- what is spelled
 
@@ -137,11 +120,10 @@ free_behind : {A : Type 0} {goes_on : Lexeme → Bool} {items : Items A} (h : Ar
 free_behind h s v s' is vs b rest k free = grind arith
 
 many_only : {A : Type 0} {goes_on : Lexeme → Bool} {items : Items A} (h : AreApart goes_on items) (s : items.State) (vs : List A) (front rest : List Lexeme) → Many items s vs front → starts goes_on rest ≡ false → items_from items s (front ++ rest) ≡ Ok (vs, rest)
-many_only {goes_on = goes_on} {items = items} h s _ _ rest (no_more _) free = from_none items s rest (starts_covered goes_on (items.more s) (λ t e. (h.covers s t e).0) rest free)
+many_only {goes_on = goes_on} {items = items} h s _ _ rest (no_more _) free = from_none items s rest (grind arith)
 many_only {items = items} h s _ _ rest (one_more _ v vs a b spells others) free =
-    let all = a ++ (b ++ rest) in
     let first = (h.laws s).only v a (b ++ rest) spells (free_behind h s v (items.next s v) refl vs b rest others free) in
-    ap (items_from items s) (append_assoc a b rest) ∙ from_read h s all (Ok (v, b ++ rest)) (starts-append (items.more s) a (b ++ rest) (h.begins s v a spells)) first
+    ap (items_from items s) (append_assoc a b rest) ∙ from_read h s (a ++ (b ++ rest)) (Ok (v, b ++ rest)) (starts-append (items.more s) a (b ++ rest) (h.begins s v a spells)) first
     ∙ ap (with_first v) (many_only h (items.next s v) vs b rest others free)
 
 -- any number of items has the laws where they can be told apart

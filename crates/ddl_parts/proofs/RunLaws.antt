@@ -1,7 +1,6 @@
 -- The laws of expressions and types.
 use Rattle.ddl_parts.proofs.Common.{◌≡◌, ℕ, Bool, true, false, cond, not, List, [], ◌∷◌, Some, None, Result, is_ok, refl, ap, ◌∙◌, ◌||◌, codes, arith, ◌==◌, not-false, is_utf8, chars, encode, TokenKind, Number, is_keyword_of, name_of, Lexeme, is_word, is_sign, is_sign_kind, source, run, runs_of, Lawful, Apart, name_value, name_in, Bracket, Spot, First, Inside, Nest, nested, nest_step, nest_done, ends_run, is_end_kind, step_by, behind_bounded, behind_kind, moved, expression, default_text, default_and_null, without_not_null, typing, type_step, type_done, type_long, type_goes_on, if_name, is_long_by, is_type_word, is_number, type_part, type_of, TypeSpot, Begin, FirstWord, Schema, Dotted, Path, Words, Opened, Counted, Further, Behind, Array, Ended, IsTooLong, shortened}
-use Rattle.ddl_parts.proofs.{Simple.seen_laws, Shorter.word_like, Shorter.sign_like, Shorter.name_shortens, Machines.CanEnd, Machines.Shorter, Machines.machine_laws, Leads.a_word, Leads.a_sign}
-use Rattle.ddl_parts.specs.declared.runs.Bracket.TheVariants.{Round, Square}
+use Rattle.ddl_parts.{proofs.Simple.seen_laws, proofs.Shorter.word_like, proofs.Shorter.sign_like, proofs.Shorter.name_shortens, proofs.Machines.CanEnd, proofs.Machines.Shorter, proofs.Machines.machine_laws, proofs.Leads.a_word, proofs.Leads.a_sign, specs.declared.runs.Bracket.TheVariants.Round, specs.declared.runs.Bracket.TheVariants.Square}
 
 abbrev a_number : Lexeme
 a_number = record { gap = 32 ∷ []; kind = Number; word = 48 ∷ []; start = 0 }
@@ -34,42 +33,26 @@ closes bounded takes [] = refl
 closes bounded takes (Round ∷ bs) = closes bounded takes bs
 closes bounded takes (Square ∷ bs) = closes bounded takes bs
 
-finishes : (bounded takes : Bool) (spot : Spot) (bs : List Bracket) → run (nested bounded takes) (Some (nest bs spot)) (finish_by spot bs) ≡ Some (last_by spot bs)
-unfolding nest_step ends_run is_word is_sign is_keyword_of
-finishes bounded takes spot bs = grind (arith, closes)
-
-inside_flat : (spot : Spot) (bs : List Bracket) → nest_done (nest bs spot) ≡ true → bs ≡ []
-unfolding nest_done
-inside_flat spot bs e = grind arith
-
-last_done : (spot : Spot) (bs : List Bracket) → nest_done (last_by spot bs) ≡ true
-unfolding nest_done
-last_done spot bs = grind arith
-
 covered : (bounded takes : Bool) (s : Nest) (t : Lexeme) → nest_done s ≡ true → not (ends_run bounded t) ≡ false → nest_step bounded takes s t ≡ None
-unfolding nest_step
+unfolding nest_step nest_done
 covered bounded takes s t done free =
+    let inside_flat : (spot : Spot) (bs : List Bracket) → nest_done (nest bs spot) ≡ true → bs ≡ [] = λ spot bs e. grind arith in
     ap (step_by bounded takes s.spot t) (inside_flat s.spot s.brackets done)
     ∙ ap (λ (e : Bool). cond e None (cond bounded (behind_bounded takes s.spot t) (moved (behind_kind t.kind [])))) (not-false (ends_run bounded t) free)
 
--- a run goes by kinds and words, and never says that a token is too long
-nested_same : (bounded takes : Bool) (spot : Spot) (brackets : List Bracket) (t : Lexeme) → IsTooLong t → step_by bounded takes spot (shortened t) brackets ≡ step_by bounded takes spot t brackets
-unfolding ends_run
-nested_same bounded takes spot brackets t long = grind (arith, word_like, sign_like)
-
-nested_shorter : (bounded takes : Bool) (s : Nest) (t : Lexeme) → nest_step bounded takes s t ≡ None → Shorter (nested bounded takes) s t
-unfolding nest_step
-nested_shorter bounded takes s t none = record { undone = λ l. absurd cc; takes = λ l. absurd cc; stays = λ l long. (nested_same bounded takes s.spot s.brackets t long ∙ none, refl) }
-
 nested_ends : (bounded takes : Bool) → CanEnd (nested bounded takes)
-nested_ends bounded takes = record {
-  finish = λ s. finish_by s.spot s.brackets;
-  last = λ s. last_by s.spot s.brackets;
-  finished = λ s. finishes bounded takes s.spot s.brackets;
-  done = λ s. last_done s.spot s.brackets;
-  covers = covered bounded takes;
-  shorter = nested_shorter bounded takes;
-}
+unfolding nest_step ends_run is_word is_sign is_keyword_of nest_done
+nested_ends bounded takes =
+    let nested_shorter : (bounded takes : Bool) (s : Nest) (t : Lexeme) → nest_step bounded takes s t ≡ None → Shorter (nested bounded takes) s t =
+    λ bounded takes s t none. record { undone = λ l. absurd cc; takes = λ l. absurd cc; stays = λ l long. ((grind (arith, word_like, sign_like)) ∙ none, refl) } in
+    record {
+      finish = λ s. finish_by s.spot s.brackets;
+      last = λ s. last_by s.spot s.brackets;
+      finished = λ s. (grind (arith, closes));
+      done = λ s. (grind arith);
+      covers = covered bounded takes;
+      shorter = nested_shorter bounded takes;
+    }
 
 pub expression_laws : Lawful expression
 unfolding expression
@@ -108,51 +91,34 @@ type_last Array = Ended
 type_last Ended = Ended
 type_last x = Behind
 
-type_finished : (s : TypeSpot) → run typing (Some s) (type_finish s) ≡ Some (type_last s)
-unfolding type_step type_finish type_last is_type_word is_number is_word is_sign is_keyword_of name_value name_in name_of is_utf8 chars encode
-type_finished s = grind arith
-
-type_is_done : (s : TypeSpot) → type_done (type_last s) ≡ true
-unfolding type_done type_last
-type_is_done s = grind arith
-
-type_covers : (s : TypeSpot) (t : Lexeme) → type_done s ≡ true → type_goes_on t ≡ false → type_step s t ≡ None
-unfolding type_step type_done type_goes_on
-type_covers s t d free = grind arith
-
--- a type goes by kinds and words, but where it takes a name
-word_agrees_types : (t : Lexeme) → IsTooLong t → is_type_word (shortened t) ≡ is_type_word t
-unfolding is_type_word
-word_agrees_types t long = simp (word_like t long)
-
-number_same : (t : Lexeme) → is_number (shortened t) ≡ is_number t
-unfolding is_number
-number_same t = refl
-
 -- where a name is due
 name_due : (s : TypeSpot) (t : Lexeme) (r : Result (List ℕ) Bool) → name_value t ≡ r → if_name r s ≡ None → (is_long_by r ≡ true → IsTooLong t × (if_name (name_value (shortened t)) s ≡ Some s)) × (is_long_by r ≡ false → IsTooLong t → (if_name (name_value (shortened t)) s ≡ None) × (is_long_by (name_value (shortened t)) ≡ false))
 name_due s t r is e = grind (arith, name_shortens)
 
-type_same : (s : TypeSpot) (t : Lexeme) → IsTooLong t → type_long s t ≡ false → (s ≡ Begin → ⊥) → (s ≡ Dotted → ⊥) → (type_step s (shortened t) ≡ type_step s t) × (type_long s (shortened t) ≡ false)
-unfolding type_step type_long
-type_same s t long l first later = grind (arith, word_agrees_types, number_same, sign_like)
-
 type_shorter : (s : TypeSpot) (t : Lexeme) → type_step s t ≡ None → Shorter typing s t
-unfolding type_step type_long type_done
+unfolding type_step type_long type_done is_type_word is_number
 type_shorter Begin t none = by (is_type_word t) refl none
   where
     by : (b : Bool) → is_type_word t ≡ b → cond b (Some (FirstWord (is_ok (name_value t)))) (if_name (name_value t) Schema) ≡ None → Shorter typing Begin t
     by true w e = absurd cc
     by false w e = let h = name_due Schema t (name_value t) refl e in record {
       undone = λ l. refl;
-      takes = λ l. (let g = h.0 l in (g.0, (Schema, ap (λ (b : Bool). cond b (Some (FirstWord (is_ok (name_value (shortened t))))) (if_name (name_value (shortened t)) Schema)) (word_agrees_types t g.0 ∙ w) ∙ g.1)));
-      stays = λ l long. (let g = h.1 l long in (ap (λ (b : Bool). cond b (Some (FirstWord (is_ok (name_value (shortened t))))) (if_name (name_value (shortened t)) Schema)) (word_agrees_types t long ∙ w) ∙ g.0, g.1));
+      takes = λ l. (let g = h.0 l in (g.0, (Schema, ap (λ (b : Bool). cond b (Some (FirstWord (is_ok (name_value (shortened t))))) (if_name (name_value (shortened t)) Schema)) ((simp (word_like t g.0)) ∙ w) ∙ g.1)));
+      stays = λ l long. (let g = h.1 l long in (ap (λ (b : Bool). cond b (Some (FirstWord (is_ok (name_value (shortened t))))) (if_name (name_value (shortened t)) Schema)) ((simp (word_like t long)) ∙ w) ∙ g.0, g.1));
     }
 type_shorter Dotted t none = let h = name_due Path t (name_value t) refl none in record { undone = λ l. refl; takes = λ l. (let g = h.0 l in (g.0, (Path, g.1))); stays = h.1 }
-type_shorter s t none = record { undone = λ l. absurd cc; takes = λ l. absurd cc; stays = λ l long. (let g = type_same s t long l (λ e. absurd cc) (λ e. absurd cc) in (g.0 ∙ none, g.1)) }
+type_shorter s t none =
+    let type_same : (s : TypeSpot) (t : Lexeme) → IsTooLong t → type_long s t ≡ false → (s ≡ Begin → ⊥) → (s ≡ Dotted → ⊥) → (type_step s (shortened t) ≡ type_step s t) × (type_long s (shortened t) ≡ false) =
+    λ s t long l first later. grind (arith, sign_like, word_like) in
+    record { undone = λ l. absurd cc; takes = λ l. absurd cc; stays = λ l long. (let g = type_same s t long l (λ e. absurd cc) (λ e. absurd cc) in (g.0 ∙ none, g.1)) }
 
 pub typing_ends : CanEnd typing
-typing_ends = record { finish = type_finish; last = type_last; finished = type_finished; done = type_is_done; covers = type_covers; shorter = type_shorter }
+unfolding type_step type_finish type_last is_type_word is_number is_word is_sign is_keyword_of name_value name_in name_of is_utf8 chars encode type_done type_goes_on
+typing_ends =
+    let type_covers : (s : TypeSpot) (t : Lexeme) → type_done s ≡ true → type_goes_on t ≡ false → type_step s t ≡ None = λ s t d free. grind arith in
+    let type_is_done : (s : TypeSpot) → type_done (type_last s) ≡ true = λ s. grind arith in
+    let type_finished : (s : TypeSpot) → run typing (Some s) (type_finish s) ≡ Some (type_last s) = λ s. grind arith in
+    record { finish = type_finish; last = type_last; finished = type_finished; done = type_is_done; covers = type_covers; shorter = type_shorter }
 
 pub type_laws : Lawful type_part
 unfolding type_part
@@ -160,13 +126,10 @@ type_laws = seen_laws type_of (runs_of typing) (machine_laws typing typing_ends)
 
 -- ---- before which tokens runs end
 
-end_sign : (k : TokenKind) (b : ℕ) → (b == 41 || b == 93 || b == 59) ≡ true → is_sign_kind b k ≡ true → is_end_kind k ≡ true
-end_sign k b ends e = grind arith
-
 -- a closing bracket and a semicolon end each run
 pub run_ends : (bounded : Bool) (b : ℕ) → (b == 41 || b == 93 || b == 59) ≡ true → (t : Lexeme) → is_sign b t ≡ true → not (ends_run bounded t) ≡ false
 unfolding ends_run is_sign
-run_ends bounded b ends t e = rw (end_sign t.kind b ends e) refl
+run_ends bounded b ends t e = let end_sign : (k : TokenKind) (b : ℕ) → (b == 41 || b == 93 || b == 59) ≡ true → is_sign_kind b k ≡ true → is_end_kind k ≡ true = λ k b ends e. grind arith in rw (end_sign t.kind b ends e) refl
 
 pub expression_ends : Apart (is_sign 59) expression.goes_on
 unfolding expression

@@ -11,9 +11,6 @@ pub record IsLeft (m : Machine) (whole : Reading (List Lexeme)) (ts : List Lexem
   pub high : at ≤ length ts
   pub same : whole ≡ before (take (at - from) (drop from ts)) (scan m s (drop at ts))
 
-nothing_before : (read : Reading (List Lexeme)) → before [] read ≡ read
-nothing_before read = grind arith
-
 pub all_left : (m : Machine) (ts : List Lexeme) (from : ℕ) → from ≤ length ts → IsLeft m (scan m m.start (drop from ts)) ts from from m.start
 all_left m ts from le = grind arith
 
@@ -26,10 +23,8 @@ unfolding scan
 stepped m s x t rest e = ap (scan_step (ends m s (m.long s t) (t ∷ rest)) (λ x. scan m x rest >>= λ r. gives (t ∷ r.0) r.1)) e
 
 more_left : (n : ℕ) (ts : List Lexeme) (t : Lexeme) (rest : List Lexeme) → drop n ts ≡ t ∷ rest → n < length ts
-more_left zero [] t rest e = absurd cc
-more_left zero (x ∷ ts) t rest e = omega arith
-more_left (suc n) [] t rest e = absurd cc
-more_left (suc n) (x ∷ ts) t rest e = omega (arith, more_left n ts t rest e)
+more_left zero ts t rest e = grind arith
+more_left (suc n) ts t rest e = grind (arith, (more_left n))
 
 pub at_token : (m : Machine) (whole : Reading (List Lexeme)) (ts : List Lexeme) (from at : ℕ) (s x : m.State) (t : Lexeme) → IsLeft m whole ts from at s → drop at ts ≡ t ∷ drop (at + 1) ts → m.step s t ≡ Some x → IsLeft m whole ts from (at + 1) x
 at_token m whole ts from at s x t left e some =
@@ -50,14 +45,11 @@ at_token m whole ts from at s x t left e some =
 by_done : (m : Machine) (whole : Reading (List Lexeme)) (ts : List Lexeme) (from at : ℕ) (s : m.State) (long : Bool) → IsLeft m whole ts from at s → scan m s (drop at ts) ≡ ends m s long (drop at ts) → (d : Bool) → m.done s ≡ d → GivesRun ts from (ended d long at) whole
 by_done m whole ts from at s long left e true d =
     (left.low, left.high, left.same ∙ ap (before (take (at - from) (drop from ts))) (e ∙ ap (λ (b : Bool). cond b (gives [] (drop at ts)) (Err (record { long = long; rest = drop at ts }))) d) ∙ ap (λ (x : List Lexeme). gives x (drop at ts)) (append-nil (take (at - from) (drop from ts))))
-by_done m whole ts from at s long left e false d =
-    left.same ∙ ap (before (take (at - from) (drop from ts))) (e ∙ ap (λ (b : Bool). cond b (gives [] (drop at ts)) (Err (record { long = long; rest = drop at ts }))) d)
+by_done m whole ts from at s long left e false d = left.same ∙ ap (before (take (at - from) (drop from ts))) (e ∙ ap (λ (b : Bool). cond b (gives [] (drop at ts)) (Err (record { long = long; rest = drop at ts }))) d)
 
 pub at_end : (m : Machine) (whole : Reading (List Lexeme)) (ts : List Lexeme) (from at : ℕ) (s : m.State) (d : Bool) → IsLeft m whole ts from at s → drop at ts ≡ [] → m.done s ≡ d → GivesRun ts from (ended d false at) whole
 unfolding scan
-at_end m whole ts from at s d left none done =
-    let e : scan m s (drop at ts) ≡ ends m s false (drop at ts) = ap (scan m s) none ∙ ap (ends m s false) (sym none) in
-    by_done m whole ts from at s false left e d done
+at_end m whole ts from at s d left none done = by_done m whole ts from at s false left (ap (scan m s) none ∙ ap (ends m s false) (sym none)) d done
 
 pub at_stop : (m : Machine) (whole : Reading (List Lexeme)) (ts : List Lexeme) (from at : ℕ) (s : m.State) (t : Lexeme) (d : Bool) → IsLeft m whole ts from at s → drop at ts ≡ t ∷ drop (at + 1) ts → m.step s t ≡ None → m.done s ≡ d → GivesRun ts from (ended d (m.long s t) at) whole
 unfolding scan

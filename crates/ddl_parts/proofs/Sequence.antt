@@ -1,32 +1,20 @@
 -- The laws of one part after another.
-use Rattle.ddl_parts.proofs.Common.{◌≡◌, Bool, true, false, List, ◌∷◌, ◌++◌, Ok, Err, refl, sym, ap, ◌∙◌, append_assoc, Lexeme, starts, Part, Reading, ◌>>=◌, ◌then◌, then_at, ◌▸◌, ◌◂◌, mark, Lawful, Begins, Avoids, Apart, shortened}
-use Rattle.ddl_parts.proofs.{Steps.Agrees, Steps.starts-append, Steps.avoids_never, Steps.avoids_begun, Told.Tells, Told.told, Told.lawful, Told.told_on, Told.named_by, Simple.seen_laws, Simple.seen_begins, Simple.mark_laws, Simple.mark_begins}
-
--- read both, from the tokens that the first left
-both : {A B : Type 0} (p : Part A) (q : Part B) (ts : List Lexeme) (v : A) (mid : List Lexeme) → p.read ts ≡ Ok (v, mid) → then_at p.read q.read ts ≡ (q.read mid >>= λ b. Ok ((v, b.0), b.1))
-both p q ts v mid e = ap (λ r. r >>= λ a. q.read a.1 >>= λ b. Ok ((a.0, b.0), b.1)) e
+use Rattle.ddl_parts.proofs.Common.{◌≡◌, Bool, true, false, List, ◌++◌, Ok, Err, refl, ap, ◌∙◌, append_assoc, Lexeme, starts, Part, Reading, ◌>>=◌, ◌then◌, then_at, ◌▸◌, ◌◂◌, mark, Lawful, Begins, Avoids, Apart}
+use Rattle.ddl_parts.proofs.{Steps.Agrees, Steps.starts-append, Steps.avoids_never, Steps.avoids_begun, Told.Tells, Told.told, Told.lawful, Told.told_on, Told.told_stopped, Simple.seen_laws, Simple.seen_begins, Simple.mark_laws, Simple.mark_begins}
 
 then_tells : {A B : Type 0} (p : Part A) (q : Part B) → Lawful q → (ts : List Lexeme) (r : Reading A) → Tells p ts r → Tells (p then q) ts (r >>= λ a. q.read a.1 >>= λ b. Ok ((a.0, b.0), b.1))
 then_tells p q lq ts (Ok a) f =
-    told_on (λ b. (a.0, b)) ts a.0 a.1 (q.read a.1) f (told lq a.1 (q.read a.1) refl) (λ x b s. (f.front, b, refl, f.fits, s)) (λ rest e. both p q (f.front ++ rest) a.0 rest e)
-then_tells p q lq ts (Err s) f = let x = lq.example in record {
-  front = f.front;
-  parts = f.parts;
-  fits = ((f.fits.0, x.value), f.fits.1 ++ x.tokens, (f.front ++ f.fits.1, x.tokens, sym (append_assoc f.front f.fits.1 x.tokens), f.fits.2, x.spells));
-  local = λ t behind is u like other. ap (λ r. r >>= λ a. q.read a.1 >>= λ b. Ok ((a.0, b.0), b.1)) (f.local t behind is u like other);
-  named = λ e.
-      let n = f.named e in
-      let all = f.front ++ shortened n.token ∷ n.more in
-      named_by n (n.value, x.value) (n.more ++ x.tokens) (all, x.tokens, sym (append_assoc f.front (shortened n.token ∷ n.more) x.tokens), n.spells, x.spells);
-}
+    told_on (λ b. (a.0, b)) ts a.0 a.1 (q.read a.1) f (told lq a.1 (q.read a.1) refl) (λ x b s. (f.front, b, refl, f.fits, s)) (λ rest e. ap (λ r. r >>= λ a'. q.read a'.1 >>= λ b. Ok ((a'.0, b.0), b.1)) e)
+then_tells p q lq ts (Err s) f =
+    told_stopped ts s f (λ v a spells. ((v, lq.example.value), lq.example.tokens, (a, lq.example.tokens, refl, spells, lq.example.spells)))
+    (λ t behind is u like other e. ap (λ r. r >>= λ a. q.read a.1 >>= λ b. Ok ((a.0, b.0), b.1)) e)
 
 then_only : {A B : Type 0} (p : Part A) (q : Part B) → Lawful p → Lawful q → Avoids p.goes_on q → (x : A × B) (front rest : List Lexeme) → (p then q).Spells x front → starts q.goes_on rest ≡ false → then_at p.read q.read (front ++ rest) ≡ Ok (x, rest)
 then_only p q lp lq apart x front rest spells free =
     let a = spells.0 in
     let b = spells.1 in
-    let regrouped : front ++ rest ≡ a ++ (b ++ rest) = ap (λ (f : List Lexeme). f ++ rest) spells.2 ∙ append_assoc a b rest in
-    ap (then_at p.read q.read) regrouped
-    ∙ both p q (a ++ (b ++ rest)) x.0 (b ++ rest) (lp.only x.0 a (b ++ rest) spells.3 (apart x.1 b rest spells.4 free))
+    ap (then_at p.read q.read) (ap (λ (f : List Lexeme). f ++ rest) spells.2 ∙ append_assoc a b rest)
+    ∙ ap (λ r. r >>= λ a'. q.read a'.1 >>= λ b'. Ok ((a'.0, b'.0), b'.1)) (lp.only x.0 a (b ++ rest) spells.3 (apart x.1 b rest spells.4 free))
     ∙ ap (λ r. r >>= λ y. Ok ((x.0, y.0), y.1)) (lq.only x.1 b rest spells.4 free)
 
 -- one part after another has the laws where what spells the second can't go on with the first
@@ -49,6 +37,3 @@ lead_begins test p = seen_begins test (λ x. x.1) (mark test then p) (then_begin
 
 pub close_laws : {A : Type 0} (p : Part A) (test : Lexeme → Bool) → Agrees test → (t : Lexeme) → test t ≡ true → Lawful p → Apart test p.goes_on → Lawful (p ◂ test)
 close_laws p test agrees t e lp apart = seen_laws (λ x. x.0) (p then mark test) (then_laws p (mark test) lp (mark_laws test agrees t e) (avoids_begun test p.goes_on (mark test) (mark_begins test) apart))
-
-pub close_begins : {A : Type 0} (begun : Lexeme → Bool) (p : Part A) (test : Lexeme → Bool) → Begins begun p → Begins begun (p ◂ test)
-close_begins begun p test begins = seen_begins begun (λ x. x.0) (p then mark test) (then_begins begun p (mark test) begins)

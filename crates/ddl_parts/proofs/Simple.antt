@@ -1,11 +1,8 @@
 -- The laws of one token, of no token, and of a value seen through another.
-use Rattle.ddl_parts.proofs.Common.{◌≡◌, Bool, true, false, List, [], ◌∷◌, ◌++◌, Result, Ok, Err, cond, refl, sym, ap, subst, ◌∙◌, inl, inr, arith, Lexeme, starts, Part, Reading, one, one_at, first_by, seen, seen_at, nothing, wider, passes, mark, IsTooLong, shortened, Like, Lawful, Begins, Avoids}
-use Rattle.ddl_parts.proofs.{Steps.Agrees, Steps.starts_neither, Steps.gives, Told.Tells, Told.told, Told.lawful, Told.told_as, Told.named_by}
+use Rattle.ddl_parts.proofs.Common.{◌≡◌, Bool, true, false, List, [], ◌∷◌, ◌++◌, Result, Ok, Err, cond, refl, sym, ap, subst, ◌∙◌, inl, inr, append-nil, arith, Lexeme, starts, Part, Reading, one, one_at, first_by, seen, seen_at, nothing, wider, passes, mark, IsTooLong, shortened, Like, Lawful, Begins, Avoids}
+use Rattle.ddl_parts.proofs.{Steps.Agrees, Steps.starts_neither, Steps.gives, Told.Tells, Told.told, Told.lawful, Told.told_as, Told.told_stopped}
 
 -- ---- one token
-
-pub head_is : (x y : Lexeme) (xs ys : List Lexeme) → x ∷ xs ≡ y ∷ ys → x ≡ y
-head_is x y xs ys e = cc
 
 -- What a token's value owes of tokens that are too long: where it is one but for its length, the token is too long, and a
 -- shorter one has a value; and else a shorter one has none either.
@@ -35,7 +32,7 @@ one_tells {A} value h t v e (x ∷ ts) = by (value x) refl
       front = [];
       parts = refl;
       fits = (v, t ∷ [], (t, refl, e));
-      local = λ y behind i u like other. again long is u (subst (λ (z : Lexeme). Like long z u) (sym (head_is x y ts behind i)) like) other;
+      local = λ y behind i u like other. again long is u (subst (λ (z : Lexeme). Like long z u) (sym cc) like) other;
       named = λ l.
           let s = h.long x (is ∙ ap failed l) in
           record { token = x; behind = ts; is = refl; long = s.0; value = s.1.0; more = []; spells = (shortened x, refl, s.1.1) };
@@ -57,18 +54,14 @@ passes_by b = cond b (Ok tt) (Err false)
 pub passes_true : (v : Unit {0}) (b : Bool) → passes_by b ≡ Ok v → b ≡ true
 passes_true v b e = grind arith
 
-passes_false : (b : Bool) → passes_by b ≡ Err false → b ≡ false
-passes_false b e = grind arith
-
 never_long : (b : Bool) → passes_by b ≡ Err true → ⊥
 never_long true e = absurd cc
 never_long false e = absurd cc
 
-pub passes_short : (test : Lexeme → Bool) → Agrees test → Shortens (passes test)
-passes_short test agrees = record { long = λ t e. absurd (never_long (test t) e); none = λ t long e. ap passes_by (agrees t long ∙ passes_false (test t) e) }
-
 pub mark_laws : (test : Lexeme → Bool) → Agrees test → (t : Lexeme) → test t ≡ true → Lawful (mark test)
-mark_laws test agrees t e = one_laws (passes test) (passes_short test agrees) t tt (ap passes_by e)
+mark_laws test agrees t e =
+    let passes_false : (b : Bool) → passes_by b ≡ Err false → b ≡ false = λ b e. grind arith in
+    one_laws (passes test) (record { long = λ t e. absurd (never_long (test t) e); none = λ t long e. ap passes_by (agrees t long ∙ passes_false (test t) e) }) t tt (ap passes_by e)
 
 pub mark_begins : (test : Lexeme → Bool) → Begins test (mark test)
 mark_begins test = one_begins (passes test) test (λ t v e. passes_true v (test t) e)
@@ -85,13 +78,7 @@ nothing_avoids test v w ts rest spells free = ap (λ (f : List Lexeme). starts t
 
 seen_tells : {A B : Type 0} (f : A → B) (p : Part A) (ts : List Lexeme) (r : Reading A) → Tells p ts r → Tells (seen f p) ts (seen_at f r)
 seen_tells f p ts (Ok x) h = record { front = h.front; parts = h.parts; fits = (x.0, refl, h.fits); local = λ t behind is u like other. ap (seen_at f) (h.local t behind is u like other); named = λ e. absurd cc }
-seen_tells f p ts (Err s) h = record {
-  front = h.front;
-  parts = h.parts;
-  fits = (f h.fits.0, h.fits.1, (h.fits.0, refl, h.fits.2));
-  local = λ t behind is u like other. ap (seen_at f) (h.local t behind is u like other);
-  named = λ e. let n = h.named e in named_by n (f n.value) n.more (n.value, refl, n.spells);
-}
+seen_tells f p ts (Err s) h = told_stopped ts s h (λ v a spells. (f v, [], (v, refl, subst (p.Spells v) (sym (append-nil a)) spells))) (λ t behind is u like other e. ap (seen_at f) e)
 
 pub seen_laws : {A B : Type 0} (f : A → B) (p : Part A) → Lawful p → Lawful (seen f p)
 seen_laws {B = B} f p lp =

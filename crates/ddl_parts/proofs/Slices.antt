@@ -26,8 +26,7 @@ take_twice {X} (suc n) k (x ∷ xs) = ap (λ (r : List X). x ∷ r) (take_twice 
 -- a slice and the one behind it
 pub seam : (text : List ℕ) (a b c : ℕ) → a ≤ b → b ≤ c → slice_range text a b ++ slice_range text b c ≡ slice_range text a c
 seam text a b c low high =
-    let moved : drop b text ≡ drop (b - a) (drop a text) = ap (λ n. drop n text) (let e : b ≡ a + (b - a) = omega arith in e) ∙ sym (drop_twice (b - a) a text) in
-    ap (λ (r : List ℕ). take (b - a) (drop a text) ++ take (c - b) r) moved
+    ap (λ (r : List ℕ). take (b - a) (drop a text) ++ take (c - b) r) (ap (λ n. drop n text) (let e : b ≡ a + (b - a) = omega arith in e) ∙ sym (drop_twice (b - a) a text))
     ∙ take_twice (b - a) (c - b) (drop a text)
     ∙ ap (λ n. take n (drop a text)) (let e : (b - a) + (c - b) ≡ c - a = omega arith in e)
 
@@ -60,21 +59,19 @@ one_slice text at p l = grind (arith, seam)
 joined_slices : (text : List ℕ) (at mid end : ℕ) (a b : List ℕ) → IsSlice text at mid a → IsSlice text mid end b → IsSlice text at end (a ++ b)
 joined_slices text at mid end a b f g = grind (arith, seam)
 
-no_more : (a b : List ℕ) → a ++ (b ++ []) ≡ a ++ b
-no_more a b = ap (λ (r : List ℕ). a ++ r) (append-nil b)
-
 regroup : (a b c : List ℕ) → a ++ (b ++ c) ≡ (a ++ b) ++ c
 regroup [] b c = refl
 regroup (x ∷ a) b c = ap (λ (r : List ℕ). x ∷ r) (regroup a b c)
 
 spelled_slice : (text : List ℕ) (at : ℕ) (ps : List Piece) (n : ℕ) (d : Piece) → are_joined_from (length text) at ps ≡ true → suc n ≤ length ps → IsSlice text at (get_or ps n d).token.end (spelled (take (suc n) (lexemes text ps)))
 spelled_slice text at [] n d e le = absurd (omega arith)
-spelled_slice text at (p ∷ ps) zero d e le = subst (IsSlice text at p.token.end) (sym (no_more (lexeme_of text p).gap (lexeme_of text p).word)) (one_slice text at p (joined_head (length text) at p ps e).0)
+spelled_slice text at (p ∷ ps) zero d e le =
+    let no_more : (a b : List ℕ) → a ++ (b ++ []) ≡ a ++ b = λ a b. ap (λ (r : List ℕ). a ++ r) (append-nil b) in
+    subst (IsSlice text at p.token.end) (sym (no_more (lexeme_of text p).gap (lexeme_of text p).word)) (one_slice text at p (joined_head (length text) at p ps e).0)
 spelled_slice text at (p ∷ ps) (suc n) d e le =
     let h = joined_head (length text) at p ps e in
-    let more = spelled_slice text p.token.end ps n d h.1 (omega arith) in
     subst (IsSlice text at (get_or ps n d).token.end) (sym (regroup (lexeme_of text p).gap (lexeme_of text p).word (spelled (take (suc n) (lexemes text ps)))))
-    (joined_slices text at p.token.end (get_or ps n d).token.end _ _ (one_slice text at p h.0) more)
+    (joined_slices text at p.token.end (get_or ps n d).token.end _ _ (one_slice text at p h.0) (spelled_slice text p.token.end ps n d h.1 (omega arith)))
 
 word_slice : (text : List ℕ) (at : ℕ) (p : Piece) → Lies (length text) at p → IsSlice text p.token.start p.token.end (lexeme_of text p).word
 unfolding spelling
@@ -129,20 +126,15 @@ spelled_utf8 (t ∷ ts) e =
 source_utf8 : (ts : List Lexeme) → list_all is_sound ts ≡ true → IsUtf8 (source ts)
 unfolding is_sound
 source_utf8 [] e = IsUtf8-nil
-source_utf8 (t ∷ ts) e =
-    let h = and_parts (is_sound t) (list_all is_sound ts) e in
-    let g = and_parts (is_utf8 t.gap) (is_utf8 t.word) h.0 in
-    IsUtf8-append t.word (spelled ts) (IsUtf8-from_is_utf8 t.word g.1) (spelled_utf8 ts h.1)
+source_utf8 (t ∷ ts) e = let h = and_parts (is_sound t) (list_all is_sound ts) e in IsUtf8-append t.word (spelled ts) (IsUtf8-from_is_utf8 t.word (and_parts (is_utf8 t.gap) (is_utf8 t.word) h.0).1) (spelled_utf8 ts h.1)
 
 all_take : (n : ℕ) (ts : List Lexeme) → list_all is_sound ts ≡ true → list_all is_sound (take n ts) ≡ true
-all_take zero ts e = refl
-all_take (suc n) [] e = refl
-all_take (suc n) (t ∷ ts) e = let h = and_parts (is_sound t) (list_all is_sound ts) e in and_from (is_sound t) (list_all is_sound (take n ts)) h.0 (all_take n ts h.1)
+all_take zero ts e = grind (arith, and_parts, and_from)
+all_take (suc n) ts e = grind (arith, and_parts, and_from, (all_take n))
 
 all_drop : (n : ℕ) (ts : List Lexeme) → list_all is_sound ts ≡ true → list_all is_sound (drop n ts) ≡ true
-all_drop zero ts e = e
-all_drop (suc n) [] e = refl
-all_drop (suc n) (t ∷ ts) e = all_drop n ts (and_parts (is_sound t) (list_all is_sound ts) e).1
+all_drop zero ts e = grind (arith, and_parts)
+all_drop (suc n) ts e = grind (arith, and_parts, (all_drop n))
 
 -- a run of them is UTF-8
 pub run_utf8 : (text : List ℕ) (ps : List Piece) (n i : ℕ) → are_sound text ps ≡ true → IsUtf8 (source (take n (drop i (lexemes text ps))))
@@ -159,16 +151,14 @@ gap_utf8 : (text : List ℕ) (at to : ℕ) → Between text at to → IsUtf8 (sl
 gap_utf8 text _ _ (nothing at) = subst (λ n. IsUtf8 (take n (drop at text))) (let e : 0 ≡ at - at = omega arith in e) IsUtf8-nil
 gap_utf8 text _ _ (gap at end to s more) =
     let front : IsUtf8 (slice_range text at end) = subst IsUtf8 (sym (piece_word text None at end s.piece)) (IsUtf8-from_is_utf8 s.piece.word s.utf8) in
-    let low : at ≤ end = omega (arith, s.piece.ends) in
-    subst IsUtf8 (seam text at end to low (between_low text end to more)) (IsUtf8-append (slice_range text at end) (slice_range text end to) front (gap_utf8 text end to more))
+    subst IsUtf8 (seam text at end to (omega (arith, s.piece.ends)) (between_low text end to more)) (IsUtf8-append (slice_range text at end) (slice_range text end to) front (gap_utf8 text end to more))
 
 pub token_sound : (text : List ℕ) (at : ℕ) (t : Token) → at ≤ length text → next_token_of text at ≡ Ok (Some t) → is_sound (lexeme_of text (record { from = at; token = t })) ≡ true
 unfolding is_sound spelling
 token_sound text at t le e =
     let found : IsNext text at (Ok (Some t)) = subst (IsNext text at) e (next_found text at le) in
-    let s = found.2 in
     and_from (is_utf8 (slice_range text at t.start)) (is_utf8 (slice_range text t.start t.end)) (is_utf8-from_IsUtf8 _ (gap_utf8 text at t.start found.0))
-    (ap is_utf8 (piece_word text (Some t.kind) t.start t.end s.piece) ∙ s.utf8)
+    (ap is_utf8 (piece_word text (Some t.kind) t.start t.end found.2.piece) ∙ found.2.utf8)
 
 pub sound_none : (text : List ℕ) → are_sound text [] ≡ true
 unfolding are_sound

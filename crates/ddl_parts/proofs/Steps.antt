@@ -1,17 +1,11 @@
 -- Steps of a reading, and the first of some tokens.
-use Rattle.ddl_parts.proofs.Common.{◌≡◌, Bool, true, false, ◌||◌, List, [], ◌∷◌, ◌++◌, Result, Ok, Err, refl, ap, arith, Lexeme, starts, never, Stop, Part, Reading, IsTooLong, shortened, Like, Apart, Begins, Avoids}
+use Rattle.ddl_parts.proofs.Common.{◌≡◌, Bool, true, false, ◌||◌, List, [], ◌∷◌, ◌++◌, Result, Ok, refl, ap, arith, Lexeme, starts, never, Stop, Part, Reading, IsTooLong, shortened, Like, Apart, Begins, Avoids}
 
 abbrev pub done : {A : Type 0} → A → Result A Stop
 done x = Ok x
 
-abbrev pub failed : {A : Type 0} → Stop → Result A Stop
-failed s = Err s
-
 pub ok_is : {A : Type 0} (x y : A) → done x ≡ done y → x ≡ y
 ok_is x y e = cc
-
-pub err_is : {A : Type 0} (s u : Stop) → failed {A = A} s ≡ failed u → s ≡ u
-err_is s u e = cc
 
 -- a value that was read, and the rest
 abbrev pub gives : {A : Type 0} → A → List Lexeme → Reading A
@@ -19,9 +13,6 @@ gives v rest = Ok (v, rest)
 
 pub value_is : {A : Type 0} (v w : A) (rest other : List Lexeme) → gives v rest ≡ gives w other → v ≡ w
 value_is {A} v w rest other e = ap (λ (x : A × List Lexeme). x.0) (ok_is (v, rest) (w, other) e)
-
-pub rest_is : {A : Type 0} (v w : A) (rest other : List Lexeme) → gives v rest ≡ gives w other → rest ≡ other
-rest_is {A} v w rest other e = ap (λ (x : A × List Lexeme). x.1) (ok_is (v, rest) (w, other) e)
 
 -- ---- the first token
 
@@ -44,9 +35,6 @@ starts_kept test (f ∷ front) t u behind other e = refl
 pub starts_again : (test : Lexeme → Bool) → Agrees test → (b : Bool) (ts front rest : List Lexeme) (t : Lexeme) (behind : List Lexeme) → starts test ts ≡ b → ts ≡ front ++ rest → rest ≡ t ∷ behind → (long : Bool) (u : Lexeme) → Like long t u → (other : List Lexeme) → starts test (front ++ u ∷ other) ≡ b
 starts_again test agrees b ts front rest t behind e parts is long u like other = grind (arith, starts_kept, passes_like, starts)
 
-pub starts_never : (ts : List Lexeme) → starts never ts ≡ false
-starts_never ts = grind arith
-
 pub starts_neither : (one other : Lexeme → Bool) (ts : List Lexeme) → starts (λ t. one t || other t) ts ≡ false → (starts one ts ≡ false) × (starts other ts ≡ false)
 starts_neither one other ts e = grind arith
 
@@ -57,14 +45,11 @@ starts_apart one other ts apart e = grind arith
 pub starts_more : (test other : Lexeme → Bool) → ((t : Lexeme) → test t ≡ true → other t ≡ true) → (ts : List Lexeme) → starts test ts ≡ true → starts other ts ≡ true
 starts_more test other more ts e = grind arith
 
-pub starts_covered : (more test : Lexeme → Bool) → ((t : Lexeme) → more t ≡ false → test t ≡ false) → (ts : List Lexeme) → starts more ts ≡ false → starts test ts ≡ false
-starts_covered more test h ts e = grind arith
-
 -- ---- parts side by side
 
 -- what never goes on is followed by anything
 pub avoids_never : {B : Type 0} (q : Part B) → Avoids never q
-avoids_never q w b rest spells free = starts_never (b ++ rest)
+avoids_never q w b rest spells free = grind arith
 
 -- a part that begins with other tokens
 pub avoids_begun : {B : Type 0} (test other : Lexeme → Bool) (q : Part B) → Begins test q → Apart test other → Avoids other q

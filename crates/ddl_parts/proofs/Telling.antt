@@ -1,6 +1,6 @@
 -- Tokens that are told apart, by their kinds and words.
 use Rattle.ddl_parts.proofs.Common.{◌≡◌, ℕ, Bool, true, false, ◌||◌, ◌&&◌, List, [], ◌∷◌, ◌++◌, refl, ap, ◌∙◌, bytes_eq, arith, ◌==◌, list_any, str_eq_ignore_ascii_case, str_to_ascii_lowercase, bytes_eq-Decides, TokenKind, Word, QuotedName, is_keyword_of, Lexeme, is_word, is_sign, is_sign_kind, never, starts, Part, nothing, Apart, Avoids, Begins, is_name, is_name_kind, is_literal, is_literal_kind, type_goes_on, is_type_word, is_word_kind, stop_words}
-use Rattle.ddl_parts.proofs.{Steps.starts_more, Steps.starts_covered, Leads.word_no_sign}
+use Rattle.ddl_parts.proofs.{Steps.starts_more, Leads.word_no_sign}
 
 -- what goes on with no token is followed by anything
 pub free : (test : Lexeme → Bool) → Apart test never
@@ -21,13 +21,10 @@ same_by Word w a b e = let same = (bytes_eq-Decides (str_to_ascii_lowercase w) (
 same_by QuotedName w a b e = absurd cc
 same_by x w a b e = absurd cc
 
-pub same_word : (a b : List ℕ) (t : Lexeme) → is_word a t ≡ true → is_word b t ≡ str_eq_ignore_ascii_case a b
-unfolding is_word
-same_word a b t e = same_by t.kind t.word a b e
-
 pub one_of_words : (key : List ℕ) (t : Lexeme) → is_word key t ≡ true → (ws : List (List ℕ)) → list_any (λ w. is_word w t) ws ≡ list_any (λ w. str_eq_ignore_ascii_case key w) ws
+unfolding is_word
 one_of_words key t e [] = refl
-one_of_words key t e (w ∷ ws) = ap (λ (b : Bool). b || list_any (λ w. is_word w t) ws) (same_word key w t e) ∙ ap (λ (b : Bool). str_eq_ignore_ascii_case key w || b) (one_of_words key t e ws)
+one_of_words key t e (w ∷ ws) = ap (λ (b : Bool). b || list_any (λ w. is_word w t) ws) (same_by t.kind t.word key w e) ∙ ap (λ (b : Bool). str_eq_ignore_ascii_case key w || b) (one_of_words key t e ws)
 
 pub and_false : (x : Bool) → (x && false) ≡ false
 and_false x = grind arith
@@ -35,23 +32,15 @@ and_false x = grind arith
 -- a word that ends a type
 pub stop_no_type : (key : List ℕ) → list_any (λ w. str_eq_ignore_ascii_case key w) stop_words ≡ true → Apart (is_word key) type_goes_on
 unfolding type_goes_on is_type_word
-stop_no_type key stops t e =
-    rw (one_of_words key t e stop_words ∙ stops, word_no_sign key 46 t e, word_no_sign key 40 t e, word_no_sign key 91 t e) (let n = and_false (is_word_kind t.kind) in rw n refl)
-
-pub sign_no_word_by : (k : TokenKind) (w key : List ℕ) (b : ℕ) → is_sign_kind b k ≡ true → is_keyword_of k w key ≡ false
-unfolding is_keyword_of
-sign_no_word_by k w key b e = grind arith
+stop_no_type key stops t e = rw (one_of_words key t e stop_words ∙ stops, word_no_sign key 46 t e, word_no_sign key 40 t e, word_no_sign key 91 t e) (let n = and_false (is_word_kind t.kind) in rw n refl)
 
 pub sign_no_word : (b : ℕ) (key : List ℕ) → Apart (is_sign b) (is_word key)
-unfolding is_sign is_word
-sign_no_word b key t e = sign_no_word_by t.kind t.word key b e
-
-pub signs_by : (k : TokenKind) (a b : ℕ) → (b == a) ≡ false → is_sign_kind a k ≡ true → is_sign_kind b k ≡ false
-signs_by k a b differ e = grind arith
+unfolding is_sign is_word is_keyword_of
+sign_no_word b key t e = grind arith
 
 pub signs_apart : (a b : ℕ) → (b == a) ≡ false → Apart (is_sign a) (is_sign b)
 unfolding is_sign
-signs_apart a b differ t e = signs_by t.kind a b differ e
+signs_apart a b differ t e = grind arith
 
 pub sign_kind_by : (k : TokenKind) (b : ℕ) → is_sign_kind b k ≡ true → (is_name_kind k ≡ false) × (is_literal_kind k ≡ false) × (is_word_kind k ≡ false)
 sign_kind_by k b e = grind arith
@@ -76,4 +65,4 @@ pub begins_more : {A : Type 0} (test other : Lexeme → Bool) (p : Part A) → (
 begins_more test other p more begins v ts spells = starts_more test other more ts (begins v ts spells)
 
 pub nothing_avoids_some : {A : Type 0} (more test : Lexeme → Bool) (v : A) → ((t : Lexeme) → more t ≡ false → test t ≡ false) → Avoids test (nothing more v)
-nothing_avoids_some more test v none w ts rest spells free = ap (λ (f : List Lexeme). starts test (f ++ rest)) spells.1 ∙ starts_covered more test none rest free
+nothing_avoids_some more test v none w ts rest spells free = ap (λ (f : List Lexeme). starts test (f ++ rest)) spells.1 ∙ (grind arith)

@@ -1,5 +1,5 @@
 -- What reading comes to, whether it goes through or stops, in one statement; the laws of parts are proved of it.
-use Rattle.ddl_parts.proofs.Common.{arith, ◌≡◌, Bool, true, false, List, [], ◌∷◌, ◌++◌, Ok, Err, refl, sym, ap, subst, ◌∙◌, inl, append_assoc, Lexeme, starts, Part, Reading, ◌>>=◌, shortened, Like, Named, Example, Lawful}
+use Rattle.ddl_parts.proofs.Common.{arith, ◌≡◌, Bool, true, false, List, [], ◌∷◌, ◌++◌, Ok, Err, refl, sym, ap, subst, ◌∙◌, inl, append_assoc, Lexeme, starts, Part, Stop, Reading, ◌>>=◌, shortened, Like, Named, Example, Lawful}
 
 -- the tokens behind those that were taken
 abbrev pub left_of : {A : Type 0} → Reading A → List Lexeme
@@ -50,10 +50,6 @@ lawful {p = p} tells only example = record {
 abbrev pub named_by : {A B : Type 0} → {S : A → List Lexeme → Type 0} → {T : B → List Lexeme → Type 0} → {front rest all : List Lexeme} → (n : Named S front rest) → (v : B) → (more : List Lexeme) → T v (all ++ shortened n.token ∷ more) → Named T all rest
 named_by n v more spells = record { token = n.token; behind = n.behind; is = n.is; long = n.long; value = v; more = more; spells = spells }
 
--- nothing hangs on the length of a token that isn't the next
-pub like_ok : (long : Bool) (t u : Lexeme) → Like long t u → Like false t u
-like_ok long t u h = grind arith
-
 -- what one reader tells, another does that spells no less and reads the same there
 pub told_as : {A : Type 0} {S T : A → List Lexeme → Type 0} {p q : List Lexeme → Reading A} (ts : List Lexeme) (r : Reading A) (f : Told S p ts r) → ((v : A) (us : List Lexeme) → S v us → T v us)
     → ((t : Lexeme) (behind : List Lexeme) → left_of r ≡ t ∷ behind → (u : Lexeme) → Like (long_of r) t u → (other : List Lexeme) → q (f.front ++ u ∷ other) ≡ p (f.front ++ u ∷ other)) → Told T q ts r
@@ -66,10 +62,27 @@ told_as ts (Err s) f more same = record {
   named = λ e. let n = f.named e in named_by n n.value n.more (more n.value (f.front ++ shortened n.token ∷ n.more) n.spells);
 }
 
+-- one reader that stops stops another that begins with it, where what is spelled can be gone on with
+pub told_stopped : {A B : Type 0} {S : A → List Lexeme → Type 0} {U : B → List Lexeme → Type 0} {p : List Lexeme → Reading A} {w : List Lexeme → Reading B} (ts : List Lexeme) (s : Stop)
+    → (f : Told S p ts (Err s)) → ((v : A) (a : List Lexeme) → S v a → (x : B) × (b : List Lexeme) × U x (a ++ b))
+    → ((t : Lexeme) (behind : List Lexeme) → s.rest ≡ t ∷ behind → (u : Lexeme) → Like s.long t u → (other : List Lexeme) → p (f.front ++ u ∷ other) ≡ before (Err s) (u ∷ other) → w (f.front ++ u ∷ other) ≡ before (Err s) (u ∷ other)) → Told U w ts (Err s)
+told_stopped {U = U} ts s f finish same =
+    let x = finish f.fits.0 (f.front ++ f.fits.1) f.fits.2 in
+    record {
+      front = f.front;
+      parts = f.parts;
+      fits = (x.0, f.fits.1 ++ x.1, subst (U x.0) (append_assoc f.front f.fits.1 x.1) x.2);
+      local = λ t behind is u like other. same t behind is u like other (f.local t behind is u like other);
+      named = λ e.
+          let n = f.named e in
+          let y = finish n.value (f.front ++ shortened n.token ∷ n.more) n.spells in
+          named_by n y.0 (n.more ++ y.1) (subst (U y.0) (append_assoc f.front (shortened n.token ∷ n.more) y.1) y.2);
+    }
+
 -- what was read is read again, before the next token, whatever comes behind that
 pub carried : {A : Type 0} {S : A → List Lexeme → Type 0} {p : List Lexeme → Reading A} (ts : List Lexeme) (v : A) (mid : List Lexeme) (f : Told S p ts (Ok (v, mid))) (g rest : List Lexeme) (t : Lexeme) (behind : List Lexeme) → mid ≡ g ++ rest → rest ≡ t ∷ behind → (long : Bool) (u : Lexeme) → Like long t u → (other : List Lexeme)
     → p (f.front ++ (g ++ u ∷ other)) ≡ Ok (v, g ++ u ∷ other)
-carried ts v mid f [] rest t behind e is long u like other = f.local t behind (e ∙ is) u (like_ok long t u like) other
+carried ts v mid f [] rest t behind e is long u like other = f.local t behind (e ∙ is) u (grind arith) other
 carried ts v mid f (x ∷ g) rest t behind e is long u like other = f.local x (g ++ rest) e x (inl refl) (g ++ u ∷ other)
 
 -- one reader behind another

@@ -1,5 +1,5 @@
 -- The tokens of a type: how a step goes on, and those of a qualified name.
-use Rattle.ddl_parts.proofs.Common.{◌≡◌, ℕ, zero, suc, ◌+◌, ◌-◌, ◌≤◌, Bool, true, false, cond, List, [], ◌∷◌, length, take, drop, Option, Some, None, Result, Ok, Err, is_ok, refl, sym, ap, subst, ◌∙◌, arith, option_and_then, length-drop, ok_or, TypeSpot, Begin, FirstWord, Schema, Dotted, Path, TypeName, ReadError, Lexeme, is_sign, starts, source, name_value, Reading, Runs, run, scan, one_at, seen_at, Fails, typing, type_step, if_name, type_of, type_part}
+use Rattle.ddl_parts.proofs.Common.{◌≡◌, ℕ, zero, suc, ◌+◌, ◌-◌, ◌≤◌, Bool, true, false, List, [], ◌∷◌, length, take, drop, Option, Some, None, Result, Ok, Err, refl, sym, ap, subst, ◌∙◌, arith, option_and_then, length-drop, ok_or, TypeSpot, Begin, Path, TypeName, ReadError, Lexeme, is_sign, starts, source, name_value, Reading, Runs, run, scan, one_at, seen_at, Fails, typing, type_step, if_name, type_of, type_part}
 use Rattle.ddl_parts.proofs.{Steps.gives, Slices.drop_twice, Machines.run_none, Machines.machine_laws, RunLaws.typing_ends}
 use Rattle.cat_model.specs.declared.type_name.TypeName.TheVariants as type_name
 
@@ -24,21 +24,8 @@ pub record AreNames (a b : Lexeme) : Type 0 where
   pub name : List ℕ
   pub name_is : name_value b ≡ Ok name
 
--- the spot behind a first token and a dot
-abbrev behind_dot : Bool → Result (List ℕ) Bool → Lexeme → Option TypeSpot
-behind_dot words first dot = option_and_then (λ x. type_step x dot) (cond words (Some (FirstWord (is_ok first))) (if_name first Schema))
-
-dot_goes : (words : Bool) (first : Result (List ℕ) Bool) (dot : Lexeme) → is_sign 46 dot ≡ true → (s : TypeSpot) → behind_dot words first dot ≡ Some s → (n : List ℕ) × (first ≡ Ok n) × (s ≡ Dotted)
-unfolding type_step
-dot_goes words first dot e s h = grind arith
-
 name_goes : (second : Result (List ℕ) Bool) (s : TypeSpot) → if_name second Path ≡ Some s → (n : List ℕ) × (second ≡ Ok n)
 name_goes second s h = grind arith
-
--- a run that goes on has a state behind each token
-run_some : (o : Option TypeSpot) (ts : List Lexeme) (last : TypeSpot) → run typing o ts ≡ Some last → (s : TypeSpot) × (o ≡ Some s)
-run_some (Some s) ts last e = (s, refl)
-run_some None ts last e = absurd (cc (run_none typing ts))
 
 step_some : (o : Option TypeSpot) (t : Lexeme) (s : TypeSpot) → option_and_then (λ x. type_step x t) o ≡ Some s → (r : TypeSpot) × (o ≡ Some r) × (type_step r t ≡ Some s)
 step_some o t s e = grind arith
@@ -46,12 +33,10 @@ step_some o t s e = grind arith
 -- a type whose second token is a dot, with another behind it, has two names
 pub path_names : (a dot b : Lexeme) (ts : List Lexeme) (last : TypeSpot) → is_sign 46 dot ≡ true → run typing (Some Begin) (a ∷ dot ∷ b ∷ ts) ≡ Some last → AreNames a b
 unfolding type_step
-path_names a dot b ts last e h = grind (arith, run_some, step_some, dot_goes, name_goes)
+path_names a dot b ts last e h = grind (arith, step_some, name_goes, run_none)
 
 scanned_runs : (ts taken rest : List Lexeme) → scan typing Begin ts ≡ Ok (taken, rest) → Runs typing taken
-scanned_runs ts taken rest e =
-    let f = (machine_laws typing typing_ends).found ts taken rest e in
-    subst (λ (x : List Lexeme). Runs typing x) (sym f.spells.0) f.spells.1
+scanned_runs ts taken rest e = let f = (machine_laws typing typing_ends).found ts taken rest e in subst (λ (x : List Lexeme). Runs typing x) (sym f.spells.0) f.spells.1
 
 -- the names of a type's tokens, as they are read one by one
 pub record ArePath (ts taken : List Lexeme) : Type 0 where
@@ -61,26 +46,22 @@ pub record ArePath (ts taken : List Lexeme) : Type 0 where
   pub name_is : one_at name_value (drop 2 ts) ≡ gives name (drop 3 ts)
   pub type_is : type_of taken ≡ type_name.Path (record { schema = schema; name = name })
 
-three_names : (a dot b : Lexeme) (ts taken : List Lexeme) → is_sign 46 dot ≡ true → AreNames a b → ArePath (a ∷ dot ∷ b ∷ ts) (a ∷ dot ∷ b ∷ taken)
-unfolding type_of
-three_names a dot b ts taken e n = grind arith
-
 -- a run of three tokens or more with a dot as the second is a qualified name
 pub path_is : (n : ℕ) (ts rest : List Lexeme) → 3 ≤ n → n ≤ length ts → starts (is_sign 46) (drop 1 ts) ≡ true → scan typing Begin ts ≡ Ok (take n ts, rest) → ArePath ts (take n ts)
+unfolding type_of
 path_is zero ts rest le high e scanned = absurd (omega arith)
 path_is (suc zero) ts rest le high e scanned = absurd (omega arith)
 path_is (suc (suc zero)) ts rest le high e scanned = absurd (omega arith)
 path_is (suc (suc (suc n))) [] rest le high e scanned = absurd (omega arith)
 path_is (suc (suc (suc n))) (a ∷ []) rest le high e scanned = absurd (omega arith)
 path_is (suc (suc (suc n))) (a ∷ dot ∷ []) rest le high e scanned = absurd (omega arith)
-path_is (suc (suc (suc n))) (a ∷ dot ∷ b ∷ ts) rest le high e scanned = grind (arith, scanned_runs, three_names, path_names)
+path_is (suc (suc (suc n))) (a ∷ dot ∷ b ∷ ts) rest le high e scanned = grind (arith, scanned_runs, path_names)
 
 -- the same by places
 pub path_between : (ts : List Lexeme) (at end : ℕ) (dot : Bool) → (dot ≡ true → at + 3 ≤ end) → (at + 3 ≤ end → dot ≡ starts (is_sign 46) (drop (at + 1) ts)) → dot ≡ true → end ≤ length ts → scan typing Begin (drop at ts) ≡ Ok (take (end - at) (drop at ts), drop end ts)
     → ArePath (drop at ts) (take (end - at) (drop at ts))
 path_between ts at end dot long exact is high e =
-    let le = long is in
-    path_is (end - at) (drop at ts) (drop end ts) (omega (arith, le)) (omega (arith, length-drop at ts)) (ap (starts (is_sign 46)) (drop_twice 1 at ts) ∙ sym (exact le) ∙ is) e
+    path_is (end - at) (drop at ts) (drop end ts) (omega (arith, (long is))) (omega (arith, length-drop at ts)) (ap (starts (is_sign 46)) (drop_twice 1 at ts) ∙ sym (exact (long is)) ∙ is) e
 
 -- another run is words
 pub words_are : (n : ℕ) (ts : List Lexeme) → (3 ≤ n → starts (is_sign 46) (drop 1 ts) ≡ false) → type_of (take n ts) ≡ type_name.Words (source (take n ts))

@@ -1,5 +1,5 @@
 -- Tokens of a text, one after another, and what the code's readers answer.
-use Rattle.std.specs.Prelude.{◌≡◌, ℕ, ◌-◌, ◌≤◌, Bool, true, ◌&&◌, ◌==◌, nat_le, nat_lt, List, [], ◌∷◌, length, map, take, drop, slice_range, Result, Ok, Err, ⊤, if◌then◌else◌}
+use Rattle.std.specs.Prelude.{◌≡◌, ℕ, ◌-◌, ◌≤◌, Bool, true, false, ◌&&◌, ◌==◌, nat_le, nat_lt, List, [], ◌∷◌, length, map, take, drop, slice_range, Option, Some, None, Result, Ok, Err, ⊤, if◌then◌else◌}
 use Rattle.std.specs.List.{list_all}
 use Rattle.std.specs.Str.{is_utf8}
 use Rattle.sql_lex.specs.Meaning.{spelling}
@@ -7,8 +7,8 @@ use Rattle.ddl_parts.specs.declared.pieces.Piece.{Piece}
 use Rattle.ddl_parts.specs.declared.fault.Halt.{Halt}
 use Rattle.ddl_parts.specs.declared.fault.ReadError.{ReadError}
 use Rattle.ddl_parts.specs.declared.fault.ReadError.TheVariants as errors
-use Rattle.ddl_parts.specs.Lexemes.{Lexeme}
-use Rattle.ddl_parts.specs.Parts.{Stop, Reading}
+use Rattle.ddl_parts.specs.Lexemes.{Lexeme, starts}
+use Rattle.ddl_parts.specs.Parts.{Stop, Reading, mark}
 
 abbrev pub lexeme_of : List ℕ → Piece → Lexeme
 lexeme_of text p = record { gap = slice_range text p.from p.token.start; kind = p.token.kind; word = spelling text p.token; start = p.token.start }
@@ -56,6 +56,11 @@ GivesPart ts view (Err error) reading = Fails ts error reading
 abbrev pub GivesPlace : List Lexeme → Result ℕ ReadError → Reading (Unit {0}) → Type 0
 GivesPlace ts (Ok at) reading = reading ≡ Ok (tt, drop at ts)
 GivesPlace ts (Err error) reading = Fails ts error reading
+
+-- The place behind the token at a place, where it passes a test.
+abbrev pub IsBehind : List Lexeme → (Lexeme → Bool) → ℕ → Option ℕ → Type 0
+IsBehind ts test at None = starts test (drop at ts) ≡ false
+IsBehind ts test at (Some next) = (starts test (drop at ts) ≡ true) × ((mark test).read (drop at ts) ≡ Ok (tt, drop next ts))
 
 -- A run of tokens from a place on: it goes up to the place that was answered.
 abbrev pub GivesRun : List Lexeme → ℕ → Result ℕ ReadError → Reading (List Lexeme) → Type 0

@@ -5,6 +5,7 @@ mod collecting;
 mod defaults;
 mod fault;
 pub mod laws;
+mod macros;
 mod pieces;
 mod qualified;
 mod runs;
@@ -12,5 +13,5 @@ mod types;
 
 pub use collecting::{Run, collect};
 pub use fault::{Halt, Parsed, ReadError};
-pub use pieces::{Piece, Pieces};
+pub use pieces::{Piece, Pieces, halt};
 pub use qualified::qualified_name;

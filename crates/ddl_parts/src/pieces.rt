@@ -6,7 +6,7 @@ ghost use Rattle.ddl_parts.specs.Leaves.{name, literal, name_in, name_value, tex
 ghost use Rattle.ddl_parts.specs.Parts.{Part, mark, stop};
 ghost use Rattle.ddl_parts.specs.Expressions.{expression, default_text, default_and_null};
 ghost use Rattle.ddl_parts.specs.Types.{type_part};
-ghost use Rattle.ddl_parts.specs.Pieces.{lexeme_of, lexemes, are_joined, are_sound, GivesPlace, GivesPart};
+ghost use Rattle.ddl_parts.specs.Pieces.{lexeme_of, lexemes, are_joined, are_sound, GivesPlace, GivesPart, IsBehind};
 ghost use Rattle.ddl_parts.specs.declared.fault.ReadError.TheVariants.{Halted};
 
 use crate::defaults::default_and_null_at;
@@ -64,7 +64,10 @@ impl<'a> Pieces<'a> {
     pub fn start(&self, at: usize) -> Option<usize>
         ensures { result ≡ start_of (drop at self.now) }
     {
-        start_at(self.text, &self.pieces, at)
+        match piece_at(self.text, &self.pieces, at) {
+            Some(piece) => Some(piece.token.start),
+            None => None,
+        }
     }
 
     /// How many there are.
@@ -75,17 +78,47 @@ impl<'a> Pieces<'a> {
     }
 
     /// The key word at a place, in letters of any case, and the place behind it.
+    #[tactic(auto, unfolding(crate::specs::Lexemes::is_word))]
     pub fn word(&self, at: usize, key: &str) -> Result<usize, ReadError>
         ensures { GivesPlace self.now result ((mark (is_word key.now)).read (drop at self.now)) }
     {
-        word_at(self.text, &self.pieces, at, key)
+        match piece_at(self.text, &self.pieces, at) {
+            Some(piece) if is_keyword(self.text, piece.token, key) => Ok(at + 1),
+            _ => halt(at),
+        }
     }
 
     /// The token of this one byte at a place, and the place behind it.
+    #[tactic(auto, unfolding(crate::specs::Lexemes::is_sign))]
     pub fn sign(&self, at: usize, byte: u8) -> Result<usize, ReadError>
         ensures { GivesPlace self.now result ((mark (is_sign byte)).read (drop at self.now)) }
     {
-        sign_at(self.text, &self.pieces, at, byte)
+        match piece_at(self.text, &self.pieces, at) {
+            Some(piece) if is_sign_kind(piece.token.kind, byte) => Ok(at + 1),
+            _ => halt(at),
+        }
+    }
+
+    /// The place behind the key word, in letters of any case, where it stands at a place.
+    #[tactic(auto, unfolding(crate::specs::Lexemes::is_word))]
+    pub fn after_word(&self, at: usize, key: &str) -> Option<usize>
+        ensures { IsBehind self.now (is_word key.now) at result }
+    {
+        match piece_at(self.text, &self.pieces, at) {
+            Some(piece) if is_keyword(self.text, piece.token, key) => Some(at + 1),
+            _ => None,
+        }
+    }
+
+    /// The place behind the token of this one byte, where it stands at a place.
+    #[tactic(auto, unfolding(crate::specs::Lexemes::is_sign))]
+    pub fn after_sign(&self, at: usize, byte: u8) -> Option<usize>
+        ensures { IsBehind self.now (is_sign byte) at result }
+    {
+        match piece_at(self.text, &self.pieces, at) {
+            Some(piece) if is_sign_kind(piece.token.kind, byte) => Some(at + 1),
+            _ => None,
+        }
     }
 
     /// Whether the key word stands at a place.
@@ -103,17 +136,25 @@ impl<'a> Pieces<'a> {
     }
 
     /// Whether a word or a quoted name stands at a place.
+    #[tactic(auto, unfolding(crate::specs::Leaves::is_name))]
     pub fn is_name(&self, at: usize) -> bool
         ensures { result ≡ starts is_name (drop at self.now) }
     {
-        is_name_at(self.text, &self.pieces, at)
+        match piece_at(self.text, &self.pieces, at) {
+            Some(piece) => is_name_kind(piece.token.kind),
+            None => false,
+        }
     }
 
     /// Whether a literal stands at a place.
+    #[tactic(auto, unfolding(crate::specs::Leaves::is_literal))]
     pub fn is_literal(&self, at: usize) -> bool
         ensures { result ≡ starts is_literal (drop at self.now) }
     {
-        is_literal_at(self.text, &self.pieces, at)
+        match piece_at(self.text, &self.pieces, at) {
+            Some(piece) => is_literal_kind(piece.token.kind),
+            None => false,
+        }
     }
 
     /// The name at a place, and the place behind it.
@@ -124,10 +165,17 @@ impl<'a> Pieces<'a> {
     }
 
     /// The text of the literal at a place, and the place behind it.
+    #[tactic(auto, unfolding(crate::specs::Leaves::literal_value))]
     pub fn literal(&self, alloc: Global, at: usize) -> Parsed<Text>
         ensures { GivesPart self.now (λ t. t) result (literal.read (drop at self.now)) }
     {
-        literal_at(alloc, self.text, &self.pieces, at)
+        let Some(piece) = piece_at(self.text, &self.pieces, at) else {
+            return halt(at);
+        };
+        match text_in(literal_text(alloc, self.text, piece.token)?) {
+            Ok(literal) => Ok((literal, at + 1)),
+            Err(long) => Err(ReadError::Halted(Halt { long, at })),
+        }
     }
 
     /// The text of the expression at a place, and the place behind it.
@@ -154,11 +202,16 @@ impl<'a> Pieces<'a> {
     }
 
     /// The spelling of the number at a place.
+    #[tactic(auto, unfolding(crate::specs::Lexemes::is_word, sql_lex::specs::Meaning::spelling))]
     pub fn number(&self, at: usize) -> Option<&[u8]>
         ensures exact { option_map (λ w. w.now) result ≡ number_first (drop at self.now) }
         ensures some { IfSome result (λ w. 0 < length w.now) }
     {
-        number_at(self.text, &self.pieces, at)
+        let piece = piece_at(self.text, &self.pieces, at)?;
+        match piece.token.kind {
+            TokenKind::Number => Some(&self.text[piece.token.start..piece.token.end]),
+            _ => None,
+        }
     }
 
     /// The text of the tokens from a place up to another.
@@ -192,18 +245,8 @@ pub(crate) fn piece_at(text: &[u8], pieces: &[Piece], at: usize) -> Option<Piece
     }
 }
 
-fn start_at(text: &[u8], pieces: &[Piece], at: usize) -> Option<usize>
-    requires { are_joined (length text.now) pieces.now ≡ true }
-    ensures { result ≡ start_of (drop at (lexemes text.now pieces.now)) }
-{
-    match piece_at(text, pieces, at) {
-        Some(piece) => Some(piece.token.start),
-        None => None,
-    }
-}
-
-/// Reading stops at a place.
-pub(crate) fn halt<T>(at: usize) -> Result<T, ReadError>
+/// Reading stops at a place, with whose token nothing goes on.
+pub fn halt<T>(at: usize) -> Result<T, ReadError>
     ensures { result ≡ Err (Halted (record { long = false; at = at })) }
 {
     Err(ReadError::Halted(Halt { long: false, at }))
@@ -241,17 +284,6 @@ pub(crate) fn is_sign_at(text: &[u8], pieces: &[Piece], at: usize, byte: u8) -> 
     }
 }
 
-#[tactic(auto, unfolding(crate::specs::Leaves::is_name))]
-fn is_name_at(text: &[u8], pieces: &[Piece], at: usize) -> bool
-    requires { are_joined (length text.now) pieces.now ≡ true }
-    ensures { result ≡ starts is_name (drop at (lexemes text.now pieces.now)) }
-{
-    match piece_at(text, pieces, at) {
-        Some(piece) => is_name_kind(piece.token.kind),
-        None => false,
-    }
-}
-
 /// Whether tokens of this kind stand for names.
 fn is_name_kind(kind: TokenKind) -> bool
     ensures { result ≡ is_name_kind kind }
@@ -259,52 +291,11 @@ fn is_name_kind(kind: TokenKind) -> bool
     matches!(kind, TokenKind::Word | TokenKind::QuotedName)
 }
 
-#[tactic(auto, unfolding(crate::specs::Leaves::is_literal))]
-fn is_literal_at(text: &[u8], pieces: &[Piece], at: usize) -> bool
-    requires { are_joined (length text.now) pieces.now ≡ true }
-    ensures { result ≡ starts is_literal (drop at (lexemes text.now pieces.now)) }
-{
-    match piece_at(text, pieces, at) {
-        Some(piece) => is_literal_kind(piece.token.kind),
-        None => false,
-    }
-}
-
 /// Whether tokens of this kind are literals.
 fn is_literal_kind(kind: TokenKind) -> bool
     ensures { result ≡ is_literal_kind kind }
 {
     matches!(kind, TokenKind::Literal)
-}
-
-#[tactic(auto, unfolding(crate::specs::Lexemes::is_word))]
-fn word_at(text: &[u8], pieces: &[Piece], at: usize, key: &str) -> Result<usize, ReadError>
-    requires { are_joined (length text.now) pieces.now ≡ true }
-    ensures { GivesPlace (lexemes text.now pieces.now) result ((mark (is_word key.now)).read (drop at (lexemes text.now pieces.now))) }
-{
-    let Some(piece) = piece_at(text, pieces, at) else {
-        return halt(at);
-    };
-    if is_keyword(text, piece.token, key) {
-        Ok(at + 1)
-    } else {
-        halt(at)
-    }
-}
-
-#[tactic(auto, unfolding(crate::specs::Lexemes::is_sign))]
-fn sign_at(text: &[u8], pieces: &[Piece], at: usize, byte: u8) -> Result<usize, ReadError>
-    requires { are_joined (length text.now) pieces.now ≡ true }
-    ensures { GivesPlace (lexemes text.now pieces.now) result ((mark (is_sign byte)).read (drop at (lexemes text.now pieces.now))) }
-{
-    let Some(piece) = piece_at(text, pieces, at) else {
-        return halt(at);
-    };
-    if is_sign_kind(piece.token.kind, byte) {
-        Ok(at + 1)
-    } else {
-        halt(at)
-    }
 }
 
 /// The name that a token stands for; the error says whether it is one but for its length.
@@ -330,21 +321,6 @@ pub(crate) fn name_at(alloc: Global, text: &[u8], pieces: &[Piece], at: usize) -
     };
     match name_value(alloc, text, piece)? {
         Ok(name) => Ok((name, at + 1)),
-        Err(long) => Err(ReadError::Halted(Halt { long, at })),
-    }
-}
-
-#[tactic(auto, unfolding(crate::specs::Leaves::literal_value))]
-fn literal_at(alloc: Global, text: &[u8], pieces: &[Piece], at: usize) -> Parsed<Text>
-    requires { are_joined (length text.now) pieces.now ≡ true }
-    ensures { GivesPart (lexemes text.now pieces.now) (λ t. t) result (literal.read (drop at (lexemes text.now pieces.now))) }
-{
-    let Some(piece) = piece_at(text, pieces, at) else {
-        return halt(at);
-    };
-    let literal = text_in(literal_text(alloc, text, piece.token)?);
-    match literal {
-        Ok(literal) => Ok((literal, at + 1)),
         Err(long) => Err(ReadError::Halted(Halt { long, at })),
     }
 }
@@ -387,18 +363,5 @@ fn text_in(bytes: Option<Vec<u8>>) -> Result<Text, bool>
     match Text::new(bytes) {
         Some(text) => Ok(text),
         None => Err(false),
-    }
-}
-
-#[tactic(auto, unfolding(crate::specs::Lexemes::is_word, sql_lex::specs::Meaning::spelling))]
-fn number_at<'a>(text: &'a [u8], pieces: &[Piece], at: usize) -> Option<&'a [u8]>
-    requires { are_joined (length text.now) pieces.now ≡ true }
-    ensures exact { option_map (λ w. w.now) result ≡ number_first (drop at (lexemes text.now pieces.now)) }
-    ensures some { IfSome result (λ w. 0 < length w.now) }
-{
-    let piece = piece_at(text, pieces, at)?;
-    match piece.token.kind {
-        TokenKind::Number => Some(&text[piece.token.start..piece.token.end]),
-        _ => None,
     }
 }

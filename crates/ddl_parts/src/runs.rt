@@ -52,34 +52,22 @@ fn close_square(brackets: &mut Vec<Bracket>) -> bool
     matches!(brackets.pop(), Some(Bracket::Square))
 }
 
-/// Opens or closes a bracket by a sign; false where no run goes on with it.
-fn turn_by_sign(sign: u8, brackets: &mut Vec<Bracket>) -> Result<bool, AllocError>
-    ensures { IfOk result (λ goes. (if goes then Some (reverse brackets.new.items) else None) ≡ behind_sign sign (reverse brackets.old.items)) }
-{
-    if sign == b'(' {
-        brackets.push(Bracket::Round)?;
-        return Ok(true);
-    }
-    if sign == b'[' {
-        brackets.push(Bracket::Square)?;
-        return Ok(true);
-    }
-    if sign == b')' {
-        return Ok(close_round(brackets));
-    }
-    if sign == b']' {
-        return Ok(close_square(brackets));
-    }
-    Ok(sign != b';')
-}
-
 /// Opens or closes a bracket by a token; false where no run goes on with it.
 fn turn(kind: TokenKind, brackets: &mut Vec<Bracket>) -> Result<bool, AllocError>
     ensures { IfOk result (λ goes. (if goes then Some (reverse brackets.new.items) else None) ≡ behind_kind kind (reverse brackets.old.items)) }
 {
     match kind {
-        TokenKind::Sign(sign) => turn_by_sign(sign, brackets),
-        TokenKind::MetaLine => Ok(false),
+        TokenKind::Sign(b'(') => {
+            brackets.push(Bracket::Round)?;
+            Ok(true)
+        }
+        TokenKind::Sign(b'[') => {
+            brackets.push(Bracket::Square)?;
+            Ok(true)
+        }
+        TokenKind::Sign(b')') => Ok(close_round(brackets)),
+        TokenKind::Sign(b']') => Ok(close_square(brackets)),
+        TokenKind::Sign(b';') | TokenKind::MetaLine => Ok(false),
         _ => Ok(true),
     }
 }

@@ -132,43 +132,6 @@ fn more_words(text: &[u8], piece: Piece) -> Option<TypeSpot>
     only_if(is_sign_kind(piece.token.kind, b'['), TypeSpot::Array)
 }
 
-/// The spot behind a token that follows a first word; `short` says that the word may be a schema's name.
-#[tactic(auto, unfolding(crate::specs::Types::type_step, crate::specs::Lexemes::is_sign))]
-fn behind_word(text: &[u8], piece: Piece, short: bool) -> Option<TypeSpot>
-    requires low { piece.token.start ≤ piece.token.end }
-    requires high { piece.token.end ≤ length text.now }
-    ensures { result ≡ type_step (FirstWord short) (lexeme_of text.now piece) }
-{
-    if is_sign_kind(piece.token.kind, b'.') {
-        return only_if(short, TypeSpot::Dotted);
-    }
-    more_words(text, piece)
-}
-
-/// The spot behind a token that follows a number in brackets.
-#[tactic(auto, unfolding(crate::specs::Types::type_step, crate::specs::Lexemes::is_sign))]
-fn behind_number(text: &[u8], piece: Piece) -> Option<TypeSpot>
-    ensures { result ≡ type_step Counted (lexeme_of text.now piece) }
-{
-    if is_sign_kind(piece.token.kind, b',') {
-        return Some(TypeSpot::Further);
-    }
-    only_if(is_sign_kind(piece.token.kind, b')'), TypeSpot::Behind)
-}
-
-/// The spot behind a token that follows the closing bracket.
-#[tactic(auto, unfolding(crate::specs::Types::type_step, crate::specs::Lexemes::is_sign))]
-fn behind_brackets(text: &[u8], piece: Piece) -> Option<TypeSpot>
-    requires low { piece.token.start ≤ piece.token.end }
-    requires high { piece.token.end ≤ length text.now }
-    ensures { result ≡ type_step Behind (lexeme_of text.now piece) }
-{
-    if is_type_word(text, piece) {
-        return Some(TypeSpot::Behind);
-    }
-    only_if(is_sign_kind(piece.token.kind, b'['), TypeSpot::Array)
-}
-
 /// The spot behind a token, where no name is due: None where the type ends before it.
 #[tactic(auto, unfolding(crate::specs::Types::type_step, crate::specs::Types::is_number, crate::specs::Lexemes::is_sign))]
 fn step_on(text: &[u8], piece: Piece, spot: TypeSpot) -> Option<TypeSpot>
@@ -178,16 +141,20 @@ fn step_on(text: &[u8], piece: Piece, spot: TypeSpot) -> Option<TypeSpot>
     requires undotted { spot ≢ Dotted }
     ensures { result ≡ type_step spot (lexeme_of text.now piece) }
 {
+    use TypeSpot::*;
+
     let kind = piece.token.kind;
     match spot {
-        TypeSpot::FirstWord(short) => behind_word(text, piece, short),
-        TypeSpot::Schema => only_if(is_sign_kind(kind, b'.'), TypeSpot::Dotted),
-        TypeSpot::Words => more_words(text, piece),
-        TypeSpot::Opened | TypeSpot::Further => only_if(is_number_kind(kind), TypeSpot::Counted),
-        TypeSpot::Counted => behind_number(text, piece),
-        TypeSpot::Behind => behind_brackets(text, piece),
-        TypeSpot::Array => only_if(is_sign_kind(kind, b']'), TypeSpot::Ended),
-        TypeSpot::Begin | TypeSpot::Dotted | TypeSpot::Path | TypeSpot::Ended => None,
+        FirstWord(short) if is_sign_kind(kind, b'.') => only_if(short, Dotted),
+        FirstWord(_) | Words => more_words(text, piece),
+        Schema => only_if(is_sign_kind(kind, b'.'), Dotted),
+        Opened | Further => only_if(is_number_kind(kind), Counted),
+        Counted if is_sign_kind(kind, b',') => Some(Further),
+        Counted => only_if(is_sign_kind(kind, b')'), Behind),
+        Behind if is_type_word(text, piece) => Some(Behind),
+        Behind => only_if(is_sign_kind(kind, b'['), Array),
+        Array => only_if(is_sign_kind(kind, b']'), Ended),
+        Begin | Dotted | Path | Ended => None,
     }
 }
 

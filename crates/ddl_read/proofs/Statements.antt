@@ -1,5 +1,5 @@
 -- A text read statement by statement: those so far and those behind are those of the text.
-use Rattle.ddl_read.proofs.Common.{◌≡◌, ℕ, zero, suc, ◌+◌, ◌-◌, ◌<◌, ◌≤◌, false, List, [], ◌∷◌, ◌++◌, length, Option, Some, None, Result, Ok, Err, refl, ap, ◌∙◌, arith, append_assoc, append-nil, LexFault, Token, TokenKind, next_token_of, spelling, Stmt, Piece, Lexeme, is_word, is_sign, lexeme_of, lexemes, value_of, Collected, collected, collected_within, collected_by, Reading, Whole, whole, whole_of, begins_statement, stray_in, stray, told, line_at, line_said, statements_at, listed, first_start, no_more, statement_of, statements_by, statements_within, statements_of}
+use Rattle.ddl_read.proofs.Common.{some_left, ◌≡◌, ℕ, suc, ◌+◌, ◌-◌, ◌<◌, ◌≤◌, false, List, [], ◌∷◌, ◌++◌, length, Option, Some, None, Result, Ok, Err, refl, ap, ◌∙◌, arith, append_assoc, append-nil, LexFault, Token, next_token_of, spelling, Stmt, Piece, is_word, is_sign, lexeme_of, lexemes, value_of, Collected, collected, collected_within, collected_by, Reading, Whole, whole, whole_of, begins_statement, stray_in, stray, told, line_at, line_said, statements_at, listed, first_start, no_more, statement_of, statements_by, statements_within, statements_of}
 use Rattle.ddl_lines.specs.MetaLines.{meta_line}
 use Rattle.ddl_read.specs.{Grammar.command, Grammar.statement, declared.fault.DdlFault.TheVariants.Unknown, declared.located.Located.Located, declared.fault.DdlFault.DdlFault, declared.fault.ReadStmtsError.ReadStmtsError, Reading.◌>>=◌, Reading.Fails}
 use Rattle.cat_model.specs.declared.stmt.Stmt.TheVariants as stmt
@@ -21,11 +21,7 @@ turn n text so_far at line = behind so_far (statements_at (statements_within n t
 
 opened : (whole : Result (List Located) DdlFault) (text : List ℕ) (so_far : List Located) (at : ℕ) → IsLeft whole text so_far at → (n : ℕ) × (length text - at < suc n) × (whole ≡ turn n text so_far at (line_at text at))
 unfolding statements_within
-opened whole text so_far at left = by_fuel left.fuel left.enough left.same
-  where
-    by_fuel : (n : ℕ) → length text - at < n → whole ≡ behind so_far (statements_within n text at) → (m : ℕ) × (length text - at < suc m) × (whole ≡ turn m text so_far at (line_at text at))
-    by_fuel zero h e = absurd (omega arith)
-    by_fuel (suc m) h e = (m, h, e)
+opened whole text so_far at left = let k = some_left left.fuel (omega (arith, left.enough)) in (k.0, omega (arith, left.enough, k.1), left.same ∙ ap (λ n. behind so_far (statements_within n text at)) k.1)
 
 pub all_left : (text : List ℕ) → IsLeft (statements_of text) text [] 0
 unfolding statements_of
@@ -49,17 +45,11 @@ begun whole text so_far at c start left next =
     let o = opened whole text so_far at left in
     (o.0, o.1, o.2 ∙ ap (turn o.0 text so_far at) next.no_line ∙ ap (collecting o.0 text so_far) next.tokens ∙ ap (by_start o.0 text so_far c) next.first)
 
-ends_ok : (so_far : List Located) (fault : Option LexFault) → no_more fault ≡ Ok [] → behind so_far (no_more fault) ≡ Ok so_far
-ends_ok so_far fault e = grind (arith, append-nil)
-
-ends_fault : (so_far : List Located) (fault : Option LexFault) (error : ReadStmtsError) → Fails error (no_more fault) → Fails error (behind so_far (no_more fault))
-ends_fault so_far fault error e = grind arith
-
 pub at_end : (whole : Result (List Located) DdlFault) (text : List ℕ) (so_far : List Located) (at : ℕ) (c : Collected) → IsLeft whole text so_far at → IsNext text at c None → no_more c.fault ≡ Ok [] → whole ≡ Ok so_far
-at_end whole text so_far at c left next done = (begun whole text so_far at c None left next).2 ∙ ends_ok so_far c.fault done
+at_end whole text so_far at c left next done = (begun whole text so_far at c None left next).2 ∙ (grind (arith, append-nil))
 
 pub at_fault : (whole : Result (List Located) DdlFault) (text : List ℕ) (so_far : List Located) (at : ℕ) (c : Collected) (error : ReadStmtsError) → IsLeft whole text so_far at → IsNext text at c None → Fails error (no_more c.fault) → Fails error whole
-at_fault whole text so_far at c error left next failed = rw (begun whole text so_far at c None left next).2 (ends_fault so_far c.fault error failed)
+at_fault whole text so_far at c error left next failed = rw (begun whole text so_far at c None left next).2 (grind arith)
 
 -- ---- statements
 
@@ -69,14 +59,11 @@ said n text so_far start read = behind so_far (read >>= λ w. statements_within 
 abbrev pub parsed : List ℕ → Collected → Result Whole DdlFault
 parsed text c = whole_of text c.end (statement_of (length text) (lexemes text c.pieces) c.fault)
 
-one_more : (so_far : List Located) (s : Option Stmt) (start end : ℕ) (read : Result (List Located) DdlFault) → behind so_far (read >>= λ more. Ok (listed s start end more)) ≡ behind (so_far ++ listed s start end []) read
-one_more so_far s start end read = grind (arith, append-nil, append_assoc)
-
 pub at_statement : (answer : Result (List Located) DdlFault) (text : List ℕ) (so_far : List Located) (at : ℕ) (c : Collected) (start : ℕ) (s : Option Stmt) (end : ℕ) → IsLeft answer text so_far at → IsNext text at c (Some start) → parsed text c ≡ Ok (whole s end) → at < end → end ≤ length text
     → IsLeft answer text (so_far ++ listed s start end []) end
 at_statement answer text so_far at c start s end left next read past high =
     let o = begun answer text so_far at c (Some start) left next in
-    record { fuel = o.0; enough = omega (arith, o.1); same = o.2 ∙ ap (said o.0 text so_far start) read ∙ one_more so_far s start end (statements_within o.0 text end) }
+    record { fuel = o.0; enough = omega (arith, o.1); same = o.2 ∙ ap (said o.0 text so_far start) read ∙ (grind (arith, append-nil, append_assoc)) }
 
 pub at_bad_statement : (answer : Result (List Located) DdlFault) (text : List ℕ) (so_far : List Located) (at : ℕ) (c : Collected) (start : ℕ) (error : ReadStmtsError) → IsLeft answer text so_far at → IsNext text at c (Some start) → Fails error (parsed text c) → Fails error answer
 at_bad_statement answer text so_far at c start errors.Memory left next failed = tt
@@ -94,20 +81,13 @@ pub at_line : (answer : Result (List Located) DdlFault) (text : List ℕ) (so_fa
     → IsLeft answer text (so_far ++ listed s t.start t.end []) t.end
 at_line answer text so_far at t s left line read past high =
     let o = opened answer text so_far at left in
-    record { fuel = o.0; enough = omega (arith, o.1); same = o.2 ∙ ap (turn o.0 text so_far at) line ∙ ap (said_line o.0 text so_far t) read ∙ one_more so_far s t.start t.end (statements_within o.0 text t.end) }
+    record { fuel = o.0; enough = omega (arith, o.1); same = o.2 ∙ ap (turn o.0 text so_far at) line ∙ ap (said_line o.0 text so_far t) read ∙ (grind (arith, append-nil, append_assoc)) }
 
 pub at_bad_line : (answer : Result (List Located) DdlFault) (text : List ℕ) (so_far : List Located) (at : ℕ) (t : Token) (error : ReadStmtsError) → IsLeft answer text so_far at → line_at text at ≡ Some t → Fails error (line_parsed text t) → Fails error answer
 at_bad_line answer text so_far at t errors.Memory left line failed = tt
-at_bad_line answer text so_far at t (errors.Fault fault) left line failed =
-    let o = opened answer text so_far at left in
-    o.2 ∙ ap (turn o.0 text so_far at) line ∙ ap (said_line o.0 text so_far t) failed
+at_bad_line answer text so_far at t (errors.Fault fault) left line failed = let o = opened answer text so_far at left in o.2 ∙ ap (turn o.0 text so_far at) line ∙ ap (said_line o.0 text so_far t) failed
 
 -- ---- a token that begins no statement
-
-refused : (gap : List ℕ) (kind : TokenKind) (word : List ℕ) (start : ℕ) (ts : List Lexeme) → begins_statement kind word ≡ false
-    → statement.read (record { gap = gap; kind = kind; word = word; start = start } ∷ ts) ≡ Err (record { long = false; rest = record { gap = gap; kind = kind; word = word; start = start } ∷ ts })
-unfolding statement command begins_statement is_sign is_word
-refused gap kind word start ts e = grind arith
 
 strayed : (text : List ℕ) (r : Result (Option Token) LexFault) (start : ℕ) → stray_in text r ≡ Some start → (t : Token) × (r ≡ Ok (Some t)) × (begins_statement t.kind (spelling text t) ≡ false) × (t.start ≡ start)
 strayed text r start e = grind arith
@@ -119,22 +99,16 @@ collected_by_it text at t e =
     let fuel : length text + 1 ≡ suc (length text) = omega arith in
     (_, ap (λ n. (collected_within n text at).pieces) fuel ∙ ap (λ r. (collected_by (collected_within (length text) text) at r).pieces) e)
 
-abbrev fails_at : ℕ → Result (Option Stmt) DdlFault
-fails_at k = Err (Unknown k)
-
 pub at_stray : (answer : Result (List Located) DdlFault) (text : List ℕ) (so_far : List Located) (at start : ℕ) → IsLeft answer text so_far at → line_at text at ≡ None → stray text at ≡ Some start → answer ≡ Err (Unknown start)
-unfolding stray statement_of
+unfolding stray statement_of statement command begins_statement is_sign is_word
 at_stray answer text so_far at start left no_line e =
     let s = strayed text (next_token_of text at) start e in
     let c = collected text at in
     let p = collected_by_it text at s.0 s.1 in
-    let piece : Piece = record { from = at; token = s.0 } in
-    let l = lexeme_of text piece in
     let first : first_start c.pieces ≡ Some start = ap first_start p.1 ∙ ap (λ (k : ℕ). Some k) s.3 in
-    let read : statement.read (lexemes text c.pieces) ≡ Err (record { long = false; rest = l ∷ lexemes text p.0 }) =
-    ap (λ (ps : List Piece). statement.read (lexemes text ps)) p.1 ∙ refused l.gap l.kind l.word l.start (lexemes text p.0) s.2 in
-    let place : statement_of (length text) (lexemes text c.pieces) c.fault ≡ Err (Unknown start) =
-    ap (λ (r : Reading (Option Stmt)). told (length text) c.fault (value_of r)) read ∙ ap fails_at s.3 in
+    let read : statement.read (lexemes text c.pieces) ≡ Err (record { long = false; rest = (lexeme_of text (record { from = at; token = s.0 })) ∷ lexemes text p.0 }) =
+    ap (λ (ps : List Piece). statement.read (lexemes text ps)) p.1 ∙ (grind arith) in
+    let place : statement_of (length text) (lexemes text c.pieces) c.fault ≡ Err (Unknown start) = ap (λ (r : Reading (Option Stmt)). told (length text) c.fault (value_of r)) read ∙ ap (λ k. Err (Unknown k)) s.3 in
     at_bad_statement answer text so_far at c start (errors.Fault (Unknown start)) left (record { no_line = no_line; tokens = refl; first = first }) (ap (whole_of text c.end) place)
 
 pub some_pieces : (ps : List Piece) (start : ℕ) → first_start ps ≡ Some start → 0 < length ps

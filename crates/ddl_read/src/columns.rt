@@ -4,19 +4,17 @@ ghost use Rattle.ddl_parts.specs.Lexemes.{is_sign};
 ghost use Rattle.ddl_parts.specs.Leaves.{name};
 ghost use Rattle.ddl_parts.specs.Lists.{comma};
 ghost use Rattle.ddl_parts.specs.Parts.{◌▸◌};
-ghost use Rattle.ddl_parts.specs.Pieces.{GivesPart, GivesPlace};
+ghost use Rattle.ddl_parts.specs.Pieces.{GivesPart};
 ghost use Rattle.ddl_read.specs.Columns.{further, columns};
 
 use copy_text::Name;
-use ddl_parts::{Parsed, Pieces};
+use ddl_parts::{Parsed, Pieces, read};
 use std::alloc::Global;
 
-/// A comma and a name.
 fn next_name(alloc: Global, pieces: &Pieces<'_>, at: usize) -> Parsed<Name>
     ensures { GivesPart pieces.now (λ n. n) result ((comma ▸ name).read (drop at pieces.now)) }
 {
-    let at = pieces.sign(at, b',')?;
-    pieces.name(alloc, at)
+    read!(alloc, pieces, at; , -> .name)
 }
 
 /// Names behind the first, each with its comma.

@@ -8,7 +8,7 @@ ghost use Rattle.ddl_parts.specs.Pieces.{GivesPart, GivesRun, ended};
 ghost use Rattle.ddl_read.specs.Rests.{only_if, either, action_first, step_first, long_first, rest_done, resting, key_rest, begins_foreign, foreign_rest};
 
 use copy_text::Text;
-use ddl_parts::{Halt, Parsed, Pieces, ReadError};
+use ddl_parts::{Halt, Parsed, Pieces, ReadError, by_word};
 use std::alloc::{AllocError, Global};
 
 /// Where reading what follows the columns of a key, or those of a foreign key's parents, stands.
@@ -52,168 +52,40 @@ pub enum RestSpot {
     Deleted,
 }
 
-/// The spot behind a token that goes on, or None.
-fn only_if(goes: bool, spot: RestSpot) -> Option<RestSpot>
-    ensures { result ≡ only_if goes spot }
-{
-    if goes { Some(spot) } else { None }
-}
-
-/// The spot behind a key word, or None where it doesn't stand at the place.
-fn behind(pieces: &Pieces<'_>, at: usize, key: &str, spot: RestSpot) -> Option<RestSpot>
-    ensures { result ≡ only_if (starts (is_word key.now) (drop at pieces.now)) spot }
-{
-    only_if(pieces.is_word(at, key), spot)
-}
-
-/// The spot behind one of two key words.
-fn behind_either(
-    pieces: &Pieces<'_>,
-    at: usize,
-    key: &str,
-    spot: RestSpot,
-    other: &str,
-    other_spot: RestSpot,
-) -> Option<RestSpot>
-    ensures { result ≡ either (starts (is_word key.now) (drop at pieces.now)) spot (starts (is_word other.now) (drop at pieces.now)) other_spot }
-{
-    if pieces.is_word(at, key) {
-        return Some(spot);
-    }
-    only_if(pieces.is_word(at, other), other_spot)
-}
-
-/// The spot behind the first word of an action: `by_no` behind NO, `by_set` behind SET, `done` behind an action of one word.
-fn behind_action(
-    pieces: &Pieces<'_>,
-    at: usize,
-    by_no: RestSpot,
-    by_set: RestSpot,
-    done: RestSpot,
-) -> Option<RestSpot>
-    ensures { result ≡ action_first by_no by_set done (drop at pieces.now) }
-{
-    if pieces.is_word(at, "no") {
-        return Some(by_no);
-    }
-    if pieces.is_word(at, "set") {
-        return Some(by_set);
-    }
-    only_if(
-        pieces.is_word(at, "cascade") || pieces.is_word(at, "restrict"),
-        done,
-    )
-}
-
-/// The spot behind NULL or DEFAULT.
-fn behind_set(pieces: &Pieces<'_>, at: usize, spot: RestSpot) -> Option<RestSpot>
-    ensures { result ≡ only_if (starts (is_word (codes "null")) (drop at pieces.now) || starts (is_word (codes "default")) (drop at pieces.now)) spot }
-{
-    only_if(
-        pieces.is_word(at, "null") || pieces.is_word(at, "default"),
-        spot,
-    )
-}
-
-/// The spot behind an opening bracket or DEFERRABLE.
-fn behind_chosen(pieces: &Pieces<'_>, at: usize) -> Option<RestSpot>
-    ensures { result ≡ either (starts (is_sign 40) (drop at pieces.now)) Opened (starts (is_word (codes "deferrable")) (drop at pieces.now)) Deferrable }
-{
-    if pieces.is_sign(at, b'(') {
-        return Some(RestSpot::Opened);
-    }
-    only_if(pieces.is_word(at, "deferrable"), RestSpot::Deferrable)
-}
-
-/// The spot behind a comma or a closing bracket.
-fn behind_name(pieces: &Pieces<'_>, at: usize) -> Option<RestSpot>
-    ensures { result ≡ either (starts (is_sign 44) (drop at pieces.now)) Opened (starts (is_sign 41) (drop at pieces.now)) Deleted }
-{
-    if pieces.is_sign(at, b',') {
-        return Some(RestSpot::Opened);
-    }
-    only_if(pieces.is_sign(at, b')'), RestSpot::Deleted)
-}
-
 /// The spot behind the token at a place, where no name is due: None where nothing goes on there.
 #[tactic(auto, unfolding(crate::specs::Rests::step_first))]
 fn word_step(pieces: &Pieces<'_>, at: usize, spot: RestSpot) -> Option<RestSpot>
     requires { spot ≢ Opened }
     ensures { result ≡ step_first spot (drop at pieces.now) }
 {
-    match spot {
-        RestSpot::Begin | RestSpot::Deleted => {
-            behind(pieces, at, "deferrable", RestSpot::Deferrable)
-        }
-        RestSpot::Deferrable => behind(pieces, at, "initially", RestSpot::Initially),
-        RestSpot::Initially => behind(pieces, at, "deferred", RestSpot::Ended),
-        RestSpot::Foreign => behind_either(
-            pieces,
-            at,
-            "on",
-            RestSpot::FirstOn,
-            "deferrable",
-            RestSpot::Deferrable,
-        ),
-        RestSpot::FirstOn => behind_either(
-            pieces,
-            at,
-            "update",
-            RestSpot::Update,
-            "delete",
-            RestSpot::Delete,
-        ),
-        RestSpot::Update => behind_action(
-            pieces,
-            at,
-            RestSpot::UpdateNo,
-            RestSpot::UpdateSet,
-            RestSpot::Updated,
-        ),
-        RestSpot::UpdateNo => behind(pieces, at, "action", RestSpot::Updated),
-        RestSpot::UpdateSet => behind_set(pieces, at, RestSpot::Updated),
-        RestSpot::Updated => behind_either(
-            pieces,
-            at,
-            "on",
-            RestSpot::SecondOn,
-            "deferrable",
-            RestSpot::Deferrable,
-        ),
-        RestSpot::SecondOn => behind(pieces, at, "delete", RestSpot::Delete),
-        RestSpot::Delete => behind_action(
-            pieces,
-            at,
-            RestSpot::DeleteNo,
-            RestSpot::DeleteSet,
-            RestSpot::Deleted,
-        ),
-        RestSpot::DeleteNo => behind(pieces, at, "action", RestSpot::Deleted),
-        RestSpot::DeleteSet => behind_set(pieces, at, RestSpot::Chosen),
-        RestSpot::Chosen => behind_chosen(pieces, at),
-        RestSpot::Named => behind_name(pieces, at),
-        RestSpot::Ended | RestSpot::Opened => None,
-    }
-}
+    use RestSpot::*;
 
-/// The spot behind a name in brackets. The error is where none stands: whether it is one but for its length.
-#[tactic(auto, unfolding(crate::specs::Rests::step_first, crate::specs::Rests::long_first))]
-fn name_step(
-    alloc: Global,
-    pieces: &Pieces<'_>,
-    at: usize,
-) -> Result<Result<RestSpot, bool>, AllocError>
-    ensures { IfOk result (λ next. next ≡ ok_or (step_first Opened (drop at pieces.now)) (long_first Opened (drop at pieces.now))) }
-{
-    match pieces.name(alloc, at) {
-        Ok(_) => Ok(Ok(RestSpot::Named)),
-        Err(ReadError::Halted(halt)) => Ok(Err(halt.long)),
-        Err(ReadError::Memory) => Err(AllocError),
+    match spot {
+        Begin | Deleted => by_word!(pieces, at; "deferrable" => Deferrable),
+        Deferrable => by_word!(pieces, at; "initially" => Initially),
+        Initially => by_word!(pieces, at; "deferred" => Ended),
+        Foreign => by_word!(pieces, at; "on" => FirstOn, "deferrable" => Deferrable),
+        FirstOn => by_word!(pieces, at; "update" => Update, "delete" => Delete),
+        Update =>
+            by_word!(pieces, at; "no" => UpdateNo, "set" => UpdateSet, "cascade" => Updated, "restrict" => Updated),
+        UpdateNo => by_word!(pieces, at; "action" => Updated),
+        UpdateSet => by_word!(pieces, at; "null" => Updated, "default" => Updated),
+        Updated => by_word!(pieces, at; "on" => SecondOn, "deferrable" => Deferrable),
+        SecondOn => by_word!(pieces, at; "delete" => Delete),
+        Delete =>
+            by_word!(pieces, at; "no" => DeleteNo, "set" => DeleteSet, "cascade" => Deleted, "restrict" => Deleted),
+        DeleteNo => by_word!(pieces, at; "action" => Deleted),
+        DeleteSet => by_word!(pieces, at; "null" => Chosen, "default" => Chosen),
+        Chosen if pieces.is_sign(at, b'(') => Some(Opened),
+        Chosen => by_word!(pieces, at; "deferrable" => Deferrable),
+        Named if pieces.is_sign(at, b',') => Some(Opened),
+        Named if pieces.is_sign(at, b')') => Some(Deleted),
+        Named | Ended | Opened => None,
     }
 }
 
 /// The spot behind the token at a place. The error is where nothing goes on: whether it is a name there but for its length.
-#[tactic(auto, unfolding(crate::specs::Rests::long_first))]
+#[tactic(auto, unfolding(crate::specs::Rests::step_first, crate::specs::Rests::long_first))]
 fn step(
     alloc: Global,
     pieces: &Pieces<'_>,
@@ -223,7 +95,11 @@ fn step(
     ensures { IfOk result (λ next. next ≡ ok_or (step_first spot (drop at pieces.now)) (long_first spot (drop at pieces.now))) }
 {
     match spot {
-        RestSpot::Opened => name_step(alloc, pieces, at),
+        RestSpot::Opened => match pieces.name(alloc, at) {
+            Ok(_) => Ok(Ok(RestSpot::Named)),
+            Err(ReadError::Halted(halt)) => Ok(Err(halt.long)),
+            Err(ReadError::Memory) => Err(AllocError),
+        },
         _ => Ok(word_step(pieces, at, spot).ok_or(false)),
     }
 }

@@ -1,15 +1,15 @@
 //! Readers of CREATE SEQUENCE, behind these words.
+#![tactic(auto, unfolding(crate::specs::SequenceGrammar::clause_first, crate::specs::SequenceGrammar::kind_first, crate::specs::SequenceGrammar::usual_first, crate::specs::SequenceGrammar::step_first))]
+
 ghost use Rattle.std.specs.Prelude.{◌≡◌, ◌<◌, ◌^◌, ◌+◌, length, pos, drop, IfSome};
-ghost use Rattle.std.specs.List.{list_all};
-ghost use Rattle.sql_lex.specs.Bytes.{is_digit};
 ghost use Rattle.ddl_parts.specs.Pieces.{GivesPart};
 ghost use Rattle.cat_model.specs.declared.constraint.SequenceKind.TheVariants.{BigInt};
 ghost use Rattle.ddl_numbers.specs.Numbers.{count_first, opposite};
-ghost use Rattle.ddl_read.specs.SequenceGrammar.{no_clauses, is_unsaid, with_number, reached, only_if, behind_no, numbered, clause_first, kind_first, lower, upper, usual_first, step_first, is_between, ended_by, sequence_clauses, given_or, bound_or, usual_start, sequence_of, create_sequence};
+ghost use Rattle.ddl_read.specs.SequenceGrammar.{is_unsaid, with_number, reached, only_if, behind_no, numbered, clause_first, kind_first, usual_first, step_first, is_between, ended_by, sequence_clauses, given_or, bound_or, usual_start, sequence_of, create_sequence};
 
 use cat_model::{QName, SequenceKind, Stmt};
 use ddl_numbers::{LIMIT, count_first, opposite};
-use ddl_parts::{Halt, Parsed, Pieces, ReadError, qualified_name};
+use ddl_parts::{Parsed, Pieces, halt, qualified_name, read};
 use ddl_write::{usual_max, usual_min};
 use std::alloc::Global;
 
@@ -106,31 +106,17 @@ fn is_unsaid(bound: Bound) -> bool
 }
 
 /// The clauses with a number that was given.
-fn with_number(field: Field, number: i64, clauses: Clauses) -> Clauses
+fn with_number(field: Field, number: i64, mut clauses: Clauses) -> Clauses
     ensures { result ≡ with_number field number clauses }
 {
     match field {
-        Field::First => Clauses {
-            start: Some(number),
-            ..clauses
-        },
-        Field::Step => Clauses {
-            step: Some(number),
-            ..clauses
-        },
-        Field::Least => Clauses {
-            least: Bound::Given(number),
-            ..clauses
-        },
-        Field::Greatest => Clauses {
-            greatest: Bound::Given(number),
-            ..clauses
-        },
-        Field::Cache => Clauses {
-            cache: Some(number),
-            ..clauses
-        },
+        Field::First => clauses.start = Some(number),
+        Field::Step => clauses.step = Some(number),
+        Field::Least => clauses.least = Bound::Given(number),
+        Field::Greatest => clauses.greatest = Bound::Given(number),
+        Field::Cache => clauses.cache = Some(number),
     }
+    clauses
 }
 
 /// What is reached behind NO, by whether nothing was said of each bound.
@@ -150,109 +136,61 @@ fn behind_no(clauses: Clauses, lower: bool, upper: bool) -> Option<Reached>
 }
 
 /// What is reached behind the first token of a clause.
-#[tactic(auto, unfolding(crate::specs::SequenceGrammar::clause_first))]
-fn clause_first(pieces: &Pieces<'_>, at: usize, clauses: Clauses) -> Option<Reached>
+fn clause_first(pieces: &Pieces<'_>, at: usize, mut clauses: Clauses) -> Option<Reached>
     ensures { result ≡ clause_first clauses (drop at pieces.now) }
 {
+    use ClauseSpot::{BehindAs, BehindIncrement, BehindStart, Between, Due};
+
     if pieces.is_word(at, "as") {
-        return only_if(clauses.kind.is_none(), clauses, ClauseSpot::BehindAs);
+        return only_if(clauses.kind.is_none(), clauses, BehindAs);
     }
     if pieces.is_word(at, "start") {
-        return only_if(clauses.start.is_none(), clauses, ClauseSpot::BehindStart);
+        return only_if(clauses.start.is_none(), clauses, BehindStart);
     }
     if pieces.is_word(at, "increment") {
-        return only_if(clauses.step.is_none(), clauses, ClauseSpot::BehindIncrement);
+        return only_if(clauses.step.is_none(), clauses, BehindIncrement);
     }
     if pieces.is_word(at, "no") {
-        return behind_no(
-            clauses,
-            is_unsaid(clauses.least),
-            is_unsaid(clauses.greatest),
-        );
+        let (lower, upper) = (is_unsaid(clauses.least), is_unsaid(clauses.greatest));
+        return behind_no(clauses, lower, upper);
     }
     if pieces.is_word(at, "minvalue") {
-        return only_if(
-            is_unsaid(clauses.least),
-            clauses,
-            ClauseSpot::Due(Field::Least),
-        );
+        return only_if(is_unsaid(clauses.least), clauses, Due(Field::Least));
     }
     if pieces.is_word(at, "maxvalue") {
-        return only_if(
-            is_unsaid(clauses.greatest),
-            clauses,
-            ClauseSpot::Due(Field::Greatest),
-        );
+        return only_if(is_unsaid(clauses.greatest), clauses, Due(Field::Greatest));
     }
     if pieces.is_word(at, "cache") {
-        return only_if(
-            clauses.cache.is_none(),
-            clauses,
-            ClauseSpot::Due(Field::Cache),
-        );
+        return only_if(clauses.cache.is_none(), clauses, Due(Field::Cache));
     }
     let goes = pieces.is_word(at, "cycle") && !clauses.cycle;
-    let clauses = Clauses {
-        cycle: true,
-        ..clauses
-    };
-    only_if(goes, clauses, ClauseSpot::Between)
+    clauses.cycle = true;
+    only_if(goes, clauses, Between)
 }
 
 /// What is reached behind a type.
-#[tactic(auto, unfolding(crate::specs::SequenceGrammar::kind_first))]
-fn kind_first(pieces: &Pieces<'_>, at: usize, clauses: Clauses) -> Option<Reached>
+fn kind_first(pieces: &Pieces<'_>, at: usize, mut clauses: Clauses) -> Option<Reached>
     ensures { result ≡ kind_first clauses (drop at pieces.now) }
 {
     if pieces.is_word(at, "smallint") {
-        let clauses = Clauses {
-            kind: Some(SequenceKind::SmallInt),
-            ..clauses
-        };
+        clauses.kind = Some(SequenceKind::SmallInt);
         return only_if(true, clauses, ClauseSpot::Between);
     }
-    let goes = pieces.is_word(at, "integer");
-    let clauses = Clauses {
-        kind: Some(SequenceKind::Integer),
-        ..clauses
-    };
-    only_if(goes, clauses, ClauseSpot::Between)
-}
-
-/// What is reached behind NO MINVALUE.
-fn lower(pieces: &Pieces<'_>, at: usize, clauses: Clauses) -> Option<Reached>
-    ensures { result ≡ lower clauses (drop at pieces.now) }
-{
-    let goes = pieces.is_word(at, "minvalue");
-    let clauses = Clauses {
-        least: Bound::Usual,
-        ..clauses
-    };
-    only_if(goes, clauses, ClauseSpot::Between)
-}
-
-/// What is reached behind NO MAXVALUE.
-fn upper(pieces: &Pieces<'_>, at: usize, clauses: Clauses) -> Option<Reached>
-    ensures { result ≡ upper clauses (drop at pieces.now) }
-{
-    let goes = pieces.is_word(at, "maxvalue");
-    let clauses = Clauses {
-        greatest: Bound::Usual,
-        ..clauses
-    };
-    only_if(goes, clauses, ClauseSpot::Between)
+    clauses.kind = Some(SequenceKind::Integer);
+    only_if(pieces.is_word(at, "integer"), clauses, ClauseSpot::Between)
 }
 
 /// What is reached behind a token that follows NO.
-#[tactic(auto, unfolding(crate::specs::SequenceGrammar::usual_first))]
-fn usual_first(pieces: &Pieces<'_>, at: usize, which: Open, clauses: Clauses) -> Option<Reached>
+fn usual_first(pieces: &Pieces<'_>, at: usize, which: Open, mut clauses: Clauses) -> Option<Reached>
     ensures { result ≡ usual_first which clauses (drop at pieces.now) }
 {
     match which {
-        Open::Both if pieces.is_word(at, "minvalue") => lower(pieces, at, clauses),
-        Open::Lower => lower(pieces, at, clauses),
-        Open::Both | Open::Upper => upper(pieces, at, clauses),
+        Open::Both | Open::Lower if pieces.is_word(at, "minvalue") => clauses.least = Bound::Usual,
+        Open::Both | Open::Upper if pieces.is_word(at, "maxvalue") => clauses.greatest =
+            Bound::Usual,
+        _ => return None,
     }
+    only_if(true, clauses, ClauseSpot::Between)
 }
 
 /// What is reached behind a number without a sign.
@@ -260,10 +198,8 @@ fn behind_number(pieces: &Pieces<'_>, at: usize, field: Field, clauses: Clauses)
     ensures { result ≡ numbered field pos clauses (count_first (2 ^ 63) (drop at pieces.now)) }
 {
     let number = count_first(pieces, at, LIMIT)? as i64;
-    Some(Reached {
-        clauses: with_number(field, number, clauses),
-        spot: ClauseSpot::Between,
-    })
+    let clauses = with_number(field, number, clauses);
+    only_if(true, clauses, ClauseSpot::Between)
 }
 
 /// What is reached behind a number with a minus sign.
@@ -271,58 +207,41 @@ fn behind_minus(pieces: &Pieces<'_>, at: usize, field: Field, clauses: Clauses) 
     ensures { result ≡ numbered field opposite clauses (count_first (2 ^ 63 + 1) (drop at pieces.now)) }
 {
     let number = opposite(count_first(pieces, at, LIMIT + 1)?);
-    Some(Reached {
-        clauses: with_number(field, number, clauses),
-        spot: ClauseSpot::Between,
-    })
+    let clauses = with_number(field, number, clauses);
+    only_if(true, clauses, ClauseSpot::Between)
 }
 
 /// What is reached behind the token at a place, or None where nothing goes on there.
-#[tactic(auto, unfolding(crate::specs::SequenceGrammar::step_first))]
 fn step(pieces: &Pieces<'_>, at: usize, so_far: Reached) -> Option<Reached>
     ensures { result ≡ step_first so_far (drop at pieces.now) }
 {
+    use ClauseSpot::{BehindAs, BehindIncrement, BehindMinus, BehindNo, BehindStart, Between, Due};
+
     let Reached { clauses, spot } = so_far;
     match spot {
-        ClauseSpot::Between => clause_first(pieces, at, clauses),
-        ClauseSpot::BehindAs => kind_first(pieces, at, clauses),
-        ClauseSpot::BehindStart => only_if(
-            pieces.is_word(at, "with"),
-            clauses,
-            ClauseSpot::Due(Field::First),
-        ),
-        ClauseSpot::BehindIncrement => only_if(
-            pieces.is_word(at, "by"),
-            clauses,
-            ClauseSpot::Due(Field::Step),
-        ),
-        ClauseSpot::BehindNo(which) => usual_first(pieces, at, which, clauses),
-        ClauseSpot::Due(field) if pieces.is_sign(at, b'-') => {
-            only_if(true, clauses, ClauseSpot::BehindMinus(field))
-        }
-        ClauseSpot::Due(field) => behind_number(pieces, at, field, clauses),
-        ClauseSpot::BehindMinus(field) => behind_minus(pieces, at, field, clauses),
+        Between => clause_first(pieces, at, clauses),
+        BehindAs => kind_first(pieces, at, clauses),
+        BehindStart => only_if(pieces.is_word(at, "with"), clauses, Due(Field::First)),
+        BehindIncrement => only_if(pieces.is_word(at, "by"), clauses, Due(Field::Step)),
+        BehindNo(which) => usual_first(pieces, at, which, clauses),
+        Due(field) if pieces.is_sign(at, b'-') => only_if(true, clauses, BehindMinus(field)),
+        Due(field) => behind_number(pieces, at, field, clauses),
+        BehindMinus(field) => behind_minus(pieces, at, field, clauses),
     }
-}
-
-/// Whether the clauses may end at a spot.
-fn is_between(spot: ClauseSpot) -> bool
-    ensures { result ≡ is_between spot }
-{
-    matches!(spot, ClauseSpot::Between)
 }
 
 /// The clauses, where they may end.
 fn clauses_end(so_far: Reached, at: usize) -> Parsed<Clauses>
     ensures { result ≡ ended_by so_far at (is_between so_far.spot) }
 {
-    if is_between(so_far.spot) {
-        return Ok((so_far.clauses, at));
+    match so_far.spot {
+        ClauseSpot::Between => Ok((so_far.clauses, at)),
+        _ => halt(at),
     }
-    Err(ReadError::Halted(Halt { long: false, at }))
 }
 
 /// The clauses at a place, and the place behind them.
+#[tactic(auto)]
 fn sequence_clauses(pieces: &Pieces<'_>, from: usize) -> Parsed<Clauses>
     ensures { GivesPart pieces.now (λ c. c) result (sequence_clauses.read (drop from pieces.now)) }
 {
@@ -371,16 +290,6 @@ fn bound_or(usual: i64, bound: Bound) -> i64
     }
 }
 
-/// The type that was given, or bigint.
-fn kind_or_bigint(given: Option<SequenceKind>) -> SequenceKind
-    ensures { result ≡ given_or BigInt given }
-{
-    match given {
-        Some(kind) => kind,
-        None => SequenceKind::BigInt,
-    }
-}
-
 /// Where a sequence starts.
 fn usual_start(step: i64, min: i64, max: i64) -> i64
     ensures { result ≡ usual_start step min max }
@@ -393,7 +302,7 @@ fn usual_start(step: i64, min: i64, max: i64) -> i64
 fn sequence_of(q: QName, clauses: Clauses) -> Stmt
     ensures { result ≡ sequence_of q clauses }
 {
-    let kind = kind_or_bigint(clauses.kind);
+    let kind = clauses.kind.unwrap_or(SequenceKind::BigInt);
     let step = given_or(1, clauses.step);
     let min = bound_or(usual_min(kind, step), clauses.least);
     let max = bound_or(usual_max(kind, step), clauses.greatest);
@@ -409,13 +318,9 @@ fn sequence_of(q: QName, clauses: Clauses) -> Stmt
     }
 }
 
-/// CREATE SEQUENCE.
 #[tactic(auto, unfolding(crate::specs::SequenceGrammar::create_sequence))]
 pub(crate) fn create_sequence(alloc: Global, pieces: &Pieces<'_>, at: usize) -> Parsed<Stmt>
     ensures { GivesPart pieces.now (λ s. s) result (create_sequence.read (drop at pieces.now)) }
 {
-    let (q, at) = qualified_name(alloc, pieces, at)?;
-    let (clauses, at) = sequence_clauses(pieces, at)?;
-    let at = pieces.sign(at, b';')?;
-    Ok((sequence_of(q, clauses), at))
+    read!(alloc, pieces, at; q: qualified_name clauses: sequence_clauses[pieces, at]; => sequence_of(q, clauses))
 }

@@ -4,13 +4,13 @@ ghost use Rattle.ddl_parts.specs.Lexemes.{starts, is_word};
 ghost use Rattle.ddl_parts.specs.Parts.{many};
 ghost use Rattle.ddl_parts.specs.Lists.{listed, listing};
 ghost use Rattle.ddl_parts.specs.Leaves.{literal, is_literal};
-ghost use Rattle.ddl_parts.specs.Pieces.{GivesPart, GivesPlace};
+ghost use Rattle.ddl_parts.specs.Pieces.{GivesPart};
 ghost use Rattle.ddl_read.specs.Clauses.{named_check};
-ghost use Rattle.ddl_read.specs.TableGrammar.{create_enum, null_first, default_first, attributes, typed, checking, create_domain, column_name, column, element, last_element, element_begins, element_at, columns_of, checks_of, spot_behind, table_elements, create_table};
+ghost use Rattle.ddl_read.specs.TableGrammar.{create_enum, attributes, checking, create_domain, element, element_begins, element_at, columns_of, checks_of, spot_behind, table_elements, create_table};
 
-use cat_model::{CheckDef, ColumnDef, Items, Stmt, TypeName};
-use copy_text::{Name, Text};
-use ddl_parts::{Halt, Parsed, Pieces, ReadError, qualified_name};
+use cat_model::{CheckDef, ColumnDef, Items, Stmt};
+use copy_text::Text;
+use ddl_parts::{Parsed, Pieces, qualified_name, read};
 use std::alloc::{AllocError, Global};
 
 /// Where a list of a table's columns and checks stands.
@@ -33,18 +33,11 @@ pub enum TableElement {
     Check(CheckDef),
 }
 
-/// A check with its name.
 #[tactic(auto, unfolding(crate::specs::Clauses::named_check))]
 pub(crate) fn named_check(alloc: Global, pieces: &Pieces<'_>, at: usize) -> Parsed<CheckDef>
     ensures { GivesPart pieces.now (λ c. c) result (named_check.read (drop at pieces.now)) }
 {
-    let at = pieces.word(at, "constraint")?;
-    let (name, at) = pieces.name(alloc, at)?;
-    let at = pieces.word(at, "check")?;
-    let at = pieces.sign(at, b'(')?;
-    let (text, at) = pieces.expression(alloc, at)?;
-    let at = pieces.sign(at, b')')?;
-    Ok((CheckDef { name, text }, at))
+    read!(alloc, pieces, at; "constraint" name: .name "check" (text: .expression) => CheckDef { name, text })
 }
 
 /// Whether a label stands at a place of a list.
@@ -63,8 +56,7 @@ fn label_at(alloc: Global, pieces: &Pieces<'_>, at: usize, behind: bool) -> Pars
     ensures { GivesPart pieces.now (λ t. t) result (((listing is_literal literal).item behind).read (drop at pieces.now)) }
 {
     if behind {
-        let at = pieces.sign(at, b',')?;
-        return pieces.literal(alloc, at);
+        return read!(alloc, pieces, at; , -> .literal);
     }
     pieces.literal(alloc, at)
 }
@@ -87,74 +79,22 @@ fn labels(alloc: Global, pieces: &Pieces<'_>, from: usize) -> Parsed<Vec<Text>>
     }
 }
 
-/// CREATE TYPE.
 #[tactic(auto, unfolding(crate::specs::TableGrammar::create_enum))]
 pub(crate) fn create_enum(alloc: Global, pieces: &Pieces<'_>, at: usize) -> Parsed<Stmt>
     ensures { GivesPart pieces.now (λ s. s) result (create_enum.read (drop at pieces.now)) }
 {
-    let (q, at) = qualified_name(alloc, pieces, at)?;
-    let at = pieces.word(at, "as")?;
-    let at = pieces.word(at, "enum")?;
-    let at = pieces.sign(at, b'(')?;
-    let (labels, at) = labels(alloc, pieces, at)?;
-    let at = pieces.sign(at, b')')?;
-    let at = pieces.sign(at, b';')?;
-    Ok((
-        Stmt::CreateEnum {
-            q,
-            labels: Items::new(labels),
-        },
-        at,
-    ))
+    read!(alloc, pieces, at; q: qualified_name "as" "enum" (labels: labels);
+        => Stmt::CreateEnum { q, labels: Items::new(labels) })
 }
 
-/// NOT NULL, behind which a default may follow.
-#[tactic(auto, unfolding(crate::specs::TableGrammar::null_first))]
-fn null_first(alloc: Global, pieces: &Pieces<'_>, at: usize) -> Parsed<(Option<Text>, bool)>
-    ensures { GivesPart pieces.now (λ x. (x.0, x.1)) result (null_first.read (drop at pieces.now)) }
-{
-    let at = pieces.word(at, "not")?;
-    let at = pieces.word(at, "null")?;
-    if pieces.is_word(at, "default") {
-        let at = pieces.word(at, "default")?;
-        let (text, at) = pieces.default_text(alloc, at)?;
-        return Ok(((Some(text), true), at));
-    }
-    Ok(((None, true), at))
-}
-
-/// A default, behind which NOT NULL may follow.
-#[tactic(auto, unfolding(crate::specs::TableGrammar::default_first))]
-fn default_first(alloc: Global, pieces: &Pieces<'_>, at: usize) -> Parsed<(Option<Text>, bool)>
-    ensures { GivesPart pieces.now (λ x. (x.0, x.1)) result (default_first.read (drop at pieces.now)) }
-{
-    let at = pieces.word(at, "default")?;
-    let ((text, not_null), at) = pieces.default_and_null(alloc, at)?;
-    Ok(((Some(text), not_null), at))
-}
-
-/// A default and NOT NULL, in either order.
-#[tactic(auto, unfolding(crate::specs::TableGrammar::attributes))]
+#[tactic(auto, unfolding(crate::specs::TableGrammar::attributes, crate::specs::TableGrammar::null_first, crate::specs::TableGrammar::default_first))]
 fn attributes(alloc: Global, pieces: &Pieces<'_>, at: usize) -> Parsed<(Option<Text>, bool)>
     ensures { GivesPart pieces.now (λ x. (x.0, x.1)) result (attributes.read (drop at pieces.now)) }
 {
-    if pieces.is_word(at, "not") {
-        return null_first(alloc, pieces, at);
-    }
-    if pieces.is_word(at, "default") {
-        return default_first(alloc, pieces, at);
-    }
-    Ok(((None, false), at))
-}
-
-/// A type, its default and NOT NULL.
-#[tactic(auto, unfolding(crate::specs::TableGrammar::typed))]
-fn typed(alloc: Global, pieces: &Pieces<'_>, at: usize) -> Parsed<(TypeName, Option<Text>, bool)>
-    ensures { GivesPart pieces.now (λ x. (x.0, (x.1, x.2))) result (typed.read (drop at pieces.now)) }
-{
-    let (type_name, at) = pieces.type_name(alloc, at)?;
-    let ((default, not_null), at) = attributes(alloc, pieces, at)?;
-    Ok(((type_name, default, not_null), at))
+    read!(alloc, pieces, at;
+        if "not" { "null" if "default" { text: .default_text => (Some(text), true) } => (None, true) }
+        if "default" { (text, not_null): .default_and_null => (Some(text), not_null) }
+        => (None, false))
 }
 
 /// Checks one after another.
@@ -173,76 +113,23 @@ fn checks(alloc: Global, pieces: &Pieces<'_>, from: usize) -> Parsed<Vec<CheckDe
     }
 }
 
-/// CREATE DOMAIN.
-#[tactic(auto, unfolding(crate::specs::TableGrammar::create_domain))]
+#[tactic(auto, unfolding(crate::specs::TableGrammar::create_domain, crate::specs::TableGrammar::typed))]
 pub(crate) fn create_domain(alloc: Global, pieces: &Pieces<'_>, at: usize) -> Parsed<Stmt>
     ensures { GivesPart pieces.now (λ s. s) result (create_domain.read (drop at pieces.now)) }
 {
-    let (q, at) = qualified_name(alloc, pieces, at)?;
-    let at = pieces.word(at, "as")?;
-    let ((base, default, not_null), at) = typed(alloc, pieces, at)?;
-    let (checks, at) = checks(alloc, pieces, at)?;
-    let at = pieces.sign(at, b';')?;
-    Ok((
-        Stmt::CreateDomain {
-            q,
-            base,
-            not_null,
-            default,
-            checks: Items::new(checks),
-        },
-        at,
-    ))
+    read!(alloc, pieces, at;
+        q: qualified_name "as" base: .type_name (default, not_null): attributes checks: checks;
+        => Stmt::CreateDomain { q, base, not_null, default, checks: Items::new(checks) })
 }
 
-/// The name of a column, which isn't the bare word CONSTRAINT.
-#[tactic(auto, unfolding(crate::specs::TableGrammar::column_name_value))]
-fn column_name(alloc: Global, pieces: &Pieces<'_>, at: usize) -> Parsed<Name>
-    ensures { GivesPart pieces.now (λ n. n) result (column_name.read (drop at pieces.now)) }
-{
-    if pieces.is_word(at, "constraint") {
-        return Err(ReadError::Halted(Halt { long: false, at }));
-    }
-    pieces.name(alloc, at)
-}
-
-/// A column.
-#[tactic(auto, unfolding(crate::specs::TableGrammar::column))]
-fn column(alloc: Global, pieces: &Pieces<'_>, at: usize) -> Parsed<ColumnDef>
-    ensures { GivesPart pieces.now (λ c. c) result (column.read (drop at pieces.now)) }
-{
-    let (name, at) = column_name(alloc, pieces, at)?;
-    let ((type_name, default, not_null), at) = typed(alloc, pieces, at)?;
-    Ok((
-        ColumnDef {
-            name,
-            type_name,
-            default,
-            not_null,
-        },
-        at,
-    ))
-}
-
-/// A column or a check.
-#[tactic(auto, unfolding(crate::specs::TableGrammar::element, crate::specs::TableGrammar::last_element))]
+#[tactic(auto, unfolding(crate::specs::TableGrammar::element, crate::specs::TableGrammar::column, crate::specs::TableGrammar::column_name_value, crate::specs::TableGrammar::typed))]
 fn element(alloc: Global, pieces: &Pieces<'_>, at: usize) -> Parsed<TableElement>
     ensures { GivesPart pieces.now (λ e. e) result (element.read (drop at pieces.now)) }
 {
-    if pieces.is_word(at, "constraint") {
-        return last_element(alloc, pieces, at);
-    }
-    let (column, at) = column(alloc, pieces, at)?;
-    Ok((TableElement::Column(column), at))
-}
-
-/// A check, behind which no column stands.
-#[tactic(auto, unfolding(crate::specs::TableGrammar::last_element))]
-fn last_element(alloc: Global, pieces: &Pieces<'_>, at: usize) -> Parsed<TableElement>
-    ensures { GivesPart pieces.now (λ e. e) result (last_element.read (drop at pieces.now)) }
-{
-    let (check, at) = named_check(alloc, pieces, at)?;
-    Ok((TableElement::Check(check), at))
+    read!(alloc, pieces, at;
+        if at "constraint" { check: named_check => TableElement::Check(check) }
+        name: .name type_name: .type_name (default, not_null): attributes
+        => TableElement::Column(ColumnDef { name, type_name, default, not_null }))
 }
 
 /// Whether a column or a check stands at a place of their list.
@@ -256,19 +143,15 @@ fn begins_element(pieces: &Pieces<'_>, at: usize, spot: Spot) -> bool
 }
 
 /// A column or a check, with the comma before it where it isn't the first.
+#[tactic(auto, unfolding(crate::specs::TableGrammar::last_element))]
 fn element_at(alloc: Global, pieces: &Pieces<'_>, at: usize, spot: Spot) -> Parsed<TableElement>
     ensures { GivesPart pieces.now (λ e. e) result ((element_at spot).read (drop at pieces.now)) }
 {
     match spot {
         Spot::Opening => element(alloc, pieces, at),
-        Spot::BehindColumn => {
-            let at = pieces.sign(at, b',')?;
-            element(alloc, pieces, at)
-        }
-        Spot::BehindCheck => {
-            let at = pieces.sign(at, b',')?;
-            last_element(alloc, pieces, at)
-        }
+        Spot::BehindColumn => read!(alloc, pieces, at; , -> element),
+        Spot::BehindCheck =>
+            read!(alloc, pieces, at; , check: named_check => TableElement::Check(check)),
     }
 }
 
@@ -316,22 +199,10 @@ fn table_elements(
     }
 }
 
-/// CREATE TABLE.
 #[tactic(auto, unfolding(crate::specs::TableGrammar::create_table))]
 pub(crate) fn create_table(alloc: Global, pieces: &Pieces<'_>, at: usize) -> Parsed<Stmt>
     ensures { GivesPart pieces.now (λ s. s) result (create_table.read (drop at pieces.now)) }
 {
-    let (q, at) = qualified_name(alloc, pieces, at)?;
-    let at = pieces.sign(at, b'(')?;
-    let ((columns, checks), at) = table_elements(alloc, pieces, at)?;
-    let at = pieces.sign(at, b')')?;
-    let at = pieces.sign(at, b';')?;
-    Ok((
-        Stmt::CreateTable {
-            q,
-            columns: Items::new(columns),
-            checks: Items::new(checks),
-        },
-        at,
-    ))
+    read!(alloc, pieces, at; q: qualified_name ((columns, checks): table_elements);
+        => Stmt::CreateTable { q, columns: Items::new(columns), checks: Items::new(checks) })
 }

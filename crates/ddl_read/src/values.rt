@@ -6,7 +6,7 @@ ghost use Rattle.ddl_read.specs.ValueGrammar.{GivesPath, literal_path, truth, se
 
 use cat_model::{QName, Stmt};
 use ddl_numbers::whole_number;
-use ddl_parts::{Halt, Parsed, Pieces, ReadError, Run, collect, qualified_name};
+use ddl_parts::{Halt, Parsed, Pieces, ReadError, Run, collect, qualified_name, read};
 use std::alloc::Global;
 
 /// The path that all tokens of a text spell. Where they spell none, reading halts at the place that is given, and tells
@@ -38,31 +38,17 @@ fn literal_path(alloc: Global, pieces: &Pieces<'_>, at: usize) -> Parsed<QName>
     Ok((q, end))
 }
 
-/// TRUE or FALSE at a place, and the place behind it.
 #[tactic(auto, unfolding(crate::specs::ValueGrammar::truth))]
 fn truth(pieces: &Pieces<'_>, at: usize) -> Parsed<bool>
     ensures { GivesPart pieces.now (λ b. b) result (truth.read (drop at pieces.now)) }
 {
-    if pieces.is_word(at, "true") {
-        let at = pieces.word(at, "true")?;
-        return Ok((true, at));
-    }
-    let at = pieces.word(at, "false")?;
-    Ok((false, at))
+    read!(pieces, at; if "true" { => true } "false" => false)
 }
 
-/// SELECT pg_catalog.setval.
 #[tactic(auto, unfolding(crate::specs::ValueGrammar::set_value))]
 pub(crate) fn set_value(alloc: Global, pieces: &Pieces<'_>, at: usize) -> Parsed<Stmt>
     ensures { GivesPart pieces.now (λ s. s) result (set_value.read (drop at pieces.now)) }
 {
-    let at = pieces.sign(at, b'(')?;
-    let (q, at) = literal_path(alloc, pieces, at)?;
-    let at = pieces.sign(at, b',')?;
-    let (value, at) = whole_number(pieces, at)?;
-    let at = pieces.sign(at, b',')?;
-    let (called, at) = truth(pieces, at)?;
-    let at = pieces.sign(at, b')')?;
-    let at = pieces.sign(at, b';')?;
-    Ok((Stmt::SetVal { q, value, called }, at))
+    read!(alloc, pieces, at; (q: literal_path, value: whole_number[pieces, at], called: truth[pieces, at]);
+        => Stmt::SetVal { q, value, called })
 }

@@ -1,16 +1,12 @@
 -- The laws of a part whose value decides what stands behind it.
 use Rattle.ddl_rights.proofs.Common.{◌≡◌, Bool, false, List, ◌∷◌, ◌++◌, Ok, Err, refl, sym, ap, ◌∙◌, append_assoc, arith, Lexeme, starts, Part, Reading, ◌>>=◌, Lawful, Begins, Avoids, shortened, starts-append, Tells, lawful, told_on, starts_none, ◌thenby◌}
-use Rattle.ddl_parts.proofs.Lemmas.{told, named_by}
+use Rattle.ddl_parts.proofs.Lemmas.{told, told_stopped}
 
 -- what a value that is spelled decides has the laws, goes on with nothing further and isn't taken for more of the first
 pub record Decided {A B : Type 0} (p : Part A) (f : A → Part B) : Type 0 where
   pub laws : (v : A) (ts : List Lexeme) → p.Spells v ts → Lawful (f v)
   pub ends : (v : A) (t : Lexeme) → (f v).goes_on t ≡ false
   pub avoids : (v : A) (ts : List Lexeme) → p.Spells v ts → Avoids p.goes_on (f v)
-
--- read the first, and then what it decides
-decides : {A B : Type 0} (p : Part A) (f : A → Part B) (ts : List Lexeme) (v : A) (mid : List Lexeme) → p.read ts ≡ Ok (v, mid) → (p thenby f).read ts ≡ (f v).read mid
-decides p f ts v mid e = ap (λ r. r >>= λ x. (f x.0).read x.1) e
 
 again : {B : Type 0} (r : Reading B) → (r >>= λ x. Ok (x.0, x.1)) ≡ r
 again r = grind arith
@@ -20,28 +16,19 @@ tells p f d ts (Ok x) h =
     let q = f x.0 in
     rw (← again (q.read x.1))
     (told_on (λ y. y) ts x.0 x.1 (q.read x.1) h (told (d.laws x.0 h.front h.fits) x.1 (q.read x.1) refl) (λ y b s. (x.0, h.front, b, refl, h.fits, s))
-    (λ rest e. decides p f (h.front ++ rest) x.0 rest e ∙ sym (again (q.read rest))))
-tells p f d ts (Err s) h = let x = (d.laws h.fits.0 (h.front ++ h.fits.1) h.fits.2).example in record {
-  front = h.front;
-  parts = h.parts;
-  fits = (x.value, h.fits.1 ++ x.tokens, (h.fits.0, h.front ++ h.fits.1, x.tokens, sym (append_assoc h.front h.fits.1 x.tokens), h.fits.2, x.spells));
-  local = λ t behind is u like other. ap (λ r. r >>= λ x. (f x.0).read x.1) (h.local t behind is u like other);
-  named = λ e.
-      let n = h.named e in
-      let all = h.front ++ shortened n.token ∷ n.more in
-      let y = (d.laws n.value all n.spells).example in
-      named_by n y.value (n.more ++ y.tokens) (n.value, all, y.tokens, sym (append_assoc h.front (shortened n.token ∷ n.more) y.tokens), n.spells, y.spells);
-}
+    (λ rest e. ap (λ r. r >>= λ x'. (f x'.0).read x'.1) e ∙ sym (again (q.read rest))))
+tells p f d ts (Err s) h =
+    told_stopped ts s h (λ v a spells. let x = (d.laws v a spells).example in (x.value, x.tokens, (v, a, x.tokens, refl, spells, x.spells)))
+    (λ t behind is u like other e. ap (λ r. r >>= λ x. (f x.0).read x.1) e)
 
 only : {A B : Type 0} (p : Part A) (f : A → Part B) → Lawful p → Decided p f → (w : B) (front rest : List Lexeme) → (p thenby f).Spells w front → (p thenby f).read (front ++ rest) ≡ Ok (w, rest)
 only p f lp d w front rest spells =
     let v = spells.0 in
     let a = spells.1 in
     let b = spells.2 in
-    let regrouped : front ++ rest ≡ a ++ (b ++ rest) = ap (λ (x : List Lexeme). x ++ rest) spells.3 ∙ append_assoc a b rest in
     let free : starts (f v).goes_on rest ≡ false = starts_none (f v).goes_on (d.ends v) rest in
-    ap (p thenby f).read regrouped
-    ∙ decides p f (a ++ (b ++ rest)) v (b ++ rest) (lp.only v a (b ++ rest) spells.4 (d.avoids v a spells.4 w b rest spells.5 free))
+    ap (p thenby f).read (ap (λ (x : List Lexeme). x ++ rest) spells.3 ∙ append_assoc a b rest)
+    ∙ ap (λ r. r >>= λ x. (f x.0).read x.1) (lp.only v a (b ++ rest) spells.4 (d.avoids v a spells.4 w b rest spells.5 free))
     ∙ (d.laws v a spells.4).only w b rest spells.5 free
 
 pub thenby_laws : {A B : Type 0} (p : Part A) (f : A → Part B) → Lawful p → Decided p f → Lawful (p thenby f)
@@ -50,6 +37,3 @@ thenby_laws p f lp d =
     let x = (d.laws e.value e.tokens e.spells).example in
     lawful (λ ts. tells p f d ts (p.read ts) (told lp ts (p.read ts) refl)) (λ w front rest spells free. only p f lp d w front rest spells)
     (record { value = x.value; tokens = e.tokens ++ x.tokens; spells = (e.value, e.tokens, x.tokens, refl, e.spells, x.spells) })
-
-pub thenby_begins : {A B : Type 0} (test : Lexeme → Bool) (p : Part A) (f : A → Part B) → Begins test p → Begins test (p thenby f)
-thenby_begins test p f begins w ts spells = ap (starts test) spells.3 ∙ starts-append test spells.1 spells.2 (begins spells.0 spells.1 spells.4)

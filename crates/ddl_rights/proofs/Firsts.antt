@@ -5,15 +5,8 @@ use Rattle.ddl_rights.proofs.Common.{◌≡◌, ℕ, zero, suc, ◌+◌, ◌<◌
 abbrev pub TellsAlike : {A : Type 0} → (List Lexeme → Option A) → Type 0
 TellsAlike value = (t : Lexeme) → IsTooLong t → value (shortened t ∷ []) ≡ value (t ∷ [])
 
-never_long : {A : Type 0} (o : Option A) → told o ≡ Err true → ⊥
-never_long o e = grind arith
-
 pub by_first_laws : {A : Type 0} (value : List Lexeme → Option A) → TellsAlike value → (t : Lexeme) (v : A) → value (t ∷ []) ≡ Some v → Lawful (by_first value)
-by_first_laws value alike t v e =
-    one_laws (λ t. told (value (t ∷ []))) (record { long = λ x l. absurd (never_long (value (x ∷ [])) l); none = λ x long l. ap told (alike x long) ∙ l }) t v (ap told e)
-
-first_answered : {A : Type 0} (t : Lexeme) (ts : List Lexeme) (o : Option A) → first_by t ts (told o) ≡ answered o (t ∷ ts)
-first_answered t ts o = grind arith
+by_first_laws value alike t v e = one_laws (λ t. told (value (t ∷ []))) (record { long = λ x l. absurd (grind arith); none = λ x long l. ap told (alike x long) ∙ l }) t v (ap told e)
 
 -- where the value is that of the first token alone
 pub by_first_read : {A : Type 0} (value : List Lexeme → Option A) → value [] ≡ None → ((t : Lexeme) (ts : List Lexeme) → value (t ∷ ts) ≡ value (t ∷ [])) → (ts : List Lexeme) → (by_first value).read ts ≡ answered (value ts) ts
@@ -24,16 +17,6 @@ pub token_at : (ts : List Lexeme) (at : ℕ) → at < length ts → (t : Lexeme)
 token_at [] at low = absurd (omega arith)
 token_at (t ∷ ts) zero low = (t, refl)
 token_at (t ∷ ts) (suc at) low = let h = token_at ts at (omega arith) in (h.0, h.1 ∙ ap (λ (n : ℕ). h.0 ∷ drop n (t ∷ ts)) (let e : suc (at + 1) ≡ suc at + 1 = omega arith in e))
-
-pub none_left : (ts : List Lexeme) (at : ℕ) → length ts ≤ at → drop at ts ≡ []
-none_left [] zero low = refl
-none_left [] (suc at) low = refl
-none_left (t ∷ ts) zero low = absurd (omega arith)
-none_left (t ∷ ts) (suc at) low = none_left ts at (omega arith)
-
--- a name, and what else its token may stand for
-first_named : (t : Lexeme) (ts : List Lexeme) (o : Option Wanted) (r : Result (List ℕ) Bool) → first_by t ts (named_by o r) ≡ seen_at (λ n. (n, o)) (first_by t ts r)
-first_named t ts o r = grind arith
 
 pub first_read : (ts : List Lexeme) → first.read ts ≡ seen_at (λ n. (n, wanted_first ts)) (name.read ts)
 unfolding wanted_first right_first

@@ -31,9 +31,7 @@ right_there true x = x ∷ []
 right_there false x = []
 
 abbrev each : Rights → List (Bool × Right)
-each r =
-    (r.select, Select) ∷ (r.usage, Usage) ∷ (r.insert, Insert) ∷ (r.references, References) ∷ (r.delete, Delete)
-    ∷ (r.trigger, Trigger) ∷ (r.truncate, Truncate) ∷ (r.update, Update) ∷ (r.create, Create) ∷ []
+each r = (r.select, Select) ∷ (r.usage, Usage) ∷ (r.insert, Insert) ∷ (r.references, References) ∷ (r.delete, Delete) ∷ (r.trigger, Trigger) ∷ (r.truncate, Truncate) ∷ (r.update, Update) ∷ (r.create, Create) ∷ []
 
 abbrev those : List (Bool × Right) → List Right
 those xs = flat_map (λ (x : Bool × Right). right_there x.0 x.1) xs
@@ -99,48 +97,12 @@ words_are r = words_of (each r)
 
 -- ---- sets within others
 
-and_first : (a b : Bool) → (a && b) ≡ true → a ≡ true
-and_first a b e = (and_parts a b e).0
-
-and_second : (a b : Bool) → (a && b) ≡ true → b ≡ true
-and_second a b e = (and_parts a b e).1
-
-then_so : (a b : Bool) → (not a || b) ≡ true → a ≡ true → b ≡ true
-then_so a b h e = cc
-
-so_then : (a b : Bool) → (a ≡ true → b ≡ true) → (not a || b) ≡ true
-so_then a b f = grind arith
-
-pub within_has : (a b : Rights) (x : Right) → within a b ≡ true → has x a ≡ true → has x b ≡ true
-within_has a b x w e = grind (arith, and_first, and_second, then_so)
-
-pub has_within : (a b : Rights) → ((x : Right) → has x a ≡ true → has x b ≡ true) → within a b ≡ true
-has_within a b f =
-    rw (
-      so_then a.select b.select (f Select),
-      so_then a.usage b.usage (f Usage),
-      so_then a.insert b.insert (f Insert),
-      so_then a.references b.references (f References),
-      so_then a.delete b.delete (f Delete),
-      so_then a.trigger b.trigger (f Trigger),
-      so_then a.truncate b.truncate (f Truncate),
-      so_then a.update b.update (f Update),
-      so_then a.create b.create (f Create),
-    ) refl
-
-still_there : (x y : Right) (r : Rights) → has y r ≡ true → has y (with_right x r) ≡ true
-still_there x y r e = grind arith
-
 fewer_within : (k r : Rights) (x : Right) → within (with_right x r) k ≡ true → within r k ≡ true
-fewer_within k r x w = has_within r k (λ y e. within_has (with_right x r) k y w (still_there x y r e))
+fewer_within k r x e = grind (arith, and_parts)
 
 front_within : (k r : Rights) (xs : List Right) → within (all_of r xs) k ≡ true → within r k ≡ true
 front_within k r [] w = w
 front_within k r (x ∷ xs) w = fewer_within k r x (front_within k (with_right x r) xs w)
-
-pub kind_has_them : (k : Kind) (r : Rights) → within r (kind_rights k) ≡ true → some_kind_has r ≡ true
-unfolding some_kind_has
-kind_has_them k r w = grind arith
 
 -- each right of a list may stand behind those before it
 abbrev pub AllGo : Rights → List Right → Type 0
@@ -148,6 +110,8 @@ AllGo r [] = Unit {0}
 AllGo r (x ∷ xs) = (goes_with r x ≡ true) × AllGo (with_right x r) xs
 
 pub all_go : (k : Kind) (r : Rights) (xs : List Right) → within (all_of r xs) (kind_rights k) ≡ true → AllGo r xs
-unfolding goes_with
+unfolding goes_with some_kind_has
 all_go k r [] w = tt
-all_go k r (x ∷ xs) w = grind (arith, or_right, kind_has_them, front_within, (all_go k (with_right x r) xs w))
+all_go k r (x ∷ xs) w =
+    let kind_has_them : (k : Kind) (r : Rights) → within r (kind_rights k) ≡ true → some_kind_has r ≡ true = λ k r w. grind arith in
+    grind (arith, or_right, kind_has_them, front_within, (all_go k (with_right x r) xs w))

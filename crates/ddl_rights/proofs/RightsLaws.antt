@@ -18,28 +18,16 @@ right_word Truncate = codes "truncate"
 right_word Update = codes "update"
 right_word Create = codes "create"
 
-right_is : (x : Right) → right_first (a_word (right_word x) ∷ []) ≡ Some x
-unfolding right_first is_word is_keyword_of
-right_is x = grind arith
-
 abbrev pub kind_word : Kind → List ℕ
 kind_word Tables = codes "table"
 kind_word Sequences = codes "sequence"
 kind_word Schemas = codes "schema"
 kind_word Types = codes "type"
 
-kind_is : (k : Kind) → kind_first (a_word (kind_word k) ∷ []) ≡ Some k
-unfolding kind_first is_word is_keyword_of
-kind_is k = grind arith
-
 -- words are told alike
 pub right_same : (t : Lexeme) → IsTooLong t → right_first (shortened t ∷ []) ≡ right_first (t ∷ [])
 unfolding right_first
 right_same t long = simp (word_like t long)
-
-pub wanted_same : (t : Lexeme) → IsTooLong t → wanted_first (shortened t ∷ []) ≡ wanted_first (t ∷ [])
-unfolding wanted_first
-wanted_same t long = simp (word_like t long, right_same t long)
 
 kind_same : (t : Lexeme) → IsTooLong t → kind_first (shortened t ∷ []) ≡ kind_first (t ∷ [])
 unfolding kind_first
@@ -52,48 +40,21 @@ abbrev pub CanBeOn : Wanted → Type 0
 CanBeOn All = Unit {0}
 CanBeOn (These r) = some_kind_has r ≡ true
 
-pub one_has : (x : Right) → some_kind_has (only x) ≡ true
-unfolding some_kind_has
-one_has x = grind arith
-
 -- what holds of ALL and of one right alone holds of what begins a list
 pub wanted_is : (P : Wanted → Type 0) → P All → ((x : Right) → P (These (only x))) → (ts : List Lexeme) (w : Wanted) → wanted_first ts ≡ Some w → P w
 unfolding wanted_first
 wanted_is P all one ts w e = grind arith
 
 pub wanted_can : (ts : List Lexeme) (w : Wanted) → wanted_first ts ≡ Some w → CanBeOn w
-wanted_can = wanted_is CanBeOn tt one_has
-
-there : (x : Right) (r : Rights) → has x r ≡ true → with_right x r ≡ r
-there x r e = grind arith
-
-pub still_has : (r : Rights) (x : Right) → goes_with r x ≡ true → some_kind_has r ≡ true → some_kind_has (with_right x r) ≡ true
-unfolding goes_with
-still_has r x e can = grind arith
-
-pub joined : (r : Rights) (x : Right) (o : Option Right) → told (joining r o) ≡ Ok x → goes_with r x ≡ true
-joined r x o e = grind arith
+unfolding some_kind_has
+wanted_can = wanted_is CanBeOn tt (λ x. grind arith)
 
 all_have : (first r : Rights) (xs : List Right) (ts : List Lexeme) → Many (more_rights first) r xs ts → some_kind_has r ≡ true → some_kind_has (all_of r xs) ≡ true
+unfolding goes_with
 all_have first r _ _ (no_more _) can = can
-all_have first r _ _ (one_more _ x xs a b spells others) can =
-    let behind = spells.2.4 in
-    let same : x ≡ spells.0.1 = spells.1 in
-    let goes = subst (λ (z : Right). goes_with r z ≡ true) (sym same) (joined r spells.0.1 (right_first (behind.0 ∷ [])) behind.2) in
-    all_have first (with_right x r) xs b others (still_has r x goes can)
-
--- some kind has all the rights that a list spells
-pub rights_can : (r s : Rights) (ts : List Lexeme) → (rights_from r).Spells s ts → some_kind_has r ≡ true → some_kind_has s ≡ true
-unfolding rights_from
-rights_can r s ts spells can = ap some_kind_has spells.1 ∙ all_have r r spells.0 ts spells.2 can
+all_have first r _ _ (one_more _ x xs a b spells others) can = grind (arith, (all_have first (with_right x r) xs b others (grind arith)))
 
 -- ---- a list of rights
-
-implied : (b : Bool) → (not b || true) ≡ true
-implied b = grind arith
-
-table_has : (r : Rights) → r.usage ≡ false → r.create ≡ false → within r table_rights ≡ true
-table_has r e f = grind arith
 
 -- some right may stand behind others
 goes_on : (r : Rights) → (x : Right) × (goes_with r x ≡ true)
@@ -105,19 +66,17 @@ goes_on r = by r.usage r.create refl refl
     by false true e f = (Create, or_left r.create (some_kind_has (with_right Create r)) f)
     by false false e f =
         let s = with_right Select r in
-        (Select, or_right r.select (some_kind_has s) (or_left (within s table_rights) (within s sequence_rights || (within s schema_rights || within s type_rights)) (table_has s e f)))
+        (Select, or_right r.select (some_kind_has s) (or_left (within s table_rights) (within s sequence_rights || (within s schema_rights || within s type_rights)) (grind arith)))
 
 pub right_behind_laws : (r : Rights) → Lawful (right_behind r)
+unfolding right_first is_word is_keyword_of
 right_behind_laws r =
+    let right_is : (x : Right) → right_first (a_word (right_word x) ∷ []) ≡ Some x = λ x. grind arith in
     let h = goes_on r in
     by_first_laws (λ ts. joining r (right_first ts)) (λ t long. ap (joining r) (right_same t long)) (a_word (right_word h.0)) h.0 (ap (joining r) (right_is h.0) ∙ ap (λ (b : Bool). cond b (Some h.0) None) h.1)
 
 pub rights_apart : (r : Rights) → AreApart comma (more_rights r)
 rights_apart r = search (sign_laws, right_behind_laws, sign_agrees, lead_begins, arith)
-
-pub rights_from_laws : (r : Rights) → Lawful (rights_from r)
-unfolding rights_from
-rights_from_laws r = seen_laws (all_of r) (many comma (more_rights r)) (many_laws comma (more_rights r) (rights_apart r))
 
 -- ---- objects
 
@@ -133,7 +92,9 @@ kind_for : (w : Wanted) → CanBeOn w → (k : Kind) × (kind_has w k ≡ true)
 kind_for w can = grind (arith, kind_found)
 
 pub kind_with_laws : (w : Wanted) → CanBeOn w → Lawful (kind_with w)
+unfolding kind_first is_word is_keyword_of
 kind_with_laws w can =
+    let kind_is : (k : Kind) → kind_first (a_word (kind_word k) ∷ []) ≡ Some k = λ k. grind arith in
     let h = kind_for w can in
     by_first_laws (λ ts. having w (kind_first ts)) (λ t long. ap (having w) (kind_same t long)) (a_word (kind_word h.0)) h.0 (ap (having w) (kind_is h.0) ∙ ap (λ (b : Bool). cond b (Some h.0) None) h.1)
 
@@ -165,11 +126,13 @@ on_object_ends w t = refl
 pub rights_and_object_laws : (w : Wanted) → CanBeOn w → Lawful (rights_and_object w)
 unfolding rights_and_object rights_from
 rights_and_object_laws All can = on_object_laws All tt
-rights_and_object_laws (These r) can = thenby_laws (rights_from r) (λ s. on_object (These s)) (rights_from_laws r) (decided r can)
+rights_and_object_laws (These r) can =
+    let rights_from_laws : (r : Rights) → Lawful (rights_from r) = λ r. seen_laws (all_of r) (many comma (more_rights r)) (many_laws comma (more_rights r) (rights_apart r)) in
+    thenby_laws (rights_from r) (λ s. on_object (These s)) (rights_from_laws r) (decided r can)
   where
     decided : (r : Rights) → some_kind_has r ≡ true → Decided (rights_from r) (λ s. on_object (These s))
     decided r can = record {
-      laws = λ s ts spells. on_object_laws (These s) (rights_can r s ts spells can);
+      laws = λ s ts spells. on_object_laws (These s) (ap some_kind_has spells.1 ∙ all_have r r spells.0 ts spells.2 can);
       ends = λ s t. on_object_ends (These s) t;
       avoids = λ s ts spells. avoids_begun (is_word (codes "on")) comma (on_object (These s)) (on_object_begins (These s)) (word_no_sign (codes "on") 44);
     }
@@ -184,18 +147,9 @@ rights_and_object_ends (These r) t = refl
 abbrev pub goes_to_object : Lexeme → Bool
 goes_to_object t = comma t || is_word (codes "on") t
 
-comma_first : (ts : List Lexeme) → starts comma ts ≡ true → starts goes_to_object ts ≡ true
-comma_first ts e = starts_more comma goes_to_object (λ t f. or_left (comma t) (is_word (codes "on") t) f) ts e
-
-on_first : (ts : List Lexeme) → starts (is_word (codes "on")) ts ≡ true → starts goes_to_object ts ≡ true
-on_first ts e = starts_more (is_word (codes "on")) goes_to_object (λ t f. or_right (comma t) (is_word (codes "on") t) f) ts e
-
-list_first : (first r : Rights) (xs : List Right) (a b : List Lexeme) → Many (more_rights first) r xs a → starts (is_word (codes "on")) b ≡ true → starts goes_to_object (a ++ b) ≡ true
-list_first first r xs a b h e = grind arith
-
 pub rights_and_object_begins : (w : Wanted) → Begins goes_to_object (rights_and_object w)
 unfolding rights_and_object rights_from
-rights_and_object_begins w = grind (arith, on_first, on_object_begins, starts, list_first)
+rights_and_object_begins w = grind (arith, on_object_begins, starts, starts_more, or_right)
 
 pub to_no_object : Apart goes_to_object (is_word (codes "to"))
 to_no_object t e = both (comma t) (is_word (codes "on") t) (is_word (codes "to") t) (sign_no_word 44 (codes "to") t) (words_apart (codes "on") (codes "to") refl t) e
@@ -207,7 +161,7 @@ to_no_object t e = both (comma t) (is_word (codes "on") t) (is_word (codes "to")
 
 pub wanted_laws : Lawful wanted
 unfolding wanted_first is_word is_keyword_of
-wanted_laws = by_first_laws wanted_first wanted_same (a_word (codes "all")) All refl
+wanted_laws = by_first_laws wanted_first (λ t long. simp (word_like t long, right_same t long)) (a_word (codes "all")) All refl
 
 pub wanted_spelled : (w : Wanted) (ts : List Lexeme) → wanted.Spells w ts → CanBeOn w
 wanted_spelled w ts spells = grind (arith, told, wanted_can)

@@ -7,7 +7,7 @@ ghost use Rattle.ddl_rights.specs.RightsGrammar.{has, with_right, within, kind_r
 
 use cat_model::{Granted, Grantee, Rights};
 use copy_text::Name;
-use ddl_parts::{Halt, Parsed, Pieces, ReadError, qualified_name};
+use ddl_parts::{Halt, Parsed, Pieces, ReadError, by_word, qualified_name, read};
 use std::alloc::Global;
 
 /// A right on an object.
@@ -89,47 +89,21 @@ fn has(right: Right, rights: Rights) -> bool
 }
 
 /// The rights and one more.
-fn with_right(right: Right, rights: Rights) -> Rights
+fn with_right(right: Right, mut rights: Rights) -> Rights
     ensures { result ≡ with_right right rights }
 {
     match right {
-        Right::Select => Rights {
-            select: true,
-            ..rights
-        },
-        Right::Usage => Rights {
-            usage: true,
-            ..rights
-        },
-        Right::Insert => Rights {
-            insert: true,
-            ..rights
-        },
-        Right::References => Rights {
-            references: true,
-            ..rights
-        },
-        Right::Delete => Rights {
-            delete: true,
-            ..rights
-        },
-        Right::Trigger => Rights {
-            trigger: true,
-            ..rights
-        },
-        Right::Truncate => Rights {
-            truncate: true,
-            ..rights
-        },
-        Right::Update => Rights {
-            update: true,
-            ..rights
-        },
-        Right::Create => Rights {
-            create: true,
-            ..rights
-        },
+        Right::Select => rights.select = true,
+        Right::Usage => rights.usage = true,
+        Right::Insert => rights.insert = true,
+        Right::References => rights.references = true,
+        Right::Delete => rights.delete = true,
+        Right::Trigger => rights.trigger = true,
+        Right::Truncate => rights.truncate = true,
+        Right::Update => rights.update = true,
+        Right::Create => rights.create = true,
     }
+    rights
 }
 
 /// Whether the second holds where the first does.
@@ -214,34 +188,10 @@ fn goes_with(rights: Rights, right: Right) -> bool
 fn right_at(pieces: &Pieces<'_>, at: usize) -> Option<Right>
     ensures { result ≡ right_first (drop at pieces.now) }
 {
-    if pieces.is_word(at, "select") {
-        return Some(Right::Select);
-    }
-    if pieces.is_word(at, "usage") {
-        return Some(Right::Usage);
-    }
-    if pieces.is_word(at, "insert") {
-        return Some(Right::Insert);
-    }
-    if pieces.is_word(at, "references") {
-        return Some(Right::References);
-    }
-    if pieces.is_word(at, "delete") {
-        return Some(Right::Delete);
-    }
-    if pieces.is_word(at, "trigger") {
-        return Some(Right::Trigger);
-    }
-    if pieces.is_word(at, "truncate") {
-        return Some(Right::Truncate);
-    }
-    if pieces.is_word(at, "update") {
-        return Some(Right::Update);
-    }
-    if pieces.is_word(at, "create") {
-        return Some(Right::Create);
-    }
-    None
+    by_word!(pieces, at;
+        "select" => Right::Select, "usage" => Right::Usage, "insert" => Right::Insert,
+        "references" => Right::References, "delete" => Right::Delete, "trigger" => Right::Trigger,
+        "truncate" => Right::Truncate, "update" => Right::Update, "create" => Right::Create)
 }
 
 /// ALL, or the first right of a list, at a place.
@@ -291,7 +241,6 @@ fn right_behind(pieces: &Pieces<'_>, at: usize, rights: Rights) -> Parsed<Right>
     behind(pieces, at, joining(pieces, at, rights))
 }
 
-/// A comma, and a right that may stand behind others.
 fn one_more_right(pieces: &Pieces<'_>, at: usize, rights: Rights) -> Parsed<Right>
     ensures { GivesPart pieces.now (λ x. x) result (((more_rights rights).item rights).read (drop at pieces.now)) }
 {
@@ -320,19 +269,8 @@ fn rights_from(pieces: &Pieces<'_>, from: usize, first: Rights) -> Parsed<Rights
 fn kind_at(pieces: &Pieces<'_>, at: usize) -> Option<Kind>
     ensures { result ≡ kind_first (drop at pieces.now) }
 {
-    if pieces.is_word(at, "table") {
-        return Some(Kind::Tables);
-    }
-    if pieces.is_word(at, "sequence") {
-        return Some(Kind::Sequences);
-    }
-    if pieces.is_word(at, "schema") {
-        return Some(Kind::Schemas);
-    }
-    if pieces.is_word(at, "type") {
-        return Some(Kind::Types);
-    }
-    None
+    by_word!(pieces, at;
+        "table" => Kind::Tables, "sequence" => Kind::Sequences, "schema" => Kind::Schemas, "type" => Kind::Types)
 }
 
 /// Whether a kind of object has all these rights.
@@ -371,31 +309,17 @@ fn rights_on(wanted: Wanted, kind: Kind) -> Rights
     }
 }
 
-/// An object of a kind.
 fn object(alloc: Global, pieces: &Pieces<'_>, at: usize, kind: Kind) -> Parsed<Granted>
     ensures { GivesPart pieces.now (λ o. o) result ((object kind).read (drop at pieces.now)) }
 {
     match kind {
-        Kind::Tables => {
-            let (q, at) = qualified_name(alloc, pieces, at)?;
-            Ok((Granted::Table(q), at))
-        }
-        Kind::Sequences => {
-            let (q, at) = qualified_name(alloc, pieces, at)?;
-            Ok((Granted::Sequence(q), at))
-        }
-        Kind::Schemas => {
-            let (name, at) = pieces.name(alloc, at)?;
-            Ok((Granted::Schema(name), at))
-        }
-        Kind::Types => {
-            let (q, at) = qualified_name(alloc, pieces, at)?;
-            Ok((Granted::Type(q), at))
-        }
+        Kind::Tables => read!(alloc, pieces, at; q: qualified_name => Granted::Table(q)),
+        Kind::Sequences => read!(alloc, pieces, at; q: qualified_name => Granted::Sequence(q)),
+        Kind::Schemas => read!(alloc, pieces, at; name: .name => Granted::Schema(name)),
+        Kind::Types => read!(alloc, pieces, at; q: qualified_name => Granted::Type(q)),
     }
 }
 
-/// The object behind ON, and the rights on it.
 #[tactic(auto, unfolding(crate::specs::RightsGrammar::on_object))]
 fn on_object(
     alloc: Global,
@@ -405,10 +329,8 @@ fn on_object(
 ) -> Parsed<(Granted, Rights)>
     ensures { GivesPart pieces.now (λ x. (x.0, x.1)) result ((on_object wanted).read (drop at pieces.now)) }
 {
-    let at = pieces.word(at, "on")?;
-    let (kind, at) = kind_with(pieces, at, wanted)?;
-    let (object, at) = object(alloc, pieces, at, kind)?;
-    Ok(((object, rights_on(wanted, kind)), at))
+    read!(alloc, pieces, at; "on" kind: kind_with[pieces, at, wanted] object: object[alloc, pieces, at, kind]
+        => (object, rights_on(wanted, kind)))
 }
 
 /// The rest of a list of rights, the object behind it, and the rights on it.
@@ -423,10 +345,8 @@ pub(crate) fn rights_and_object(
 {
     match wanted {
         Wanted::All => on_object(alloc, pieces, at, wanted),
-        Wanted::These(first) => {
-            let (rights, at) = rights_from(pieces, at, first)?;
-            on_object(alloc, pieces, at, Wanted::These(rights))
-        }
+        Wanted::These(first) => read!(alloc, pieces, at;
+            rights: rights_from[pieces, at, first] -> on_object[alloc, pieces, at, Wanted::These(rights)]),
     }
 }
 
@@ -441,10 +361,8 @@ fn grantee_of(name: Name) -> Grantee
     Grantee::Role(name)
 }
 
-/// A grantee.
 pub(crate) fn grantee(alloc: Global, pieces: &Pieces<'_>, at: usize) -> Parsed<Grantee>
     ensures { GivesPart pieces.now (λ g. g) result (grantee.read (drop at pieces.now)) }
 {
-    let (name, at) = pieces.name(alloc, at)?;
-    Ok((grantee_of(name), at))
+    read!(alloc, pieces, at; name: .name => grantee_of(name))
 }

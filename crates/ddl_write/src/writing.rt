@@ -147,7 +147,6 @@ fn put_stmt(stmt: &Stmt, out: &mut Vec<u8>) -> Written
     }
 }
 
-/// CREATE TYPE .. AS ENUM.
 #[tactic(auto, unfolding(crate::specs::Tables::enum_text))]
 fn put_enum<'a>(q: &'a QName, labels: &'a [Text], out: &mut Vec<u8>) -> Written
     ensures ok { OnOk result (out.new.items ≡ out.old.items ++ enum_text q.now labels.now) }
@@ -156,7 +155,6 @@ fn put_enum<'a>(q: &'a QName, labels: &'a [Text], out: &mut Vec<u8>) -> Written
     put!(out; Words(b"CREATE TYPE "), Path(q), Words(b" AS ENUM ("), Labels(labels), Words(b");\n"))
 }
 
-/// CREATE DOMAIN.
 #[tactic(auto, unfolding(crate::specs::Tables::domain_text))]
 fn put_domain<'a>(
     q: &'a QName,
@@ -173,7 +171,6 @@ fn put_domain<'a>(
         OnlyIf(not_null, b" NOT NULL"), Default(default), Checks(b"\n\t", checks), Words(b";\n"))
 }
 
-/// CREATE TABLE.
 #[tactic(auto, unfolding(crate::specs::Tables::table_text))]
 fn put_table(q: &QName, columns: &[ColumnDef], checks: &[CheckDef], out: &mut Vec<u8>) -> Written
     ensures ok { OnOk result (out.new.items ≡ out.old.items ++ table_text q.now columns.now checks.now) }
@@ -185,7 +182,6 @@ fn put_table(q: &QName, columns: &[ColumnDef], checks: &[CheckDef], out: &mut Ve
     Ok(())
 }
 
-/// CREATE SEQUENCE.
 #[tactic(auto, unfolding(crate::specs::Sequences::sequence_text))]
 fn put_sequence<'a>(
     q: &'a QName,
@@ -207,7 +203,6 @@ fn put_sequence<'a>(
         Words(b"\n    CACHE "), Number(cache), OnlyIf(cycle, b"\n    CYCLE"), Words(b";\n"))
 }
 
-/// ALTER SEQUENCE .. OWNED BY.
 #[tactic(auto, unfolding(crate::specs::Sequences::owned_by_text))]
 fn put_owned_by<'a>(q: &'a QName, table: &'a QName, column: &'a Name, out: &mut Vec<u8>) -> Written
     ensures ok { OnOk result (out.new.items ≡ out.old.items ++ owned_by_text q.now table.now column.now) }
@@ -217,7 +212,6 @@ fn put_owned_by<'a>(q: &'a QName, table: &'a QName, column: &'a Name, out: &mut 
         Name(column), Words(b";\n"))
 }
 
-/// SELECT pg_catalog.setval.
 #[tactic(auto, unfolding(crate::specs::Sequences::value_text))]
 fn put_value<'a>(q: &'a QName, value: &'a i64, called: bool, out: &mut Vec<u8>) -> Written
     ensures ok { OnOk result (out.new.items ≡ out.old.items ++ value_text q.now value.now called) }
@@ -236,7 +230,6 @@ fn put_view<'a>(words: &'a [u8], q: &'a QName, body: &'a Text, out: &mut Vec<u8>
     put!(out; Words(words), Path(q), Words(b" AS\n"), Body(body), Words(b";\n"))
 }
 
-/// ALTER TABLE .. ALTER COLUMN .. SET DEFAULT.
 #[tactic(auto, unfolding(crate::specs::Views::default_text))]
 fn put_default<'a>(q: &'a QName, column: &'a Name, text: &'a Text, out: &mut Vec<u8>) -> Written
     ensures ok { OnOk result (out.new.items ≡ out.old.items ++ default_text q.now column.now text.now) }
@@ -263,7 +256,6 @@ fn put_key<'a>(
         Words(words), Names(columns), Rest(rest), Words(b";\n"))
 }
 
-/// ADD CONSTRAINT .. FOREIGN KEY.
 #[tactic(auto, unfolding(crate::specs::Keys::foreign_text))]
 fn put_foreign<'a>(
     q: &'a QName,
@@ -282,7 +274,6 @@ fn put_foreign<'a>(
         Names(parent_columns.as_slice()), Rest(rest), Words(b";\n"))
 }
 
-/// ADD CONSTRAINT .. CHECK.
 #[tactic(auto, unfolding(crate::specs::Keys::added_check_text))]
 fn put_added_check<'a>(q: &'a QName, name: &'a Name, text: &'a Text, out: &mut Vec<u8>) -> Written
     ensures ok { OnOk result (out.new.items ≡ out.old.items ++ added_check_text q.now name.now text.now) }
@@ -323,7 +314,6 @@ fn put_copy<'a>(q: &'a QName, columns: &'a [Name], rows: &'a [u8], out: &mut Vec
     }
 }
 
-/// SET.
 #[tactic(auto, unfolding(crate::specs::Spelling::set_text))]
 fn put_set<'a>(name: &'a Name, value: &'a Text, out: &mut Vec<u8>) -> Written
     ensures ok { OnOk result (out.new.items ≡ out.old.items ++ set_text name.now value.now) }
@@ -332,7 +322,6 @@ fn put_set<'a>(name: &'a Name, value: &'a Text, out: &mut Vec<u8>) -> Written
     put!(out; Words(b"SET "), Name(name), Words(b" = "), Text(value), Words(b";\n"))
 }
 
-/// ALTER DOMAIN .. ADD.
 #[tactic(auto, unfolding(crate::specs::Spelling::domain_check_text))]
 fn put_domain_check<'a>(q: &'a QName, name: &'a Name, text: &'a Text, out: &mut Vec<u8>) -> Written
     ensures ok { OnOk result (out.new.items ≡ out.old.items ++ domain_check_text q.now name.now text.now) }
@@ -341,7 +330,6 @@ fn put_domain_check<'a>(q: &'a QName, name: &'a Name, text: &'a Text, out: &mut 
     put!(out; Words(b"ALTER DOMAIN "), Path(q), Words(b"\n    ADD "), Check(name, text), Words(b";\n"))
 }
 
-/// GRANT.
 #[tactic(auto, unfolding(crate::specs::RightsText::grant_text))]
 fn put_grant<'a>(
     object: &'a Granted,
@@ -357,7 +345,6 @@ fn put_grant<'a>(
         OnlyIf(option, b" WITH GRANT OPTION"), Words(b";\n"))
 }
 
-/// REVOKE.
 #[tactic(auto, unfolding(crate::specs::RightsText::revoke_text))]
 fn put_revoke<'a>(
     object: &'a Granted,
@@ -372,7 +359,6 @@ fn put_revoke<'a>(
         Words(b";\n"))
 }
 
-/// OWNER TO.
 #[tactic(auto, unfolding(crate::specs::Spelling::owner_text))]
 fn put_owner<'a>(object: &'a Owned, role: &'a Name, out: &mut Vec<u8>) -> Written
     ensures ok { OnOk result (out.new.items ≡ out.old.items ++ owner_text object.now role.now) }
@@ -381,7 +367,6 @@ fn put_owner<'a>(object: &'a Owned, role: &'a Name, out: &mut Vec<u8>) -> Writte
     put!(out; Words(b"ALTER "), Owned(object), Words(b" OWNER TO "), Name(role), Words(b";\n"))
 }
 
-/// ALTER ROLE.
 #[tactic(auto, unfolding(crate::specs::Roles::changes_text))]
 fn put_changes<'a>(name: &'a Name, changes: &'a RoleChanges, out: &mut Vec<u8>) -> Written
     ensures ok { OnOk result (out.new.items ≡ out.old.items ++ changes_text name.now changes.now) }
@@ -396,7 +381,6 @@ fn put_changes<'a>(name: &'a Name, changes: &'a RoleChanges, out: &mut Vec<u8>) 
         GivenLiteral(b" VALID UNTIL ", &changes.valid_until), Words(b";\n"))
 }
 
-/// GRANT of a role.
 #[tactic(auto, unfolding(crate::specs::Roles::member_text))]
 fn put_member<'a>(
     role: &'a Name,
@@ -415,7 +399,6 @@ fn put_member<'a>(
         GivenName(b" GRANTED BY ", grantor), Words(b";\n"))
 }
 
-/// CREATE DATABASE.
 #[tactic(auto, unfolding(crate::specs::Roles::database_text))]
 fn put_database<'a>(name: &'a Name, encoding: Option<Encoding>, out: &mut Vec<u8>) -> Written
     ensures ok { OnOk result (out.new.items ≡ out.old.items ++ database_text name.now encoding) }
@@ -425,7 +408,6 @@ fn put_database<'a>(name: &'a Name, encoding: Option<Encoding>, out: &mut Vec<u8
         Words(encoding_words(encoding)), Words(b";\n"))
 }
 
-/// COMMENT ON.
 #[tactic(auto, unfolding(crate::specs::RightsText::comment_text))]
 fn put_comment<'a>(object: &'a Commented, text: &'a Option<Text>, out: &mut Vec<u8>) -> Written
     ensures ok { OnOk result (out.new.items ≡ out.old.items ++ comment_text object.now text.now) }
