@@ -2,6 +2,10 @@
 use cat_model::Key;
 use object_ids::Slot;
 
-pub(crate) fn let_go_key(_key: Key) {}
+pub(crate) fn let_go_key(key: Key) {
+    drop(key);
+}
 
-pub(crate) fn let_go_slot(_slot: Slot) {}
+pub(crate) fn let_go_slot(slot: Slot) {
+    drop(slot);
+}

@@ -2,6 +2,7 @@
 //! found without going over all.
 #![tactic(auto)]
 
+mod changes;
 mod classes;
 mod entries;
 mod groups;
@@ -9,4 +10,7 @@ mod let_go;
 mod named_map;
 mod picks;
 
+pub use changes::set;
+pub use entries::{Entries, push_entry};
+pub use let_go::{let_go_changes, let_go_entries, let_go_key, let_go_map};
 pub use named_map::{Change, NamedMap};

@@ -11,7 +11,7 @@ ghost use Rattle.cat_model.specs.declared.value.Value.{Value as TheValue};
 ghost use Rattle.cat_model.specs.Keys.{key_eq};
 ghost use Rattle.cat_model.specs.Trees.{changed, changed_at, class_of};
 
-use crate::entries::backwards;
+use crate::entries::{Entries, backwards};
 use crate::groups::{Groups, add_keys, class_group};
 use crate::let_go::{let_go, let_go_key};
 use crate::picks::picked;
@@ -91,7 +91,7 @@ impl NamedMap {
     }
 
     /// The map of these entries, of which the first of a key counts. The error is that memory ran out.
-    pub fn of(alloc: Global, entries: Vec<(Key, Value)>) -> Result<NamedMap, AllocError>
+    pub fn of(alloc: Global, entries: Entries) -> Result<NamedMap, AllocError>
         ensures { IfOk result (λ named. named ≡ from_entries entries.items) }
     {
         let changes = backwards(alloc, entries)?;

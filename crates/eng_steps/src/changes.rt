@@ -6,24 +6,21 @@ ghost use Rattle.cat_model.specs.declared.value.Value.TheVariants as value;
 
 use cat_model::{Grants, Key, Object, Value};
 use copy_text::Name;
-use eng_map::Change;
+use eng_map::{Change, let_go_changes, set};
 use std::alloc::{AllocError, Global};
-
-/// A key gets a value.
-pub fn set(changes: &mut Vec<Change>, key: Key, value: Value) -> Result<(), AllocError>
-    ensures { OnOk result (changes.new.items ≡ changes.old.items ++ (key, Some value) ∷ []) }
-{
-    changes.push((key, Some(value)))?;
-    Ok(())
-}
 
 /// One key gets a value, and nothing else is changed.
 pub fn one(alloc: Global, key: Key, value: Value) -> Result<Vec<Change>, AllocError>
     ensures { IfOk result (λ changes. changes.items ≡ (key, Some value) ∷ []) }
 {
     let mut changes = Vec::new(alloc);
-    set(&mut changes, key, value)?;
-    Ok(changes)
+    match set(&mut changes, key, value) {
+        Ok(()) => Ok(changes),
+        Err(error) => {
+            let_go_changes(changes);
+            Err(error)
+        }
+    }
 }
 
 /// An object gets an owner.
@@ -45,6 +42,19 @@ pub fn set_grants(
     set(changes, Key::Acl(object.clone()?), Value::Grants(grants))
 }
 
+// Behind changes, what each new object gets.
+fn add_made(
+    changes: &mut Vec<Change>,
+    object: &Object,
+    boot: &Name,
+    grants: Grants,
+) -> Result<(), AllocError>
+    ensures { OnOk result (changes.new.items ≡ changes.old.items ++ made object.now boot.now grants) }
+{
+    set_owner(changes, object, boot)?;
+    set_grants(changes, object, grants)
+}
+
 /// These changes, and behind them what each new object gets: the boot role as its owner, and grants.
 pub fn with_made(
     mut changes: Vec<Change>,
@@ -54,7 +64,11 @@ pub fn with_made(
 ) -> Result<Vec<Change>, AllocError>
     ensures { IfOk result (λ all. all.items ≡ changes.items ++ made object.now boot.now grants) }
 {
-    set_owner(&mut changes, object, boot)?;
-    set_grants(&mut changes, object, grants)?;
-    Ok(changes)
+    match add_made(&mut changes, object, boot, grants) {
+        Ok(()) => Ok(changes),
+        Err(error) => {
+            let_go_changes(changes);
+            Err(error)
+        }
+    }
 }

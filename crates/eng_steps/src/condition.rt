@@ -13,10 +13,10 @@ ghost use Rattle.cat_model.specs.Trees.{Tree, Seen, outcome, seen};
 ghost use Rattle.eng_steps.specs.Kinds.{is_of};
 ghost use Rattle.eng_steps.specs.Outcomes.{Steps};
 
-use crate::refusal::{ApplyError, let_go_key};
+use crate::refusal::ApplyError;
 use cat_model::{Cause, Column, Domain, Key, QName, Role, Sequence, Value};
 use copy_text::Name;
-use eng_map::NamedMap;
+use eng_map::{NamedMap, let_go_key};
 
 /// The key is there, else `Absent`.
 pub fn needs(named: &NamedMap, key: Key) -> Result<(), ApplyError>

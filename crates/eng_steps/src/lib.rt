@@ -7,10 +7,11 @@ mod condition;
 mod references;
 mod refusal;
 
-pub use changes::{one, set, set_grants, set_owner, with_made};
+pub use changes::{one, set_grants, set_owner, with_made};
 pub use condition::{
     ObjectKind, column_in, column_there, free, free_relation, free_type, is_system, needs,
     needs_domain, needs_each, needs_kind, needs_role, needs_sequence, needs_table,
 };
+pub use eng_map::{let_go_key, set};
 pub use references::{check_refs, default_refs, needs_but_relation, needs_but_type};
-pub use refusal::{ApplyError, let_go_key};
+pub use refusal::ApplyError;

@@ -9,10 +9,10 @@ ghost use Rattle.eng_steps.specs.Outcomes.{Steps};
 ghost use Rattle.cat_model.specs.TypeEffects.{but, default_references, check_references};
 
 use crate::condition::needs_each;
-use crate::refusal::{ApplyError, let_go_key};
+use crate::refusal::ApplyError;
 use cat_model::{CheckDef, Key, QName};
 use copy_text::Text;
-use eng_map::NamedMap;
+use eng_map::{NamedMap, let_go_key};
 use std::alloc::{AllocError, Global};
 use stmt_refs::expr_refs;
 

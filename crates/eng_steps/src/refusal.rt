@@ -2,7 +2,7 @@
 ghost use Rattle.std.specs.Prelude.{◌≡◌};
 ghost use Rattle.eng_steps.specs.declared.refusal.ApplyError.TheVariants as error;
 
-use cat_model::{Cause, Key};
+use cat_model::Cause;
 use std::alloc::{AllocError, AllocFailed};
 
 /// Why a statement isn't carried out.
@@ -29,6 +29,3 @@ impl<T: Drop> From<AllocFailed<T>> for ApplyError {
         ApplyError::Memory
     }
 }
-
-/// Lets a key go. Its drop is a call, so that it isn't written out where keys of all kinds end.
-pub fn let_go_key(_key: Key) {}

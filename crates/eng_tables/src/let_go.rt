@@ -2,12 +2,20 @@
 use cat_model::Key;
 use std::alloc::AllocFailed;
 
-pub(crate) fn let_go_key(_key: Key) {}
+pub(crate) fn let_go_key(key: Key) {
+    drop(key);
+}
 
-pub(crate) fn let_go_row<R: Drop>(_row: R) {}
+pub(crate) fn let_go_row<R: Drop>(row: R) {
+    drop(row);
+}
 
-pub(crate) fn let_go_entry<R: Drop>(_entry: Option<(Key, R)>) {}
+pub(crate) fn let_go_entry<R: Drop>(entry: Option<(Key, R)>) {
+    drop(entry);
+}
 
-pub(crate) fn let_go_failed<R: Drop>(_failed: AllocFailed<(u32, (Key, R))>) {}
+pub(crate) fn let_go_failed<R: Drop>(failed: AllocFailed<(u32, (Key, R))>) {
+    drop(failed);
+}
 
 pub(crate) fn let_go_oid(_oid: Option<u32>) {}

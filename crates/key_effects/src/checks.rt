@@ -9,8 +9,8 @@ ghost use Rattle.cat_model.specs.Trees.{Tree, outcome, seen};
 ghost use Rattle.key_effects.specs.Keys.{check_named};
 ghost use Rattle.eng_steps.specs.Outcomes.{Steps};
 
-use crate::paths::{constraint_key, free_constraint};
-use cat_model::{Constraint, ConstraintKind, Items, QName, Value};
+use crate::paths::{free_constraint, under_table};
+use cat_model::{Constraint, ConstraintKind, Items, Key, QName, Value};
 use copy_text::{Name, Text};
 use eng_map::{Change, NamedMap};
 use eng_steps::{ApplyError, needs_each, needs_table, one};
@@ -37,8 +37,9 @@ fn check_changes(
 ) -> Result<Vec<Change>, AllocError>
     ensures { IfOk result (λ changes. changes.items ≡ (key.Con q.now name.now, Some (check_value text.now)) ∷ []) }
 {
-    let key = constraint_key(q, name)?;
-    one(alloc, key, check_value(alloc, text)?)
+    let (table, name) = under_table(q, name)?;
+    let value = check_value(alloc, text)?;
+    one(alloc, Key::Con(table, name), value)
 }
 
 // What the expression refers to is there, else `Absent` of the first that isn't.
@@ -74,5 +75,5 @@ pub fn add_check(
     ensures { Steps result (outcome (add_check q.now name.now text.now) (seen named.now)) (λ changes. Ok changes.items) }
 {
     needs_table(named, q)?;
-    Ok(check_named(alloc, named, q, name, text)?)
+    check_named(alloc, named, q, name, text)
 }

@@ -9,9 +9,9 @@ ghost use Rattle.key_effects.specs.Keys.{foreign_rows, foreign_keyed, foreign_be
 ghost use Rattle.eng_steps.specs.Outcomes.{Steps};
 
 use crate::condition::{columns_there, has_key};
-use crate::paths::{constraint_key, free_constraint, names_of};
+use crate::paths::{free_constraint, names_of, under_table};
 use crate::rows::rows_of;
-use cat_model::{Cause, Column, Constraint, ConstraintKind, Items, QName, Value};
+use cat_model::{Cause, Column, Constraint, ConstraintKind, Items, Key, QName, Value};
 use copy_text::{Name, Row, Text};
 use eng_map::{Change, NamedMap};
 use eng_steps::{ApplyError, needs_table, one};
@@ -58,8 +58,9 @@ fn foreign_value(new: NewForeign<'_>) -> Result<Value, AllocError>
 fn foreign_changes(alloc: Global, q: &QName, new: NewForeign<'_>) -> Result<Vec<Change>, AllocError>
     ensures { IfOk result (λ changes. changes.items ≡ (key.Con q.now new.entry.name.now, Some (foreign_value new.entry.columns.now new.entry.parent.now new.entry.parent_columns.now new.entry.rest.now)) ∷ []) }
 {
-    let key = constraint_key(q, new.name)?;
-    one(alloc, key, foreign_value(new)?)
+    let (table, name) = under_table(q, new.name)?;
+    let value = foreign_value(new)?;
+    one(alloc, Key::Con(table, name), value)
 }
 
 // As many columns on both sides, each there, none twice.
@@ -157,7 +158,7 @@ fn foreign_keyed(
     ensures { Steps result (outcome (foreign_keyed q.now new.entry.name.now new.entry.columns.now new.entry.parent.now new.entry.parent_columns.now new.entry.rest.now columns.now parent_columns.now) (seen named.now)) (λ changes. Ok changes.items) }
 {
     has_key(named, new.parent, new.parent_columns)?;
-    Ok(foreign_rows(alloc, named, q, columns, parent_columns, new)?)
+    foreign_rows(alloc, named, q, columns, parent_columns, new)
 }
 
 fn foreign_between(
@@ -174,7 +175,7 @@ fn foreign_between(
     if !are_fit(alloc, columns, parent_columns, new)? {
         return Err(ApplyError::Refused(Cause::WrongColumns));
     }
-    Ok(foreign_keyed(alloc, named, q, columns, parent_columns, new)?)
+    foreign_keyed(alloc, named, q, columns, parent_columns, new)
 }
 
 /// ALTER TABLE .. ADD CONSTRAINT .. FOREIGN KEY. The parent must have a key on its columns, and each row without a null
@@ -189,5 +190,5 @@ pub fn add_foreign(
 {
     let columns = needs_table(named, q)?;
     let parent_columns = needs_table(named, new.parent)?;
-    Ok(foreign_between(alloc, named, q, columns, parent_columns, new)?)
+    foreign_between(alloc, named, q, columns, parent_columns, new)
 }

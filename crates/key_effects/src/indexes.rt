@@ -10,9 +10,9 @@ ghost use Rattle.key_effects.specs.Keys.{index_changes, index_named, apart, apar
 ghost use Rattle.eng_steps.specs.Outcomes.{Steps};
 
 use crate::condition::columns_there;
-use crate::paths::{free_index, free_index_relation, index_key, set_index_of};
+use crate::paths::{free_index, free_index_relation, set_index_of, under_table};
 use crate::rows::{duplicate, first_repeated};
-use cat_model::{Cause, Column, Index, Items, QName, Value};
+use cat_model::{Cause, Column, Index, Items, Key, QName, Value};
 use copy_text::{Name, Text};
 use eng_map::{Change, NamedMap};
 use eng_steps::{ApplyError, needs_table, one};
@@ -49,8 +49,9 @@ fn one_index(
 ) -> Result<Vec<Change>, AllocError>
     ensures { IfOk result (λ changes. changes.items ≡ (key.Index q.now new.entry.name.now, Some (value.Index (record { method = new.entry.method.now; unique = unique; text = new.entry.rest.now }))) ∷ []) }
 {
-    let key = index_key(q, new.name)?;
-    one(alloc, key, index_value(new, unique)?)
+    let (table, name) = under_table(q, new.name)?;
+    let value = index_value(new, unique)?;
+    one(alloc, Key::Index(table, name), value)
 }
 
 // The index, as a relation too.
@@ -90,7 +91,7 @@ pub fn create_index(
     ensures { Steps result (outcome (create_index q.now new.entry.name.now new.entry.method.now new.entry.rest.now) (seen named.now)) (λ changes. Ok changes.items) }
 {
     needs_table(named, q)?;
-    Ok(index_named(alloc, named, q, new)?)
+    index_named(alloc, named, q, new)
 }
 
 // No two rows have one key on these columns, else `Duplicate`; then the index is made.
@@ -123,7 +124,7 @@ fn apart_on(
     if !columns_there(alloc, columns, names)? {
         return Err(ApplyError::Refused(Cause::WrongColumns));
     }
-    Ok(apart(alloc, named, q, columns, new, names)?)
+    apart(alloc, named, q, columns, new, names)
 }
 
 // On plain columns no two rows have one key; on others the rows aren't tried.
@@ -138,7 +139,7 @@ fn unique_index_on(
     ensures { Steps result (outcome (unique_index_on q.now new.entry.name.now (record { method = new.entry.method.now; unique = true; text = new.entry.rest.now }) columns.now on.now) (seen named.now)) (λ changes. Ok changes.items) }
 {
     match on {
-        Some(names) => Ok(apart_on(alloc, named, q, columns, new, names)?),
+        Some(names) => apart_on(alloc, named, q, columns, new, names),
         None => Ok(index_changes(alloc, q, new, true)?),
     }
 }
@@ -167,7 +168,7 @@ fn unique_index_named(
 {
     free_index_relation(named, q, new.name)?;
     free_index(named, q, new.name)?;
-    Ok(unique_index_tried(alloc, named, q, columns, new)?)
+    unique_index_tried(alloc, named, q, columns, new)
 }
 
 /// CREATE UNIQUE INDEX. On plain columns no two rows of the table may have one key; on others the rows aren't tried.
@@ -180,5 +181,5 @@ pub fn create_unique_index(
     ensures { Steps result (outcome (create_unique_index q.now new.entry.name.now new.entry.method.now new.entry.rest.now) (seen named.now)) (λ changes. Ok changes.items) }
 {
     let columns = needs_table(named, q)?;
-    Ok(unique_index_named(alloc, named, q, columns, new)?)
+    unique_index_named(alloc, named, q, columns, new)
 }

@@ -8,9 +8,9 @@ ghost use Rattle.key_effects.specs.Keys.{key_changes, keyed, primary_on, primary
 ghost use Rattle.eng_steps.specs.Outcomes.{Steps};
 
 use crate::condition::{columns_there, no_primary};
-use crate::paths::{constraint_key, free_constraint, free_index_relation, names_of, set_index_of};
+use crate::paths::{free_constraint, free_index_relation, names_of, set_index_of, under_table};
 use crate::rows::{duplicate, first_repeated, no_null_rows};
-use cat_model::{Cause, Column, Constraint, ConstraintKind, Items, QName, Value};
+use cat_model::{Cause, Column, Constraint, ConstraintKind, Items, Key, QName, Value};
 use copy_text::{Name, Text};
 use eng_map::{Change, NamedMap};
 use eng_steps::{ApplyError, needs_table, one};
@@ -47,8 +47,9 @@ fn constraint_changes(
 ) -> Result<Vec<Change>, AllocError>
     ensures { IfOk result (λ changes. changes.items ≡ (key.Con q.now new.entry.name.now, Some (key_value kind new.entry.columns.now new.entry.rest.now)) ∷ []) }
 {
-    let key = constraint_key(q, new.name)?;
-    one(alloc, key, key_value(kind, new.columns, new.rest)?)
+    let (table, name) = under_table(q, new.name)?;
+    let value = key_value(kind, new.columns, new.rest)?;
+    one(alloc, Key::Con(table, name), value)
 }
 
 // The constraint, with its index.
@@ -95,7 +96,7 @@ fn primary_on(
         return Err(ApplyError::Refused(Cause::WrongColumns));
     }
     no_null_rows(alloc, named, q, columns, new.columns)?;
-    Ok(keyed(alloc, named, q, columns, new, ConstraintKind::Primary)?)
+    keyed(alloc, named, q, columns, new, ConstraintKind::Primary)
 }
 
 fn primary_named(
@@ -110,7 +111,7 @@ fn primary_named(
     free_constraint(named, q, new.name)?;
     free_index_relation(named, q, new.name)?;
     no_primary(named, q)?;
-    Ok(primary_on(alloc, named, q, columns, new)?)
+    primary_on(alloc, named, q, columns, new)
 }
 
 /// ALTER TABLE .. ADD CONSTRAINT .. PRIMARY KEY. No row of the table may have a null in the key's columns, and no two
@@ -124,7 +125,7 @@ pub fn add_primary(
     ensures { Steps result (outcome (add_primary q.now new.entry.name.now new.entry.columns.now new.entry.rest.now) (seen named.now)) (λ changes. Ok changes.items) }
 {
     let columns = needs_table(named, q)?;
-    Ok(primary_named(alloc, named, q, columns, new)?)
+    primary_named(alloc, named, q, columns, new)
 }
 
 fn unique_on(
@@ -139,7 +140,7 @@ fn unique_on(
     if !columns_there(alloc, columns, new.columns)? {
         return Err(ApplyError::Refused(Cause::WrongColumns));
     }
-    Ok(keyed(alloc, named, q, columns, new, ConstraintKind::Unique)?)
+    keyed(alloc, named, q, columns, new, ConstraintKind::Unique)
 }
 
 fn unique_named(
@@ -153,7 +154,7 @@ fn unique_named(
 {
     free_constraint(named, q, new.name)?;
     free_index_relation(named, q, new.name)?;
-    Ok(unique_on(alloc, named, q, columns, new)?)
+    unique_on(alloc, named, q, columns, new)
 }
 
 /// ALTER TABLE .. ADD CONSTRAINT .. UNIQUE. No two rows of the table may have one key.
@@ -166,5 +167,5 @@ pub fn add_unique(
     ensures { Steps result (outcome (add_unique q.now new.entry.name.now new.entry.columns.now new.entry.rest.now) (seen named.now)) (λ changes. Ok changes.items) }
 {
     let columns = needs_table(named, q)?;
-    Ok(unique_named(alloc, named, q, columns, new)?)
+    unique_named(alloc, named, q, columns, new)
 }

@@ -24,33 +24,19 @@ fn index_path(table: &QName, name: &Name) -> Result<QName, AllocError>
     })
 }
 
-fn index_relation(table: &QName, name: &Name) -> Result<Key, AllocError>
-    ensures { IfOk result (λ k. k ≡ key.Rel (index_path table.now name.now)) }
-{
-    Ok(Key::Rel(index_path(table, name)?))
-}
-
-/// The key of a constraint.
-pub(crate) fn constraint_key(table: &QName, name: &Name) -> Result<Key, AllocError>
-    ensures { IfOk result (λ k. k ≡ key.Con table.now name.now) }
+/// A table's path with the name of what stands under it, of which the key of a constraint or an index is made.
+pub(crate) fn under_table(table: &QName, name: &Name) -> Result<(QName, Name), AllocError>
+    ensures { IfOk result (λ under. under ≡ (table.now, name.now)) }
 {
     let name = name.clone()?;
-    Ok(Key::Con(table.clone()?, name))
-}
-
-/// The key of an index that isn't a constraint's.
-pub(crate) fn index_key(table: &QName, name: &Name) -> Result<Key, AllocError>
-    ensures { IfOk result (λ k. k ≡ key.Index table.now name.now) }
-{
-    let name = name.clone()?;
-    Ok(Key::Index(table.clone()?, name))
+    Ok((table.clone()?, name))
 }
 
 /// The same names.
 pub(crate) fn names_of(names: &Items<Name>) -> Result<Items<Name>, AllocError>
     ensures { IfOk result (λ copy. copy ≡ names.now) }
 {
-    Ok(names.clone()?)
+    names.clone()
 }
 
 /// An index, a constraint's too, becomes a relation of its table's schema.
@@ -61,8 +47,9 @@ pub(crate) fn set_index_of(
 ) -> Result<(), AllocError>
     ensures { OnOk result (changes.new.items ≡ changes.old.items ++ (key.Rel (index_path table.now name.now), Some (value.IndexOf table.now)) ∷ []) }
 {
-    let key = index_relation(table, name)?;
-    set(changes, key, Value::IndexOf(table.clone()?))
+    let path = index_path(table, name)?;
+    let table = table.clone()?;
+    set(changes, Key::Rel(path), Value::IndexOf(table))
 }
 
 /// The table has no constraint of this name, else `Exists`.
@@ -73,7 +60,8 @@ pub(crate) fn free_constraint(
 ) -> Result<(), ApplyError>
     ensures { (next : Tree) → Steps result (outcome (free (key.Con table.now name.now) next) (seen named.now)) (λ _. outcome next (seen named.now)) }
 {
-    free(named, constraint_key(table, name)?)
+    let (table, name) = under_table(table, name)?;
+    free(named, Key::Con(table, name))
 }
 
 /// No relation stands where an index of this name would, else `Exists`.
@@ -84,12 +72,13 @@ pub(crate) fn free_index_relation(
 ) -> Result<(), ApplyError>
     ensures { (next : Tree) → Steps result (outcome (free (key.Rel (index_path table.now name.now)) next) (seen named.now)) (λ _. outcome next (seen named.now)) }
 {
-    free(named, index_relation(table, name)?)
+    free(named, Key::Rel(index_path(table, name)?))
 }
 
 /// The table has no index of this name that isn't a constraint's, else `Exists`.
 pub(crate) fn free_index(named: &NamedMap, table: &QName, name: &Name) -> Result<(), ApplyError>
     ensures { (next : Tree) → Steps result (outcome (free (key.Index table.now name.now) next) (seen named.now)) (λ _. outcome next (seen named.now)) }
 {
-    free(named, index_key(table, name)?)
+    let (table, name) = under_table(table, name)?;
+    free(named, Key::Index(table, name))
 }

@@ -21,7 +21,7 @@ fn rows_in(alloc: Global, found: Option<&Value>) -> Result<Vec<Row>, AllocError>
     ensures { IfOk result (λ rows. rows.items ≡ rows_in (option_copied found.entry)) }
 {
     match found {
-        Some(Value::Rows(rows)) => Ok(rows.to_rows(alloc)?),
+        Some(Value::Rows(rows)) => rows.to_rows(alloc),
         _ => Ok(Vec::new(alloc)),
     }
 }

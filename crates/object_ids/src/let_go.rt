@@ -2,4 +2,6 @@
 use crate::slots::Slot;
 use std::alloc::AllocFailed;
 
-pub(crate) fn let_go_failed(_failed: AllocFailed<(Slot, u32)>) {}
+pub(crate) fn let_go_failed(failed: AllocFailed<(Slot, u32)>) {
+    drop(failed);
+}

@@ -1,16 +1,19 @@
 //! Statements that make tables, sequences and views.
-ghost use Rattle.std.specs.Prelude.{◌≡◌, [], ◌∷◌, ◌&&◌, Ok, Some, pos, IfOk};
+ghost use Rattle.std.specs.Prelude.{◌≡◌, [], ◌∷◌, ◌++◌, ◌&&◌, Ok, Some, pos, IfOk, OnOk};
 ghost use Rattle.cat_model.specs.declared.cause.Cause.TheVariants as cause;
 ghost use Rattle.cat_model.specs.declared.key.Key.TheVariants as key;
+ghost use Rattle.cat_model.specs.declared.object.Object.TheVariants as object;
 ghost use Rattle.cat_model.specs.declared.value.Value.TheVariants as value;
 ghost use Rattle.cat_model.specs.Conditions.{check, needs_each, needs_table, column_in};
+ghost use Rattle.cat_model.specs.Grants.{owner_only};
+ghost use Rattle.cat_model.specs.ObjectEffects.{made};
 ghost use Rattle.cat_model.specs.References.{expression_references};
 ghost use Rattle.cat_model.specs.RelationEffects.{set_default, at_most, within, in_kind, fits_sequence, create_sequence, owned_by, set_value, create_view, replace_view};
 ghost use Rattle.cat_model.specs.Trees.{Tree, Seen, sets, outcome, seen};
 ghost use Rattle.eng_steps.specs.Outcomes.{Steps};
 ghost use Rattle.relation_effects.specs.NewRelations.{sequence_changes, sequence_here, view_changes, view_here};
 
-use cat_model::{Cause, Column, Key, Object, QName, Sequence, SequenceKind, Value};
+use cat_model::{Cause, Column, Key, Object, QName, Rights, Sequence, SequenceKind, Value};
 use copy_text::{Name, Text};
 use eng_map::{Change, NamedMap};
 use eng_steps::{
@@ -31,13 +34,10 @@ fn default_changes(
 ) -> Result<Vec<Change>, AllocError>
     ensures { IfOk result (λ changes. changes.items ≡ (key.Default q.now column.now, Some (value.DefaultText text.now)) ∷ []) }
 {
-    let text = text.clone()?;
+    let q = q.clone()?;
     let column = column.clone()?;
-    one(
-        alloc,
-        Key::Default(q.clone()?, column),
-        Value::DefaultText(text),
-    )
+    let text = text.clone()?;
+    one(alloc, Key::Default(q, column), Value::DefaultText(text))
 }
 
 // The column is one of these, what the default refers to is there, and the default is set.
@@ -67,7 +67,24 @@ pub fn set_default(
     ensures { Steps result (outcome (set_default q.now column.now text.now) (seen named.now)) (λ changes. Ok changes.items) }
 {
     let columns = needs_table(named, q)?;
-    Ok(default_of_one(alloc, named, q, columns, column, text)?)
+    default_of_one(alloc, named, q, columns, column, text)
+}
+
+// ---- new relations
+
+/// These changes, and behind them what each new relation gets: the boot role as its owner, who alone has these rights.
+pub(crate) fn with_made_relation(
+    alloc: Global,
+    changes: Vec<Change>,
+    boot: &Name,
+    q: &QName,
+    rights: Rights,
+) -> Result<Vec<Change>, AllocError>
+    ensures { IfOk result (λ all. all.items ≡ changes.items ++ made (object.Relation q.now) boot.now (owner_only rights)) }
+{
+    let object = Object::Relation(q.clone()?);
+    let grants = owner_only(alloc, rights)?;
+    with_made(changes, &object, boot, grants)
 }
 
 // ---- sequences
@@ -121,14 +138,13 @@ fn sequence_changes(
     ensures { IfOk result (λ changes. changes.items ≡ sequence_changes boot.now q.now s) }
 {
     let start = s.start;
-    let grants = owner_only(alloc, SEQUENCE_RIGHTS)?;
     let mut changes = one(alloc, Key::Rel(q.clone()?), Value::Sequence(s))?;
     set(
         &mut changes,
         Key::SeqVal(q.clone()?),
         Value::SequenceValue(start, false),
     )?;
-    with_made(changes, &Object::Relation(q.clone()?), boot, grants)
+    with_made_relation(alloc, changes, boot, q, SEQUENCE_RIGHTS)
 }
 
 // No relation has the path, the sequence's numbers fit together, and it is made.
@@ -157,7 +173,7 @@ pub fn create_sequence(
     ensures { Steps result (outcome (create_sequence boot.now q.now s) (seen named.now)) (λ changes. Ok changes.items) }
 {
     needs(named, Key::Schema(q.schema.clone()?))?;
-    Ok(sequence_here(alloc, named, boot, q, s)?)
+    sequence_here(alloc, named, boot, q, s)
 }
 
 fn owned_changes(
@@ -168,13 +184,10 @@ fn owned_changes(
 ) -> Result<Vec<Change>, AllocError>
     ensures { IfOk result (λ changes. changes.items ≡ (key.OwnedBy q.now, Some (value.OwnedBy table.now column.now)) ∷ []) }
 {
+    let q = q.clone()?;
     let table = table.clone()?;
     let column = column.clone()?;
-    one(
-        alloc,
-        Key::OwnedBy(q.clone()?),
-        Value::OwnedBy(table, column),
-    )
+    one(alloc, Key::OwnedBy(q), Value::OwnedBy(table, column))
 }
 
 // The column is one of these, and owns the sequence then.
@@ -202,7 +215,7 @@ fn owned_by_column(
     ensures { Steps result (outcome (needs_table table.now (λ columns. column_in columns column.now (sets ((key.OwnedBy q.now, Some (value.OwnedBy table.now column.now)) ∷ [])))) (seen named.now)) (λ changes. Ok changes.items) }
 {
     let columns = needs_table(named, table)?;
-    Ok(owned_by_one(alloc, q, table, columns, column)?)
+    owned_by_one(alloc, q, table, columns, column)
 }
 
 /// ALTER SEQUENCE .. OWNED BY.
@@ -216,7 +229,7 @@ pub fn owned_by(
     ensures { Steps result (outcome (owned_by q.now table.now column.now) (seen named.now)) (λ changes. Ok changes.items) }
 {
     needs_sequence(named, q)?;
-    Ok(owned_by_column(alloc, named, q, table, column)?)
+    owned_by_column(alloc, named, q, table, column)
 }
 
 /// What setval says that a sequence gave out last.
@@ -271,10 +284,18 @@ pub fn set_value(
     ensures { Steps result (outcome (set_value q.now last.now.value last.now.called) (seen named.now)) (λ changes. Ok changes.items) }
 {
     let sequence = needs_sequence(named, q)?;
-    Ok(set_value_of(alloc, q, sequence, last)?)
+    set_value_of(alloc, q, sequence, last)
 }
 
 // ---- views
+
+fn set_body(changes: &mut Vec<Change>, q: &QName, body: &Text) -> Result<(), AllocError>
+    ensures { OnOk result (changes.new.items ≡ changes.old.items ++ (key.Body q.now, Some (value.Body body.now)) ∷ []) }
+{
+    let q = q.clone()?;
+    let body = body.clone()?;
+    set(changes, Key::Body(q), Value::Body(body))
+}
 
 fn view_changes(
     alloc: Global,
@@ -284,11 +305,9 @@ fn view_changes(
 ) -> Result<Vec<Change>, AllocError>
     ensures { IfOk result (λ changes. changes.items ≡ view_changes boot.now q.now body.now) }
 {
-    let grants = owner_only(alloc, TABLE_RIGHTS)?;
-    let body = body.clone()?;
     let mut changes = one(alloc, Key::Rel(q.clone()?), Value::View)?;
-    set(&mut changes, Key::Body(q.clone()?), Value::Body(body))?;
-    with_made(changes, &Object::Relation(q.clone()?), boot, grants)
+    set_body(&mut changes, q, body)?;
+    with_made_relation(alloc, changes, boot, q, TABLE_RIGHTS)
 }
 
 // No relation has the path, what the body refers to is there, but for the view itself, and the view is made.
@@ -317,14 +336,15 @@ pub fn create_view(
     ensures { Steps result (outcome (create_view boot.now q.now body.now) (seen named.now)) (λ changes. Ok changes.items) }
 {
     needs(named, Key::Schema(q.schema.clone()?))?;
-    Ok(view_here(alloc, named, boot, q, body)?)
+    view_here(alloc, named, boot, q, body)
 }
 
 fn body_changes(alloc: Global, q: &QName, body: &Text) -> Result<Vec<Change>, AllocError>
     ensures { IfOk result (λ changes. changes.items ≡ (key.Body q.now, Some (value.Body body.now)) ∷ []) }
 {
+    let q = q.clone()?;
     let body = body.clone()?;
-    one(alloc, Key::Body(q.clone()?), Value::Body(body))
+    one(alloc, Key::Body(q), Value::Body(body))
 }
 
 /// CREATE OR REPLACE VIEW.

@@ -15,17 +15,16 @@ ghost use Rattle.cat_model.specs.Trees.{Tree, Seen, outcome, seen};
 ghost use Rattle.eng_steps.specs.Outcomes.{Steps};
 ghost use Rattle.relation_effects.specs.NewTables.{column_with, default_then, column_then, table_changes, table_made, table_here};
 
+use crate::relations::with_made_relation;
 use cat_model::{
-    Cause, CheckDef, Column, ColumnDef, Constraint, ConstraintKind, Items, Key, Object, QName,
-    Resolved, TableRows, Value,
+    Cause, CheckDef, Column, ColumnDef, Constraint, ConstraintKind, Items, Key, QName, Resolved,
+    TableRows, Value,
 };
 use copy_text::{Name, Text};
 use distinct_names::are_distinct;
 use eng_map::{Change, NamedMap};
-use eng_steps::{
-    ApplyError, check_refs, default_refs, free, needs, needs_but_relation, one, set, with_made,
-};
-use grant_changes::{TABLE_RIGHTS, owner_only};
+use eng_steps::{ApplyError, check_refs, default_refs, free, needs, needs_but_relation, one, set};
+use grant_changes::TABLE_RIGHTS;
 use std::alloc::{AllocError, Global};
 use type_effects::{check_names, needs_type};
 
@@ -81,14 +80,15 @@ fn needs_fit(alloc: Global, columns: &[ColumnDef], checks: &[CheckDef]) -> Resul
 
 // ---- columns
 
-fn column_with(new: &ColumnDef, resolved: Resolved) -> Result<Column, AllocError>
-    ensures { IfOk result (λ column. column ≡ column_with new.now resolved) }
+fn column_with(new: &ColumnDef, resolved: &Resolved) -> Result<Column, AllocError>
+    ensures { IfOk result (λ column. column ≡ column_with new.now resolved.now) }
 {
+    let name = new.name.clone()?;
     let type_name = new.type_name.clone()?;
     Ok(Column {
-        name: new.name.clone()?,
+        name,
         type_name,
-        resolved,
+        resolved: resolved.clone()?,
         not_null: new.not_null,
     })
 }
@@ -99,9 +99,9 @@ fn column_of(
     named: &NamedMap,
     q: &QName,
     new: &ColumnDef,
-    resolved: Resolved,
+    resolved: &Resolved,
 ) -> Result<Column, ApplyError>
-    ensures { (next : ColumnValue → Tree) → Steps result (outcome (default_then q.now new.now next resolved) (seen named.now)) (λ column. outcome (next column) (seen named.now)) }
+    ensures { (next : ColumnValue → Tree) → Steps result (outcome (default_then q.now new.now next resolved.now) (seen named.now)) (λ column. outcome (next column) (seen named.now)) }
 {
     needs_but_relation(alloc, named, q, default_refs(alloc, &new.default)?)?;
     Ok(column_with(new, resolved)?)
@@ -117,7 +117,7 @@ fn needs_column(
     ensures { (next : ColumnValue → Tree) → Steps result (outcome (column_then q.now new.now next) (seen named.now)) (λ column. outcome (next column) (seen named.now)) }
 {
     let resolved = needs_type(named, &new.type_name)?;
-    Ok(column_of(alloc, named, q, new, resolved)?)
+    column_of(alloc, named, q, new, &resolved)
 }
 
 // All columns with their types resolved.
@@ -148,7 +148,6 @@ fn empty_table(
 ) -> Result<Vec<Change>, AllocError>
     ensures { IfOk result (λ changes. changes.items ≡ (key.Rel q.now, Some (value.Table columns.items)) ∷ (key.Rows q.now, Some (value.Rows [])) ∷ made (object.Relation q.now) boot.now (owner_only table_rights)) }
 {
-    let grants = owner_only(alloc, TABLE_RIGHTS)?;
     let columns = Items::new(columns);
     let mut changes = one(alloc, Key::Rel(q.clone()?), Value::Table(columns))?;
     set(
@@ -156,7 +155,7 @@ fn empty_table(
         Key::Rows(q.clone()?),
         Value::Rows(TableRows::new(alloc)),
     )?;
-    with_made(changes, &Object::Relation(q.clone()?), boot, grants)
+    with_made_relation(alloc, changes, boot, q, TABLE_RIGHTS)
 }
 
 // A column gets its default, where it has one.
@@ -165,13 +164,10 @@ fn add_default(changes: &mut Vec<Change>, q: &QName, column: &ColumnDef) -> Resu
 {
     match &column.default {
         Some(text) => {
-            let text = text.clone()?;
+            let q = q.clone()?;
             let name = column.name.clone()?;
-            set(
-                changes,
-                Key::Default(q.clone()?, name),
-                Value::DefaultText(text),
-            )
+            let text = text.clone()?;
+            set(changes, Key::Default(q, name), Value::DefaultText(text))
         }
         None => Ok(()),
     }
@@ -194,11 +190,12 @@ fn add_defaults(
 fn check_value(alloc: Global, text: &Text) -> Result<Constraint, AllocError>
     ensures { IfOk result (λ constraint. value.Constraint constraint ≡ check_value text.now) }
 {
+    let text = text.clone()?;
     Ok(Constraint {
         kind: ConstraintKind::Check,
         columns: Items::new(Vec::new(alloc)),
         parent: None,
-        text: text.clone()?,
+        text,
     })
 }
 
@@ -210,13 +207,10 @@ fn add_check(
 ) -> Result<(), AllocError>
     ensures { OnOk result (changes.new.items ≡ changes.old.items ++ (key.Con q.now check.now.name, Some (check_value check.now.text)) ∷ []) }
 {
-    let constraint = check_value(alloc, &check.text)?;
+    let q = q.clone()?;
     let name = check.name.clone()?;
-    set(
-        changes,
-        Key::Con(q.clone()?, name),
-        Value::Constraint(constraint),
-    )
+    let constraint = check_value(alloc, &check.text)?;
+    set(changes, Key::Con(q, name), Value::Constraint(constraint))
 }
 
 fn add_checks(
@@ -280,7 +274,7 @@ fn table_of_columns(
     ensures { Steps result (outcome (needs_columns q.now columns.now (table_made boot.now q.now columns.now checks.now)) (seen named.now)) (λ changes. Ok changes.items) }
 {
     let resolved = needs_columns(alloc, named, q, columns)?;
-    Ok(make_table(alloc, named, boot, q, columns, checks, resolved)?)
+    make_table(alloc, named, boot, q, columns, checks, resolved)
 }
 
 // No relation has the path, it can have these columns and checks, and the table is made.
@@ -296,7 +290,7 @@ fn table_here(
 {
     free(named, Key::Rel(q.clone()?))?;
     needs_fit(alloc, columns, checks)?;
-    Ok(table_of_columns(alloc, named, boot, q, columns, checks)?)
+    table_of_columns(alloc, named, boot, q, columns, checks)
 }
 
 /// CREATE TABLE.
@@ -311,5 +305,5 @@ pub fn create_table(
     ensures { Steps result (outcome (create_table boot.now q.now columns.now checks.now) (seen named.now)) (λ changes. Ok changes.items) }
 {
     needs(named, Key::Schema(q.schema.clone()?))?;
-    Ok(table_here(alloc, named, boot, q, columns, checks)?)
+    table_here(alloc, named, boot, q, columns, checks)
 }

@@ -46,7 +46,9 @@ pub(crate) fn without_type(alloc: Global, q: &QName, keys: Vec<Key>) -> Result<V
     ensures { IfOk result (λ v. v.items ≡ but (key.UserType q.now) keys.items) }
 {
     let own = Key::UserType(q.clone()?);
-    without(alloc, &own, keys)
+    let others = without(alloc, &own, keys);
+    drop(own);
+    others
 }
 
 /// The keys without this relation.
@@ -58,7 +60,9 @@ pub(crate) fn without_relation(
     ensures { IfOk result (λ v. v.items ≡ but (key.Rel q.now) keys.items) }
 {
     let own = Key::Rel(q.clone()?);
-    without(alloc, &own, keys)
+    let others = without(alloc, &own, keys);
+    drop(own);
+    others
 }
 
 pub(crate) fn copied(alloc: Global, names: &[Name]) -> Result<Items<Name>, AllocError>

@@ -1,12 +1,15 @@
 //! Statements that make enums and domains, and what a type is at the end of its chain of domains.
-ghost use Rattle.std.specs.Prelude.{◌≡◌, [], ◌∷◌, ◌||◌, Ok, Some, not, false, map, IfOk, OnOk};
+ghost use Rattle.std.specs.Prelude.{◌≡◌, [], ◌∷◌, ◌++◌, ◌||◌, Ok, Some, not, false, map, IfOk, OnOk};
 ghost use Rattle.std.specs.FinMap.{from_entries, insert, contains_key};
 ghost use Rattle.cat_model.specs.declared.cause.Cause.TheVariants as cause;
 ghost use Rattle.cat_model.specs.declared.key.Key.TheVariants as key;
+ghost use Rattle.cat_model.specs.declared.object.Object.TheVariants as object;
 ghost use Rattle.cat_model.specs.declared.type_name.TypeName.TheVariants.{Path};
 ghost use Rattle.cat_model.specs.declared.value.Resolved.{Resolved as ResolvedValue};
 ghost use Rattle.cat_model.specs.declared.value.Value.TheVariants as value;
 ghost use Rattle.cat_model.specs.Conditions.{check, needs_each};
+ghost use Rattle.cat_model.specs.Grants.{type_grants};
+ghost use Rattle.cat_model.specs.ObjectEffects.{made};
 ghost use Rattle.cat_model.specs.References.{expression_references};
 ghost use Rattle.cat_model.specs.Tables.{distinct};
 ghost use Rattle.cat_model.specs.Trees.{Tree, Seen, look, sets, outcome, seen};
@@ -106,6 +109,20 @@ fn distinct_labels(alloc: Global, q: &QName, labels: &Items<Text>) -> Result<(),
     Ok(())
 }
 
+// These changes, and behind them what each new enum or domain gets: its owner and its grants.
+fn with_made_type(
+    alloc: Global,
+    changes: Vec<Change>,
+    boot: &Name,
+    q: &QName,
+) -> Result<Vec<Change>, AllocError>
+    ensures { IfOk result (λ all. all.items ≡ changes.items ++ made (object.Type q.now) boot.now type_grants) }
+{
+    let object = Object::Type(q.clone()?);
+    let grants = type_grants(alloc)?;
+    with_made(changes, &object, boot, grants)
+}
+
 fn enum_changes(
     alloc: Global,
     boot: &Name,
@@ -114,10 +131,10 @@ fn enum_changes(
 ) -> Result<Vec<Change>, AllocError>
     ensures { IfOk result (λ changes. changes.items ≡ enum_changes boot.now q.now labels.now) }
 {
+    let path = q.clone()?;
     let labels = same_labels(labels)?;
-    let changes = one(alloc, Key::UserType(q.clone()?), Value::Enum(labels))?;
-    let grants = type_grants(alloc)?;
-    with_made(changes, &Object::Type(q.clone()?), boot, grants)
+    let changes = one(alloc, Key::UserType(path), Value::Enum(labels))?;
+    with_made_type(alloc, changes, boot, q)
 }
 
 // No enum or domain has the path, the labels differ, and the enum is made.
@@ -146,7 +163,7 @@ pub fn create_enum(
     ensures { Steps result (outcome (create_enum boot.now q.now labels.now) (seen named.now)) (λ changes. Ok changes.items) }
 {
     needs(named, Key::Schema(q.schema.clone()?))?;
-    Ok(enum_here(alloc, named, boot, q, labels)?)
+    enum_here(alloc, named, boot, q, labels)
 }
 
 // ---- domains
@@ -206,14 +223,15 @@ fn checks_by_name(alloc: Global, checks: &[CheckDef]) -> Result<Checks, AllocErr
     Ok(named)
 }
 
-fn new_domain(alloc: Global, new: NewDomain<'_>, resolved: Resolved) -> Result<Domain, AllocError>
-    ensures { IfOk result (λ d. d ≡ domain_of new.entry.base.now new.entry.not_null new.entry.default.now new.entry.checks.now resolved) }
+fn new_domain(alloc: Global, new: NewDomain<'_>, resolved: &Resolved) -> Result<Domain, AllocError>
+    ensures { IfOk result (λ d. d ≡ domain_of new.entry.base.now new.entry.not_null new.entry.default.now new.entry.checks.now resolved.now) }
 {
     let checks = checks_by_name(alloc, new.checks)?;
     let default = new.default.clone()?;
+    let base = new.base.clone()?;
     Ok(Domain {
-        base: new.base.clone()?,
-        resolved,
+        base,
+        resolved: resolved.clone()?,
         not_null: new.not_null,
         default,
         checks,
@@ -225,21 +243,14 @@ fn domain_changes(
     boot: &Name,
     q: &QName,
     new: NewDomain<'_>,
-    resolved: Resolved,
+    resolved: &Resolved,
 ) -> Result<Vec<Change>, AllocError>
-    ensures { IfOk result (λ changes. changes.items ≡ domain_changes boot.now q.now new.entry.base.now new.entry.not_null new.entry.default.now new.entry.checks.now resolved) }
+    ensures { IfOk result (λ changes. changes.items ≡ domain_changes boot.now q.now new.entry.base.now new.entry.not_null new.entry.default.now new.entry.checks.now resolved.now) }
 {
+    let path = q.clone()?;
     let domain = new_domain(alloc, new, resolved)?;
-    let changes = one_type(alloc, q, domain)?;
-    let grants = type_grants(alloc)?;
-    with_made(changes, &Object::Type(q.clone()?), boot, grants)
-}
-
-// One domain is set.
-fn one_type(alloc: Global, q: &QName, domain: Domain) -> Result<Vec<Change>, AllocError>
-    ensures { IfOk result (λ changes. changes.items ≡ (key.UserType q.now, Some (value.Domain domain)) ∷ []) }
-{
-    one(alloc, Key::UserType(q.clone()?), Value::Domain(domain))
+    let changes = one(alloc, Key::UserType(path), Value::Domain(domain))?;
+    with_made_type(alloc, changes, boot, q)
 }
 
 // The references of the default and of the checks are there, and the domain is made.
@@ -249,9 +260,9 @@ fn make_domain(
     boot: &Name,
     q: &QName,
     new: NewDomain<'_>,
-    resolved: Resolved,
+    resolved: &Resolved,
 ) -> Result<Vec<Change>, ApplyError>
-    ensures { Steps result (outcome (domain_made boot.now q.now new.entry.base.now new.entry.not_null new.entry.default.now new.entry.checks.now resolved) (seen named.now)) (λ changes. Ok changes.items) }
+    ensures { Steps result (outcome (domain_made boot.now q.now new.entry.base.now new.entry.not_null new.entry.default.now new.entry.checks.now resolved.now) (seen named.now)) (λ changes. Ok changes.items) }
 {
     needs_each(named, default_refs(alloc, new.default)?)?;
     needs_but_type(alloc, named, q, check_refs(alloc, new.checks)?)?;
@@ -269,7 +280,7 @@ fn base_domain(
     ensures { Steps result (outcome (needs_type new.entry.base.now (domain_made boot.now q.now new.entry.base.now new.entry.not_null new.entry.default.now new.entry.checks.now)) (seen named.now)) (λ changes. Ok changes.items) }
 {
     let resolved = needs_type(named, new.base)?;
-    Ok(make_domain(alloc, named, boot, q, new, resolved)?)
+    make_domain(alloc, named, boot, q, new, &resolved)
 }
 
 // No enum or domain has the path, the checks have names of their own, and the domain is made.
@@ -284,7 +295,7 @@ fn domain_here(
 {
     free(named, Key::UserType(q.clone()?))?;
     distinct_checks(alloc, q, new.checks)?;
-    Ok(base_domain(alloc, named, boot, q, new)?)
+    base_domain(alloc, named, boot, q, new)
 }
 
 /// CREATE DOMAIN.
@@ -298,7 +309,7 @@ pub fn create_domain(
     ensures { Steps result (outcome (create_domain boot.now q.now new.entry.base.now new.entry.not_null new.entry.default.now new.entry.checks.now) (seen named.now)) (λ changes. Ok changes.items) }
 {
     needs(named, Key::Schema(q.schema.clone()?))?;
-    Ok(domain_here(alloc, named, boot, q, new)?)
+    domain_here(alloc, named, boot, q, new)
 }
 
 // The check's name is new, else the domain is there already.
@@ -314,8 +325,10 @@ fn new_check(q: &QName, domain: &Domain, name: &Name) -> Result<(), ApplyError>
 fn with_check(domain: &Domain, name: &Name, text: &Text) -> Result<Domain, AllocError>
     ensures { IfOk result (λ d. d ≡ record domain.now { checks = insert domain.now.checks name.now text.now }) }
 {
+    let name = name.clone()?;
+    let text = text.clone()?;
     let mut domain = domain.clone()?;
-    domain.checks.put(name.clone()?, text.clone()?)?;
+    domain.checks.put(name, text)?;
     Ok(domain)
 }
 
@@ -328,8 +341,9 @@ fn checked_changes(
 ) -> Result<Vec<Change>, AllocError>
     ensures { IfOk result (λ changes. changes.items ≡ (key.UserType q.now, Some (value.Domain (record domain.now { checks = insert domain.now.checks name.now text.now }))) ∷ []) }
 {
+    let path = q.clone()?;
     let domain = with_check(domain, name, text)?;
-    one_type(alloc, q, domain)
+    one(alloc, Key::UserType(path), Value::Domain(domain))
 }
 
 // The check is made of a domain that is there.
@@ -359,5 +373,5 @@ pub fn add_domain_check(
     ensures { Steps result (outcome (add_domain_check q.now name.now text.now) (seen named.now)) (λ changes. Ok changes.items) }
 {
     let domain = needs_domain(named, q)?;
-    Ok(add_check_to(alloc, named, q, domain, name, text)?)
+    add_check_to(alloc, named, q, domain, name, text)
 }
