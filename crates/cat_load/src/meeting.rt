@@ -15,7 +15,7 @@ use cat_model::{Cause, Key, QName, TableRows, Value};
 use cat_names::DataSet;
 use cat_naming::catalogue_map;
 use copy_effects::copy_rows;
-use eng_map::NamedMap;
+use eng_map::{NamedMap, let_go_changes, let_go_key, let_go_map};
 use eng_steps::{ApplyError, one};
 use std::alloc::{AllocError, Global};
 use table_rows::table_oids;
@@ -62,7 +62,9 @@ fn rows_of(named: &NamedMap, q: &QName) -> Result<Option<TableRows>, AllocError>
     ensures { IfOk result (λ rows. rows ≡ rows_there (get named.now (key.Rows q.now))) }
 {
     let key = Key::Rows(q.clone()?);
-    copied_rows(named.get(&key))
+    let rows = copied_rows(named.get(&key));
+    let_go_key(key);
+    rows
 }
 
 // The table gets these rows.
@@ -99,7 +101,10 @@ fn add_refusal(
     ensures { OnOk result (found.new.items ≡ found.old.items ++ listed (refusal_of named.now q.now text.now)) }
 {
     match copy_rows(alloc, named, q, &[], text) {
-        Ok(_) => Ok(()),
+        Ok(changes) => {
+            let_go_changes(changes);
+            Ok(())
+        }
         Err(ApplyError::Refused(cause)) => push_cause(found, cause),
         Err(ApplyError::Memory) => Err(AllocError),
     }
@@ -215,7 +220,10 @@ fn told(named: NamedMap, fault: Option<LoadFault>) -> Result<NamedMap, LoadError
     ensures err { IfErr result (λ e. IsFault e fault) }
 {
     match fault {
-        Some(fault) => Err(LoadError::Fault(fault)),
+        Some(fault) => {
+            let_go_map(named);
+            Err(LoadError::Fault(fault))
+        }
         None => Ok(named),
     }
 }
@@ -248,6 +256,11 @@ pub fn load(alloc: Global, cat: &WellFormed, rows: &DataSet) -> Result<NamedMap,
     ensures err { IfErr result (λ e. IsFault e (rows_fault cat.now rows.now)) }
 {
     let mut named = catalogue_map(alloc, cat.rows(), rows)?;
-    let fault = catalogue_fault(alloc, &mut named, cat, rows)?;
-    told(named, fault)
+    match catalogue_fault(alloc, &mut named, cat, rows) {
+        Ok(fault) => told(named, fault),
+        Err(_) => {
+            let_go_map(named);
+            Err(LoadError::Memory)
+        }
+    }
 }

@@ -9,7 +9,7 @@ ghost use Rattle.cat_naming.specs.Types.{check_said, check_of, checks_of};
 use cat_lookups::Lookups;
 use cat_model::{Checks, Stmt};
 use cat_rows::ConstraintRow;
-use constraint_table::{only_statement, statement_text, statements_of};
+use constraint_table::{let_go_statements, only_statement, statement_text, statements_of};
 use copy_text::{Name, Text};
 use std::alloc::{AllocError, Global};
 
@@ -32,7 +32,9 @@ fn check_said(alloc: Global, text: &Text) -> Result<Option<Text>, AllocError>
 {
     let text = statement_text(alloc, text.as_bytes())?;
     let statements = statements_of(alloc, &text)?;
-    check_in(only_statement(text.len(), &statements))
+    let said = check_in(only_statement(text.len(), &statements));
+    let_go_statements(statements);
+    said
 }
 
 // The name of a check with the text between its brackets; `None` for other constraints.

@@ -4,11 +4,12 @@ ghost use Rattle.std.specs.List.{flat_map};
 ghost use Rattle.cat_names.specs.Naming.{role_entries, member_entries, database_entries, schema_entries};
 ghost use Rattle.cat_naming.specs.Roles.{role_value, member_value};
 
-use crate::entries::{Entries, push_entry, push_grants, push_owner};
+use crate::entries::{push_grants, push_owner};
 use cat_book::Book;
 use cat_model::{Encoding, Key, Membership, Object, Role, Value};
 use cat_names::GrantKind;
 use cat_rows::{AuthMembersRow, AuthidRow, DatabaseRow, NamespaceRow};
+use eng_map::{Entries, push_entry};
 use std::alloc::{AllocError, Global};
 
 // The attributes of a role.

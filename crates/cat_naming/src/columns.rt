@@ -4,11 +4,11 @@ ghost use Rattle.std.specs.List.{flat_map, slice_get};
 ghost use Rattle.std.specs.Option.{option_and_then, option_to_list};
 ghost use Rattle.cat_naming.specs.Relations.{column_of, columns_of, default_entries};
 
-use crate::entries::{Entries, push_entry};
 use crate::texts::typed;
 use cat_lookups::Lookups;
 use cat_model::{Column, Key, Value};
 use cat_rows::{AttrdefRow, AttributeRow};
+use eng_map::{Entries, push_entry};
 use row_texts::default_said;
 use std::alloc::{AllocError, Global};
 

@@ -8,10 +8,10 @@ ghost use Rattle.cat_book.specs.Paths.{schema_of, class_path_of};
 ghost use Rattle.cat_lookups.specs.Found.{constraint_of};
 ghost use Rattle.cat_naming.specs.Comments.{constraint_object, relation_object, commented_object, comment_entries};
 
-use crate::entries::{Entries, push_entry};
 use cat_lookups::Lookups;
 use cat_model::{Key, Object, QName, Value};
 use cat_rows::{ConstraintRow, DescriptionRow};
+use eng_map::{Entries, push_entry};
 use std::alloc::AllocError;
 
 /// The oids of the system tables whose rows have comments.

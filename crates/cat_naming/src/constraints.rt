@@ -7,12 +7,12 @@ ghost use Rattle.cat_model.specs.RelationEffects.{check_value};
 ghost use Rattle.constraint_table.specs.Said.{statement_said};
 ghost use Rattle.cat_naming.specs.Constraints.{constraint_value, constraint_entries, index_entry, index_entries};
 
-use crate::entries::{Entries, push_entry};
 use cat_lookups::Lookups;
 use cat_model::{Constraint, ConstraintKind, Index, Items, Key, QName, Stmt, Value};
 use cat_rows::{ConstraintRow, IndexRow};
-use constraint_table::{only_statement, statement_text, statements_of};
+use constraint_table::{let_go_statements, only_statement, statement_text, statements_of};
 use copy_text::{Name, Text};
+use eng_map::{Entries, push_entry};
 use row_texts::{IndexText, index_said};
 use std::alloc::{AllocError, Global};
 
@@ -124,7 +124,9 @@ fn value_said(alloc: Global, text: &Text) -> Result<Option<Value>, AllocError>
 {
     let text = statement_text(alloc, text.as_bytes())?;
     let statements = statements_of(alloc, &text)?;
-    value_in(alloc, only_statement(text.len(), &statements))
+    let value = value_in(alloc, only_statement(text.len(), &statements));
+    let_go_statements(statements);
+    value
 }
 
 // Adds a constraint of a table.

@@ -1,4 +1,4 @@
-//! Entries of the catalogue by names, one after another.
+//! The owners and grants of objects, as entries of the catalogue by names.
 ghost use Rattle.std.specs.Prelude.{◌≡◌, [], ◌∷◌, ◌++◌, OnOk};
 ghost use Rattle.cat_model.specs.declared.key.Key.TheVariants as keys;
 ghost use Rattle.cat_model.specs.declared.value.Value.TheVariants as values;
@@ -9,18 +9,8 @@ use cat_model::{Key, Object, Value};
 use cat_names::GrantKind;
 use cat_rows::Acl;
 use copy_text::Name;
+use eng_map::{Entries, let_go_key, push_entry};
 use std::alloc::{AllocError, Global};
-
-/// Keys with what stands under them, in the order in which rows give them.
-pub(crate) type Entries = Vec<(Key, Value)>;
-
-/// Adds a value under a key.
-pub(crate) fn push_entry(entries: &mut Entries, key: Key, value: Value) -> Result<(), AllocError>
-    ensures { OnOk result (entries.new.items ≡ entries.old.items ++ (key, value) ∷ []) }
-{
-    entries.push((key, value))?;
-    Ok(())
-}
 
 /// Adds the owner of an object.
 pub(crate) fn push_owner(
@@ -30,8 +20,14 @@ pub(crate) fn push_owner(
 ) -> Result<(), AllocError>
     ensures { OnOk result (entries.new.items ≡ entries.old.items ++ (keys.Owner object, values.Owner owner.now) ∷ []) }
 {
-    let owner = owner.clone()?;
-    push_entry(entries, Key::Owner(object), Value::Owner(owner))
+    let key = Key::Owner(object);
+    match owner.clone() {
+        Ok(owner) => push_entry(entries, key, Value::Owner(owner)),
+        Err(error) => {
+            let_go_key(key);
+            Err(error)
+        }
+    }
 }
 
 /// Adds the grants on an object of a kind.
@@ -45,6 +41,12 @@ pub(crate) fn push_grants(
 ) -> Result<(), AllocError>
     ensures { OnOk result (entries.new.items ≡ entries.old.items ++ (keys.Acl object, values.Grants (grants_of kind owner.now acl.now)) ∷ []) }
 {
-    let grants = grants_of(alloc, kind, owner, acl)?;
-    push_entry(entries, Key::Acl(object), Value::Grants(grants))
+    let key = Key::Acl(object);
+    match grants_of(alloc, kind, owner, acl) {
+        Ok(grants) => push_entry(entries, key, Value::Grants(grants)),
+        Err(error) => {
+            let_go_key(key);
+            Err(error)
+        }
+    }
 }

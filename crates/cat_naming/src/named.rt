@@ -9,28 +9,29 @@ use crate::cluster::{add_databases, add_members, add_roles, add_schemas};
 use crate::columns::add_defaults;
 use crate::comments::add_comments;
 use crate::constraints::{add_constraints, add_indexes};
-use crate::entries::Entries;
 use crate::relations::add_classes;
 use crate::sequences::{add_bodies, add_sequences};
 use crate::types::add_types;
 use cat_lookups::Lookups;
 use cat_names::DataSet;
 use cat_rows::Catalogue;
-use eng_map::NamedMap;
+use eng_map::{Entries, NamedMap, let_go_entries};
 use std::alloc::{AllocError, Global};
 
-// What the roles, memberships, databases and schemas give.
-fn cluster_entries(alloc: Global, lookups: &Lookups<'_>) -> Result<Entries, AllocError>
-    ensures { IfOk result (λ entries. entries.items ≡ cluster_entries lookups.now) }
+// Adds what the roles, memberships, databases and schemas give.
+fn add_cluster(
+    alloc: Global,
+    entries: &mut Entries,
+    lookups: &Lookups<'_>,
+) -> Result<(), AllocError>
+    ensures { OnOk result (entries.new.items ≡ entries.old.items ++ cluster_entries lookups.now) }
 {
     let cat = lookups.tables();
     let book = lookups.book();
-    let mut entries = Vec::new(alloc);
-    add_roles(&mut entries, cat.pg_authid.as_slice())?;
-    add_members(&mut entries, book, cat.pg_auth_members.as_slice())?;
-    add_databases(&mut entries, book, cat.pg_database.as_slice())?;
-    add_schemas(alloc, &mut entries, book, cat.pg_namespace.as_slice())?;
-    Ok(entries)
+    add_roles(entries, cat.pg_authid.as_slice())?;
+    add_members(entries, book, cat.pg_auth_members.as_slice())?;
+    add_databases(entries, book, cat.pg_database.as_slice())?;
+    add_schemas(alloc, entries, book, cat.pg_namespace.as_slice())
 }
 
 // Adds what the other tables give.
@@ -53,20 +54,31 @@ fn add_objects(
     add_comments(entries, lookups, cat.pg_description.as_slice())
 }
 
-// What all tables give.
-fn entries_of(alloc: Global, lookups: &Lookups<'_>, rows: &DataSet) -> Result<Entries, AllocError>
-    ensures { IfOk result (λ entries. entries.items ≡ entries_of lookups.now (rows_by_oid rows.now)) }
+// Adds what all tables give.
+fn add_entries(
+    alloc: Global,
+    entries: &mut Entries,
+    lookups: &Lookups<'_>,
+    rows: &DataSet,
+) -> Result<(), AllocError>
+    ensures { OnOk result (entries.new.items ≡ entries.old.items ++ entries_of lookups.now (rows_by_oid rows.now)) }
 {
-    let mut entries = cluster_entries(alloc, lookups)?;
-    add_objects(alloc, &mut entries, lookups, rows)?;
-    Ok(entries)
+    add_cluster(alloc, entries, lookups)?;
+    add_objects(alloc, entries, lookups, rows)
 }
 
 // The map of a catalogue, with what its rows are found by.
 fn map_of(alloc: Global, lookups: &Lookups<'_>, rows: &DataSet) -> Result<NamedMap, AllocError>
     ensures { IfOk result (λ map. map ≡ catalogue_named lookups.now (rows_by_oid rows.now)) }
 {
-    NamedMap::of(alloc, entries_of(alloc, lookups, rows)?)
+    let mut entries = Vec::new(alloc);
+    match add_entries(alloc, &mut entries, lookups, rows) {
+        Ok(()) => NamedMap::of(alloc, entries),
+        Err(error) => {
+            let_go_entries(entries);
+            Err(error)
+        }
+    }
 }
 
 /// The map of what a catalogue and the rows of its tables stand for by names, in a time that grows with them about as

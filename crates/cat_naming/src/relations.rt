@@ -8,11 +8,12 @@ ghost use Rattle.table_rows.specs.Values.{text_of};
 ghost use Rattle.cat_naming.specs.Texts.{rows_by_oid};
 
 use crate::columns::columns_of;
-use crate::entries::{Entries, push_entry, push_grants, push_owner};
+use crate::entries::{push_grants, push_owner};
 use cat_lookups::Lookups;
 use cat_model::{Items, Key, Object, QName, TableRows, Value};
 use cat_names::{DataSet, GrantKind, RelationKind, relation_kind};
 use cat_rows::ClassRow;
+use eng_map::{Entries, push_entry};
 use std::alloc::{AllocError, Global};
 
 // Adds an owner and grants.

@@ -6,10 +6,10 @@ ghost use Rattle.cat_model.specs.declared.value.Value.TheVariants as value;
 ghost use Rattle.constraint_table.specs.Sequences.{numbers};
 ghost use Rattle.cat_naming.specs.Relations.{owner_entries, sequence_entries, body_entries};
 
-use crate::entries::{Entries, push_entry};
 use cat_lookups::Lookups;
 use cat_model::{Key, QName, Sequence, SequenceKind, Value};
 use cat_rows::{RewriteRow, SequenceRow};
+use eng_map::{Entries, push_entry};
 use row_texts::{sequence_kind, view_body};
 use std::alloc::{AllocError, Global};
 

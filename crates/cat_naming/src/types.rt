@@ -5,13 +5,14 @@ ghost use Rattle.cat_model.specs.declared.key.Key.TheVariants as key;
 ghost use Rattle.cat_naming.specs.Types.{domain_of, type_value, type_rights, owned_type, type_entries};
 
 use crate::checks::checks_of;
-use crate::entries::{Entries, push_entry, push_grants, push_owner};
+use crate::entries::{push_grants, push_owner};
 use crate::texts::{default_of, typed};
 use cat_lookups::Lookups;
 use cat_model::{Domain, Key, Object, QName, Resolved, TypeName, Value};
 use cat_names::GrantKind;
 use cat_rows::TypeRow;
 use copy_text::Name;
+use eng_map::{Entries, push_entry};
 use std::alloc::{AllocError, Global};
 
 // A domain over this type.

@@ -7,7 +7,7 @@ ghost use Rattle.constraint_table.specs.Said.{statement_text, only_statement, sa
 
 use cat_model::{Items, QName, Stmt};
 use copy_text::{Name, Text};
-use ddl_read::{Located, ReadStmtsError, read_stmts};
+use ddl_read::{Located, ReadStmtsError, let_go_statements, read_stmts};
 use std::alloc::{AllocError, Global};
 
 /// What the text of a constraint says.
@@ -137,8 +137,9 @@ fn said_in(alloc: Global, text: &[u8]) -> Result<Option<ConstraintText>, AllocEr
     ensures { IfOk result (λ said. said ≡ option_and_then said_by (only_statement (length text.now) (statements_of text.now))) }
 {
     let statements = statements_of(alloc, text)?;
-    let said = said_of(alloc, text.len(), &statements)?;
-    Ok(said)
+    let said = said_of(alloc, text.len(), &statements);
+    let_go_statements(statements);
+    said
 }
 
 /// What the text of a constraint says; `None` where the text is none. Blanks and comments around are free.

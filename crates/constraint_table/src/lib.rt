@@ -12,4 +12,5 @@ pub use beside::Beside;
 pub use constraint_text::{
     ConstraintText, constraint_said, only_statement, statement_text, statements_of,
 };
+pub use ddl_read::let_go_statements;
 pub use table::Constraints;

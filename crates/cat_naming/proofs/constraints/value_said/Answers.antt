@@ -11,9 +11,9 @@ pub returns : goal.returns
 returns c =
     let of_text = c.in_ok-text.ensures ∙ ap statement_text c.as_bytes.ensures.value in
     let long : c.len.result ≡ length c.in_ok-text.text.items = omega (arith, c.in_ok-text.text.ok.0, c.len.ensures) in
-    subst (λ (o : Option Stmt). IfOk c.value_in.result (λ value. value ≡ option_and_then constraint_value o))
+    subst (λ (o : Option Stmt). IfOk c.value_in-value.result (λ value. value ≡ option_and_then constraint_value o))
     (c.only_statement.ensures
     ∙ ap (λ ss. only_statement c.len.result (Ok ss)) c.deref-2.ensures.value
     ∙ c.in_ok-statements.ensures c.len.result
     ∙ ap₂ (λ (n : ℕ) (t : Bytes). only_statement n (statements_of t)) (long ∙ ap length of_text) (c.deref.ensures.value ∙ of_text))
-    c.value_in.ensures
+    c.value_in-value.ensures
