@@ -10,6 +10,7 @@ use key_sets::KeySet;
 use std::alloc::{AllocError, Global};
 
 // The key of a text's first line in the column at a place, and what stands behind the line.
+#[inline(always)]
 fn first_key<'t>(
     columns: &TableColumns,
     place: usize,

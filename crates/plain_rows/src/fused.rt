@@ -64,6 +64,7 @@ fn fitting_piece<'t>(
 }
 
 /// The key of a text's first line in the column at a place, and what stands behind the line, where the line fits the table.
+#[inline(always)]
 pub(crate) fn fitting_key<'t>(
     columns: &TableColumns,
     place: usize,

@@ -299,6 +299,7 @@ pub fn key_set<'t>(
 }
 
 // Whether a key is one of the parents', or null.
+#[inline(always)]
 pub(crate) fn is_among(parents: &KeySet<'_>, key: Option<&[u8]>) -> bool
     ensures { IsTrue result → (all more : List (Option (List ℕ))) → AreAmong all parents.now → all_among all more ≡ true → all_among all (option_map (λ t. t.now) key.entry ∷ more) ≡ true }
 {
