@@ -31,6 +31,10 @@ counted_reading X (Loop path) r r' i i' w w' p p' l l' c e a d b = alike r r' i 
 counted_reading X (NoMatch pattern) r r' i i' w w' p p' l l' c e a d b = alike r r' i i' w w' p p' l l' c e a d b
 counted_reading X Memory r r' i i' w w' p p' l l' c e a d b = alike r r' i i' w w' p p' l l' c e a d b
 
+-- the same of a step that read nothing and failed
+pub reading_failed : {X : Type 0} (r : Result X Outcome) (o : Outcome) (n i w p l : ℕ) → r ≡ Err o → CountsRead r n n → Counted o (counts n i w p l) (counts n i w p l)
+reading_failed {X = X} r o n i w p l e c = counted_reading X o n n i i w w p p l l (subst (λ (s : Result X Outcome). CountsRead s n n) e c) refl refl refl refl
+
 -- a step that only reads standard input
 pub counted_input : (X : Type 0) (o : Outcome) (r r' i i' w w' p p' l l' : ℕ) → r' ≡ r → CountsRead {X = X} (Err o) i i' → w' ≡ w → p' ≡ p → l' ≡ l → Counted o (counts r i w p l) (counts r' i' w' p' l')
 counted_input X Done r r' i i' w w' p p' l l' e c a d b = alike r r' i i' w w' p p' l l' e c a d b

@@ -4,6 +4,7 @@ use Rattle.std.proofs.lemmas.List.{take-append-drop}
 use Rattle.std.proofs.lemmas.Bool.{le-leb}
 use Rattle.dump_ports.specs.Tree.{Tree}
 use Rattle.cat_model.specs.Values.{Bytes}
+use Rattle.ddl_read.specs.declared.located.Located.{Located}
 use Rattle.tool_words.specs.declared.outcome.Limit.{Limit}
 use Rattle.tool_words.specs.declared.outcome.Limit.TheVariants.{Script}
 use Rattle.tool_words.specs.declared.outcome.Outcome.{Outcome}
@@ -14,7 +15,7 @@ use Rattle.tool_words.specs.declared.words.ScriptSource.TheVariants.{File, Input
 use Rattle.tool_words.specs.Answers.{◌>>=◌, IsDue, Gives, CountsRead}
 use Rattle.tool_words.specs.Words.{is_input, asks_for_input, asked_input, words_asked, reads_input}
 use Rattle.tool_words.proofs.Dues.{due_map}
-use Rattle.dump_tools.specs.Due.{script_limit, input_of, source_of, text_due, psql_due, IsCarriedOut, WasDue, counts, CountsStep}
+use Rattle.dump_tools.specs.Due.{script_limit, input_of, source_of, script_read, statements_due, text_due, psql_due, IsCarriedOut, WasDue, counts, CountsStep}
 use Rattle.dump_tools.specs.Inputs.{where_read, TellsLeft, HasTaken, TakesPart}
 use Rattle.dump_tools.specs.Runs.{IsEarly, StepTakes, read_by}
 use Rattle.dump_tools.proofs.Counting.{alike, counted_reading, counted_input}
@@ -146,4 +147,23 @@ psql_done folder script stop tree input text answer start between after printed 
   is_due = psql_read folder script stop tree input text e ∙ w.is_due;
   answers = w.answers;
   carried = subst (λ (s : Option Tree). IsCarriedOut w.plan s after printed printed told told') k w.carried;
+}
+
+-- ---- and once its statements are
+
+pub text_read : (folder : Bytes) (stop : Bool) (text : Bytes) (tree : Tree) (statements : List Located) → script_read text ≡ Ok statements → text_due folder stop text tree ≡ statements_due folder stop statements tree
+unfolding text_due
+text_read folder stop text tree statements e = ap (λ (r : Result (List Located) Outcome). r >>= λ statements. statements_due folder stop statements tree) e
+
+pub text_refused : (outcome : Outcome) (folder : Bytes) (stop : Bool) (text : Bytes) (tree : Tree) → IsDue outcome (script_read text) → IsDue outcome (text_due folder stop text tree)
+unfolding text_due
+text_refused outcome folder stop text tree d =
+    due_map outcome (script_read text) (script_read text >>= λ statements. statements_due folder stop statements tree) (λ o e. ap (λ (r : Result (List Located) Outcome). r >>= λ statements. statements_due folder stop statements tree) e) d
+
+pub text_done : (folder : Bytes) (stop : Bool) (text : Bytes) (tree : Tree) (statements : List Located) (answer : Outcome) (before after : Option Tree) (printed told told' : Option Bytes) → script_read text ≡ Ok statements → WasDue (statements_due folder stop statements tree) answer before after printed printed told told' → WasDue (text_due folder stop text tree) answer before after printed printed told told'
+text_done folder stop text tree statements answer before after printed told told' e w = record {
+  plan = w.plan;
+  is_due = text_read folder stop text tree statements e ∙ w.is_due;
+  answers = w.answers;
+  carried = w.carried;
 }

@@ -51,7 +51,6 @@ use Rattle.exports.specs.Exports.{Exported, formed_of, export_of}
 use Rattle.schema_folders.specs.Statements.{are_taken}
 use Rattle.dump_tools.specs.declared.psql.Work.{Work}
 use Rattle.dump_tools.specs.declared.psql.Work.TheVariants as work
-use Rattle.dump_tools.specs.declared.psql.SchemaWork.{SchemaWork}
 use Rattle.dump_tools.specs.declared.psql.ScriptWork.{ScriptWork}
 use Rattle.schema_folders.specs.Folder.{opening_in, cells_of_row, schemas_alone, Holds, folder_saved}
 use Rattle.tool_words.specs.Lines.{Appends}
@@ -142,6 +141,10 @@ plan_with folder stop statements export (Some rows) = Ok (Applies (record { fold
 -- what psql does with a script's statements and a folder's export
 unfoldable pub plan_for : Bytes → Bool → List Located → Exported → Result Plan Outcome
 plan_for folder stop statements export = plan_with folder stop statements export (schemas_for stop statements export.cat)
+
+-- once the statements of the script are read: the folder
+abbrev pub statements_due : Bytes → Bool → List Located → Tree → Result Plan Outcome
+statements_due folder stop statements tree = export_of folder tree >>= λ export. plan_for folder stop statements export
 
 -- once the text of the script is read: its statements, then the folder
 unfoldable pub text_due : Bytes → Bool → Bytes → Tree → Result Plan Outcome
@@ -249,27 +252,28 @@ asked_due (Compare first second) moment tree input = compare_due first second tr
 abbrev pub due : List Bytes → Moment → Tree → Bytes → Result Plan Outcome
 due words moment tree input = words_asked words >>= λ asked. asked_due asked moment tree input
 
--- the work that was read, as a script of schemas for a folder
-abbrev pub application_of : Bytes → SchemaWork → Application
-application_of folder work = record { folder = folder; statements = work.statements.items; rows = work.schemas }
+-- a script of schemas for a folder with these schemas
+abbrev pub application_of : Bytes → List Located → List SchemaRow → Application
+application_of folder statements rows = record { folder = folder; statements = statements; rows = rows }
 
--- and as one to run on an opening
-abbrev pub running_of : Bytes → ScriptWork → Running
-running_of folder work = record { folder = folder; boot = work.boot; stop = work.stop; statements = work.statements.items; opening = work.opening }
+-- and one to run on an opening
+abbrev pub running_of : Bytes → Bool → List Located → ScriptWork → Running
+running_of folder stop statements work = record { folder = folder; boot = work.boot; stop = stop; statements = statements; opening = work.opening }
 
-abbrev pub plan_of : Bytes → Work → Plan
-plan_of folder (work.Schemas schemas) = Applies (application_of folder schemas)
-plan_of folder (work.Script script) = Runs (running_of folder script)
+-- the statements with what was read of the folder
+abbrev pub plan_of : Bytes → Bool → List Located → Work → Plan
+plan_of folder stop statements (work.Schemas rows) = Applies (application_of folder statements rows)
+plan_of folder stop statements (work.Script script) = Runs (running_of folder stop statements script)
 
 -- statements that leave a catalogue in order, as those that are read do
 abbrev pub AreFit : List Located → Type 0
 AreFit statements = AllByRecursion (IsFit grammar) (statements_in statements)
 
--- The statements of work on schemas are all of kinds that are carried out on schemas alone. Those of any other script are such
--- as are read, and its role is the opening's.
-abbrev pub IsTaken : Work → Type 0
-IsTaken (work.Schemas schemas) = are_taken schemas.statements.items ≡ true
-IsTaken (work.Script script) = (boot_role script.opening.cat ≡ Some script.boot) × AreFit script.statements.items
+-- The statements of work on schemas are all of kinds that are carried out on schemas alone. The role of any other script is
+-- the opening's.
+abbrev pub IsTaken : List Located → Work → Type 0
+IsTaken statements (work.Schemas rows) = are_taken statements ≡ true
+IsTaken statements (work.Script script) = boot_role script.opening.cat ≡ Some script.boot
 
 -- ---- what stands once a plan is carried out
 

@@ -1,16 +1,15 @@
 //! What is to be put out of a dump.
-ghost use Rattle.std.specs.Prelude.{◌≡◌, Option, Some, None, option_map, IfOk, IfSome};
+ghost use Rattle.std.specs.Prelude.{◌≡◌, Option, Some, IfOk, IfSome};
 ghost use Rattle.dump_ports.specs.Tree.{Tree};
 ghost use Rattle.tool_words.specs.Answers.{Gives, CountsRead};
 ghost use Rattle.cat_model.specs.Values.{Bytes};
 ghost use Rattle.dump_plans.specs.Choosing.{select_of};
-ghost use Rattle.dump_toc.specs.Session.{current_database};
 ghost use Rattle.dump_targets.specs.Targets.{IsOutside, IsFormOutside};
 ghost use Rattle.dump_tools.specs.Due.{version, selected_due, chosen_due, dump_due, code_of, form_of, head_of, database_name};
 ghost use Rattle.dump_tools.specs.Works.{plan_of_work, IsReady, IsFew};
 
 use cat_model::What;
-use cat_rows::{Catalogue, DatabaseRow};
+use cat_rows::Catalogue;
 use command_line::{Choice, Format};
 use copy_text::Text;
 use dump_outputs::DumpForm;
@@ -57,21 +56,17 @@ fn code_of(form: &DumpForm) -> u8
     }
 }
 
-/// The current database.
-fn current_database(cat: &Catalogue) -> Option<&DatabaseRow>
-    ensures { option_map (λ d. d.now) result ≡ current_database cat.now }
-{
-    cat.pg_database.as_slice().iter().find(|row| row.datcurrent)
-}
-
 /// The name of the current database.
 fn database_name(alloc: Global, cat: &Catalogue) -> Result<Text, AllocError>
     ensures { IfOk result (λ name. name ≡ database_name cat.now) }
 {
-    match current_database(cat) {
-        Some(row) => text_of(alloc, row.datname.as_bytes()),
-        None => empty_text(alloc),
+    let rows = cat.pg_database.as_slice();
+    for row in rows {
+        if row.datcurrent {
+            return text_of(alloc, row.datname.as_bytes());
+        }
     }
+    empty_text(alloc)
 }
 
 /// The head of a dump.
@@ -107,10 +102,10 @@ fn form_of(format: Format, target: Option<Text>, owners: bool) -> Option<DumpFor
     match format {
         Format::Plain => Some(DumpForm::Script { target, owners }),
         Format::Custom => Some(DumpForm::Custom { target }),
-        Format::Directory => {
-            let folder = target?;
-            Some(DumpForm::Directory { folder })
-        }
+        Format::Directory => match target {
+            Some(folder) => Some(DumpForm::Directory { folder }),
+            None => None,
+        },
     }
 }
 
@@ -214,5 +209,7 @@ pub fn dump_work<F: Files>(
     ensures write_count { F.write_faults files.new ≡ F.write_faults files.old }
 {
     let cat = read_formed(alloc, files, &asked.folder)?;
-    chosen_work(alloc, files, asked, &cat, moment)
+    let work = chosen_work(alloc, files, asked, &cat, moment);
+    drop(cat);
+    work
 }

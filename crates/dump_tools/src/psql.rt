@@ -1,7 +1,8 @@
 //! psql: a script applied to a folder.
-ghost use Rattle.std.specs.Prelude.{◌≡◌, ℕ, ◌⊎◌, List, Option, Some, None, true, false, IfOk, IfErr, IfSome, OnOk, OnErr, Result, Ok, Err};
+ghost use Rattle.std.specs.Prelude.{◌≡◌, ℕ, ◌⊎◌, Bool, List, Option, Some, None, true, false, IfOk, IfErr, IfSome, OnOk, OnErr, Result, Ok, Err};
 ghost use Rattle.std.specs.Result.{result_ok};
 ghost use Rattle.tool_words.specs.declared.words.Teller.{Teller};
+ghost use Rattle.ddl_read.specs.declared.located.Located.{Located as TheLocated};
 ghost use Rattle.dump_ports.specs.Tree.{Tree};
 ghost use Rattle.cat_model.specs.Values.{Bytes};
 ghost use Rattle.cat_names.specs.Naming.{boot as boot_role};
@@ -9,7 +10,7 @@ ghost use Rattle.tool_words.specs.Answers.{Gives, CountsRead, IsDue, IsLate, IsR
 ghost use Rattle.tool_words.specs.Words.{is_input};
 ghost use Rattle.schema_folders.specs.Statements.{are_taken};
 ghost use Rattle.openings.specs.Openings.{opened};
-ghost use Rattle.dump_tools.specs.Due.{AreFit, Applies, Runs, application_of, running_of, plan_of, IsTaken, schemas_for, IsFinal, answer_of, answer_of_run, stop_answer, script_read, running, runs_as, plan_with, plan_for, text_due, psql_due, IsAnswerDue, IsUnread, IsCarriedOut, WasDue, counts, CountsStep, CountsWrites};
+ghost use Rattle.dump_tools.specs.Due.{AreFit, Applies, Runs, application_of, running_of, plan_of, IsTaken, schemas_for, IsFinal, answer_of, answer_of_run, stop_answer, script_read, running, runs_as, plan_with, plan_for, text_due, statements_due, psql_due, IsAnswerDue, IsUnread, IsCarriedOut, WasDue, counts, CountsStep, CountsWrites};
 ghost use Rattle.tool_words.specs.Lines.{Appends, AppendsPart};
 ghost use Rattle.dump_ports.specs.Faults.{CountsFault};
 ghost use Rattle.dump_tools.specs.Inputs.{where_read, TellsLeft};
@@ -31,27 +32,17 @@ use script_runs::{ScriptRun, boot_role, run_opening};
 use std::alloc::{AllocError, Global};
 use tool_words::{Outcome, ScriptSource, Stop};
 
-/// A script of schemas alone, and the schemas of a folder whose only objects they are.
-#[derive(Drop)]
-struct SchemaWork {
-    statements: Vec<Located>,
-    schemas: Schemas,
-}
-
-/// Any other script, the opening on which it is run, the role that owns what it creates, and whether it ends at the first
-/// statement that is refused.
+/// The opening on which a script is run, and the role that owns what it creates.
 #[derive(Drop)]
 struct ScriptWork {
-    statements: Vec<Located>,
     opening: Opening,
     boot: Name,
-    stop: bool,
 }
 
-/// What psql carries out.
+/// What the statements of a script are carried out on: the schemas of a folder whose only objects they are, or its opening.
 #[derive(Drop)]
 enum Work {
-    Schemas(SchemaWork),
+    Schemas(Schemas),
     Script(ScriptWork),
 }
 
@@ -91,112 +82,96 @@ fn boot_of(opening: &Opening) -> Result<Option<Name>, AllocError>
 }
 
 /// The work of a script on an opening, where the role is there.
-fn work_with(
-    statements: Vec<Located>,
-    stop: bool,
-    opening: Opening,
-    boot: Option<Name>,
-) -> Result<Work, Outcome>
-    requires role { boot ≡ boot_role opening.cat }
-    requires fit { AreFit statements.items }
-    ensures due { (folder : Bytes) → Gives (plan_of folder) result (runs_as folder stop statements.items opening boot) }
-    ensures taken { IfOk result IsTaken }
+fn work_with(opening: Opening, boot: Option<Name>) -> Result<Work, Outcome>
+    requires { boot ≡ boot_role opening.cat }
+    ensures due { (folder : Bytes) (stop : Bool) (statements : List TheLocated) → Gives (plan_of folder stop statements) result (runs_as folder stop statements opening boot) }
+    ensures taken { (statements : List TheLocated) → IfOk result (IsTaken statements) }
     ensures count { (n : ℕ) → CountsRead result n n }
 {
     match boot {
-        Some(boot) => Ok(Work::Script(ScriptWork {
-            statements,
-            opening,
-            boot,
-            stop,
-        })),
-        None => Err(Outcome::OutOfProfile(What::Unbuilt)),
+        Some(boot) => Ok(Work::Script(ScriptWork { opening, boot })),
+        None => {
+            drop(opening);
+            Err(Outcome::OutOfProfile(What::Unbuilt))
+        }
     }
 }
 
 /// The work of a script on an opening.
-fn opening_work(statements: Vec<Located>, stop: bool, opening: Opening) -> Result<Work, Outcome>
-    requires { AreFit statements.items }
-    ensures due { (folder : Bytes) → Gives (plan_of folder) result (runs_as folder stop statements.items opening (boot_role opening.cat)) }
-    ensures taken { IfOk result IsTaken }
+fn opening_work(opening: Opening) -> Result<Work, Outcome>
+    ensures due { (folder : Bytes) (stop : Bool) (statements : List TheLocated) → Gives (plan_of folder stop statements) result (runs_as folder stop statements opening (boot_role opening.cat)) }
+    ensures taken { (statements : List TheLocated) → IfOk result (IsTaken statements) }
     ensures count { (n : ℕ) → CountsRead result n n }
 {
-    let boot = boot_of(&opening)?;
-    work_with(statements, stop, opening, boot)
-}
-
-/// The work of a script on an export, whose rows have to meet their tables.
-fn export_work(
-    alloc: Global,
-    statements: Vec<Located>,
-    stop: bool,
-    export: Export,
-) -> Result<Work, Outcome>
-    requires { AreFit statements.items }
-    ensures due { (folder : Bytes) → Gives (plan_of folder) result (running folder stop statements.items export) }
-    ensures taken { IfOk result IsTaken }
-    ensures count { (n : ℕ) → CountsRead result n n }
-{
-    let opening = open_export(alloc, export)?;
-    opening_work(statements, stop, opening)
-}
-
-/// The work of a script on an export, where its schemas are known to be all that counts, or not.
-fn work_of(
-    alloc: Global,
-    statements: Vec<Located>,
-    stop: bool,
-    export: Export,
-    schemas: Option<Schemas>,
-) -> Result<Work, Outcome>
-    requires taken { IfSome schemas (λ _. are_taken statements.items ≡ true) }
-    requires fit { AreFit statements.items }
-    ensures due { (folder : Bytes) → Gives (plan_of folder) result (plan_with folder stop statements.items export schemas) }
-    ensures taken { IfOk result IsTaken }
-    ensures count { (n : ℕ) → CountsRead result n n }
-{
-    match schemas {
-        Some(schemas) => Ok(Work::Schemas(SchemaWork {
-            statements,
-            schemas,
-        })),
-        None => export_work(alloc, statements, stop, export),
+    match boot_of(&opening) {
+        Ok(boot) => work_with(opening, boot),
+        Err(AllocError) => {
+            drop(opening);
+            Err(Outcome::Memory)
+        }
     }
 }
 
-/// What psql does with the statements of a script and the export of a folder.
+/// The work of a script on an export, whose rows have to meet their tables.
+fn export_work(alloc: Global, export: Export) -> Result<Work, Outcome>
+    ensures due { (folder : Bytes) (stop : Bool) (statements : List TheLocated) → Gives (plan_of folder stop statements) result (running folder stop statements export) }
+    ensures taken { (statements : List TheLocated) → IfOk result (IsTaken statements) }
+    ensures count { (n : ℕ) → CountsRead result n n }
+{
+    let opening = open_export(alloc, export)?;
+    opening_work(opening)
+}
+
+/// The work of a script on an export, where its schemas are known to be all that counts, or not.
+fn work_of(alloc: Global, export: Export, schemas: Option<Schemas>) -> Result<Work, Outcome>
+    ensures due { (folder : Bytes) (stop : Bool) (statements : List TheLocated) → Gives (plan_of folder stop statements) result (plan_with folder stop statements export schemas) }
+    ensures taken { (statements : List TheLocated) → IfSome schemas (λ _. are_taken statements ≡ true) → IfOk result (IsTaken statements) }
+    ensures count { (n : ℕ) → CountsRead result n n }
+{
+    match schemas {
+        Some(schemas) => {
+            drop(export);
+            Ok(Work::Schemas(schemas))
+        }
+        None => export_work(alloc, export),
+    }
+}
+
+/// What psql carries out the statements of a script on, where this is the export of a folder.
 #[tactic(auto, unfolding(crate::specs::Due::plan_for))]
 fn plan_work(
     alloc: Global,
-    statements: Vec<Located>,
+    statements: &[Located],
     stop: bool,
     export: Export,
 ) -> Result<Work, Outcome>
-    requires { AreFit statements.items }
-    ensures due { (folder : Bytes) → Gives (plan_of folder) result (plan_for folder stop statements.items export) }
-    ensures taken { IfOk result IsTaken }
+    ensures due { (folder : Bytes) → Gives (plan_of folder stop statements.now) result (plan_for folder stop statements.now export) }
+    ensures taken { IfOk result (IsTaken statements.now) }
     ensures count { (n : ℕ) → CountsRead result n n }
 {
-    let schemas = schemas_for(alloc, &statements, stop, export.catalogue().rows())?;
-    work_of(alloc, statements, stop, export, schemas)
+    match schemas_for(alloc, statements, stop, export.catalogue().rows()) {
+        Ok(schemas) => work_of(alloc, export, schemas),
+        Err(AllocError) => {
+            drop(export);
+            Err(Outcome::Memory)
+        }
+    }
 }
 
-/// Reads the statements of a script, then the folder.
-#[tactic(auto, unfolding(crate::specs::Due::text_due))]
+/// Reads the folder to which the statements of a script are applied.
 fn read_plan<F: Files>(
     alloc: Global,
     files: &mut F,
     folder: &Text,
     stop: bool,
-    text: &[u8],
+    statements: &[Located],
 ) -> Result<Work, Outcome>
-    ensures due { (tree : Tree) → F.tree files.old ≡ Some tree → Gives (plan_of folder.now) result (text_due folder.now stop text.now tree) }
-    ensures taken { IfOk result IsTaken }
+    ensures due { (tree : Tree) → F.tree files.old ≡ Some tree → Gives (plan_of folder.now stop statements.now) result (statements_due folder.now stop statements.now tree) }
+    ensures taken { IfOk result (IsTaken statements.now) }
     ensures kept { F.tree files.new ≡ F.tree files.old }
     ensures read_count { CountsRead result (F.read_faults files.old) (F.read_faults files.new) }
     ensures write_count { F.write_faults files.new ≡ F.write_faults files.old }
 {
-    let statements = read_statements(alloc, text)?;
     let export = read_export(alloc, files, folder)?;
     plan_work(alloc, statements, stop, export)
 }
@@ -207,24 +182,21 @@ fn apply_schemas<F: Files, E: Sink>(
     files: &mut F,
     err: &mut E,
     folder: &Text,
-    work: SchemaWork,
+    statements: &[Located],
+    mut schemas: Schemas,
 ) -> Result<Outcome, Outcome>
-    requires { are_taken work.statements.items ≡ true }
+    requires { are_taken statements.now ≡ true }
     ensures answers { IfOk result (λ answer. answer ≡ Outcome.Done) }
     ensures ends { IfOk result IsFinal }
-    ensures ok { OnOk result ((printed : Option (List ℕ)) → IsCarriedOut (Applies (application_of folder.now work)) (F.tree files.old) (F.tree files.new) printed printed (E.written err.old) (E.written err.new)) }
+    ensures ok { OnOk result ((printed : Option (List ℕ)) → IsCarriedOut (Applies (application_of folder.now statements.now schemas)) (F.tree files.old) (F.tree files.new) printed printed (E.written err.old) (E.written err.new)) }
     ensures late { IfErr result IsLate }
     ensures unread { IfErr result IsUnread }
-    ensures cut { OnErr result ((teller : Teller) (left printed : Option (List ℕ)) → HasCut None teller (Ok (Applies (application_of folder.now work))) (world (F.tree files.old) left printed (E.written err.old)) (world (F.tree files.new) left printed (E.written err.new))) }
+    ensures cut { OnErr result ((teller : Teller) (left printed : Option (List ℕ)) → HasCut None teller (Ok (Applies (application_of folder.now statements.now schemas))) (world (F.tree files.old) left printed (E.written err.old)) (world (F.tree files.new) left printed (E.written err.new))) }
     ensures silent { IfErr result (λ outcome. IsTold outcome → E.written err.new ≡ E.written err.old) }
     ensures read_count { F.read_faults files.new ≡ F.read_faults files.old }
     ensures write_count { CountsWrites result (F.write_faults files.old) (F.write_faults files.new) (E.faults err.old) (E.faults err.new) }
 {
-    let SchemaWork {
-        statements,
-        mut schemas,
-    } = work;
-    let report = run_script(alloc, &mut schemas, &statements)?;
+    let report = run_script(alloc, &mut schemas, statements)?;
     let namespaces = namespaces_text(alloc, schemas)?;
     write_folder(alloc, files, folder, &namespaces)?;
     write_report(err, &report, Outcome::Done)
@@ -266,28 +238,25 @@ fn run_script_work<F: Files, E: Sink>(
     files: &mut F,
     err: &mut E,
     folder: &Text,
+    statements: &[Located],
+    stop: bool,
     work: ScriptWork,
 ) -> Result<Outcome, Outcome>
     requires role { boot_role work.opening.cat ≡ Some work.boot }
-    requires fit { AreFit work.statements.items }
-    ensures answers { IfOk result (λ answer. answer ≡ answer_of_run (running_of folder.now work)) }
+    requires fit { AreFit statements.now }
+    ensures answers { IfOk result (λ answer. answer ≡ answer_of_run (running_of folder.now stop statements.now work)) }
     ensures ends { IfOk result IsFinal }
-    ensures ok { OnOk result ((printed : Option (List ℕ)) → IsCarriedOut (Runs (running_of folder.now work)) (F.tree files.old) (F.tree files.new) printed printed (E.written err.old) (E.written err.new)) }
+    ensures ok { OnOk result ((printed : Option (List ℕ)) → IsCarriedOut (Runs (running_of folder.now stop statements.now work)) (F.tree files.old) (F.tree files.new) printed printed (E.written err.old) (E.written err.new)) }
     ensures unread { IfErr result IsUnread }
-    ensures refused { IfErr result (λ outcome. IsAnswerDue outcome (Ok (Runs (running_of folder.now work)))) }
+    ensures refused { IfErr result (λ outcome. IsAnswerDue outcome (Ok (Runs (running_of folder.now stop statements.now work)))) }
     ensures kept { IfErr result (λ outcome. IsRefusal outcome → F.tree files.new ≡ F.tree files.old) }
-    ensures cut { OnErr result ((teller : Teller) (left printed : Option (List ℕ)) → HasCut None teller (Ok (Runs (running_of folder.now work))) (world (F.tree files.old) left printed (E.written err.old)) (world (F.tree files.new) left printed (E.written err.new))) }
+    ensures cut { OnErr result ((teller : Teller) (left printed : Option (List ℕ)) → HasCut None teller (Ok (Runs (running_of folder.now stop statements.now work))) (world (F.tree files.old) left printed (E.written err.old)) (world (F.tree files.new) left printed (E.written err.new))) }
     ensures silent { IfErr result (λ outcome. IsTold outcome → E.written err.new ≡ E.written err.old) }
     ensures read_count { F.read_faults files.new ≡ F.read_faults files.old }
     ensures write_count { CountsWrites result (F.write_faults files.old) (F.write_faults files.new) (E.faults err.old) (E.faults err.new) }
 {
-    let ScriptWork {
-        statements,
-        opening,
-        boot,
-        stop,
-    } = work;
-    let run = run_opening(alloc, opening, boot, &statements, stop)?;
+    let ScriptWork { opening, boot } = work;
+    let run = run_opening(alloc, opening, boot, statements, stop)?;
     match write_texts(alloc, files, folder, &run.texts) {
         Ok(()) => tell_run(err, run),
         Err(outcome) => {
@@ -297,29 +266,34 @@ fn run_script_work<F: Files, E: Sink>(
     }
 }
 
-/// Carries out what psql has to do, writes the folder, then the report.
+/// Carries out the statements of a script, writes the folder, then the report.
 fn carry_out<F: Files, E: Sink>(
     alloc: Global,
     files: &mut F,
     err: &mut E,
     folder: &Text,
+    statements: &[Located],
+    stop: bool,
     work: Work,
 ) -> Result<Outcome, Outcome>
-    requires taken { IsTaken work }
-    ensures answers { IfOk result (λ answer. answer ≡ answer_of (plan_of folder.now work)) }
+    requires taken { IsTaken statements.now work }
+    requires fit { AreFit statements.now }
+    ensures answers { IfOk result (λ answer. answer ≡ answer_of (plan_of folder.now stop statements.now work)) }
     ensures ends { IfOk result IsFinal }
-    ensures ok { OnOk result ((printed : Option (List ℕ)) → IsCarriedOut (plan_of folder.now work) (F.tree files.old) (F.tree files.new) printed printed (E.written err.old) (E.written err.new)) }
+    ensures ok { OnOk result ((printed : Option (List ℕ)) → IsCarriedOut (plan_of folder.now stop statements.now work) (F.tree files.old) (F.tree files.new) printed printed (E.written err.old) (E.written err.new)) }
     ensures unread { IfErr result IsUnread }
-    ensures refused { IfErr result (λ outcome. IsAnswerDue outcome (Ok (plan_of folder.now work))) }
+    ensures refused { IfErr result (λ outcome. IsAnswerDue outcome (Ok (plan_of folder.now stop statements.now work))) }
     ensures kept { IfErr result (λ outcome. IsRefusal outcome → F.tree files.new ≡ F.tree files.old) }
-    ensures cut { OnErr result ((teller : Teller) (left printed : Option (List ℕ)) → HasCut None teller (Ok (plan_of folder.now work)) (world (F.tree files.old) left printed (E.written err.old)) (world (F.tree files.new) left printed (E.written err.new))) }
+    ensures cut { OnErr result ((teller : Teller) (left printed : Option (List ℕ)) → HasCut None teller (Ok (plan_of folder.now stop statements.now work)) (world (F.tree files.old) left printed (E.written err.old)) (world (F.tree files.new) left printed (E.written err.new))) }
     ensures silent { IfErr result (λ outcome. IsTold outcome → E.written err.new ≡ E.written err.old) }
     ensures read_count { F.read_faults files.new ≡ F.read_faults files.old }
     ensures write_count { CountsWrites result (F.write_faults files.old) (F.write_faults files.new) (E.faults err.old) (E.faults err.new) }
 {
     match work {
-        Work::Schemas(work) => apply_schemas(alloc, files, err, folder, work),
-        Work::Script(work) => run_script_work(alloc, files, err, folder, work),
+        Work::Schemas(schemas) => apply_schemas(alloc, files, err, folder, statements, schemas),
+        Work::Script(script) => {
+            run_script_work(alloc, files, err, folder, statements, stop, script)
+        }
     }
 }
 
@@ -364,6 +338,30 @@ fn apply<F: Files, E: Sink>(
     ensures silent { IfErr result (λ outcome. IsTold outcome → E.written err.new ≡ E.written err.old) }
     ensures counted { (inputs prints : ℕ) → CountsStep result (counts (F.read_faults files.old) inputs (F.write_faults files.old) prints (E.faults err.old)) (counts (F.read_faults files.new) inputs (F.write_faults files.new) prints (E.faults err.new)) }
 {
-    let work = read_plan(alloc, files, folder, stop, text)?;
-    carry_out(alloc, files, err, folder, work)
+    let statements = read_statements(alloc, text)?;
+    let answer = apply_statements(alloc, files, err, folder, stop, &statements);
+    drop(statements);
+    answer
+}
+
+/// Applies the statements of a script to a folder.
+fn apply_statements<F: Files, E: Sink>(
+    alloc: Global,
+    files: &mut F,
+    err: &mut E,
+    folder: &Text,
+    stop: bool,
+    statements: &[Located],
+) -> Result<Outcome, Outcome>
+    requires { AreFit statements.now }
+    ensures ends { IfOk result IsFinal }
+    ensures done { IfOk result (λ answer. (tree : Tree) (printed : Option (List ℕ)) → F.tree files.old ≡ Some tree → WasDue (statements_due folder.now stop statements.now tree) answer (F.tree files.old) (F.tree files.new) printed printed (E.written err.old) (E.written err.new)) }
+    ensures refused { IfErr result (λ outcome. (tree : Tree) → F.tree files.old ≡ Some tree → IsAnswerDue outcome (statements_due folder.now stop statements.now tree)) }
+    ensures kept { IfErr result (λ outcome. IsRefusal outcome → F.tree files.new ≡ F.tree files.old) }
+    ensures cut { OnErr result ((teller : Teller) (tree : Tree) (left printed : Option (List ℕ)) → F.tree files.old ≡ Some tree → HasCut None teller (statements_due folder.now stop statements.now tree) (world (F.tree files.old) left printed (E.written err.old)) (world (F.tree files.new) left printed (E.written err.new))) }
+    ensures silent { IfErr result (λ outcome. IsTold outcome → E.written err.new ≡ E.written err.old) }
+    ensures counted { (inputs prints : ℕ) → CountsStep result (counts (F.read_faults files.old) inputs (F.write_faults files.old) prints (E.faults err.old)) (counts (F.read_faults files.new) inputs (F.write_faults files.new) prints (E.faults err.new)) }
+{
+    let work = read_plan(alloc, files, folder, stop, statements)?;
+    carry_out(alloc, files, err, folder, statements, stop, work)
 }

@@ -158,7 +158,9 @@ fn compare_export<F: Files>(
     ensures write_count { F.write_faults files.new ≡ F.write_faults files.old }
 {
     let one = open_export(alloc, export)?;
-    compare_with(alloc, files, first, &one, second)
+    let answer = compare_with(alloc, files, first, &one, second);
+    drop(one);
+    answer
 }
 
 /// Compares the second folder with what was read of the first. Where both hold the same texts nothing is read of the second
@@ -200,7 +202,9 @@ fn compare_second<F: Files>(
     ensures write_count { F.write_faults files.new ≡ F.write_faults files.old }
 {
     let other = read_opening(alloc, files, second)?;
-    compare_both(alloc, one, &other)
+    let answer = compare_both(alloc, one, &other);
+    drop(other);
+    answer
 }
 
 /// Compares two openings, and tells the least key at which they differ.

@@ -9,6 +9,6 @@ use Rattle.dump_tools.proofs.dumps.dump_work.Goals as goal
 -- what is due of the catalogue is due of the folder
 pub returns-clause-due : goal.returns-clause-due
 returns-clause-due g c = λ tree known.
-    subst (λ (due : Result Plan Outcome). Gives (plan_of_work tree) c.chosen_work.result due)
+    subst (λ (due : Result Plan Outcome). Gives (plan_of_work tree) c.chosen_work-work.result due)
     (sym (catalogue_read c.args.asked c.args.moment tree c.in_ok-cat.cat (c.in_ok-cat.ensures.due tree known)))
-    (c.chosen_work.ensures.due tree (c.in_ok-cat.ensures.kept ∙ known))
+    (c.chosen_work-work.ensures.due tree (c.in_ok-cat.ensures.kept ∙ known))

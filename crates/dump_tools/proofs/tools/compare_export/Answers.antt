@@ -16,16 +16,16 @@ pub returns-clause-done : goal.returns-clause-done
 returns-clause-done g c =
     let first = c.args.first.now in
     let second = c.args.second.now in
-    IfOk-weaker c.compare_with.result _ _ (λ answer done tree printed told known read.
+    IfOk-weaker c.compare_with-answer.result _ _ (λ answer done tree printed told known read.
     let opened = export_opened first tree c.args.export c.in_ok-one.one read c.in_ok-one.ensures.due in
     first_done first second tree c.in_ok-one.one answer _ _ _ printed told opened refl (done tree printed told known opened))
-    c.compare_with.ensures.done
+    c.compare_with-answer.ensures.done
 
 pub returns-clause-refused : goal.returns-clause-refused
 returns-clause-refused g c =
     let first = c.args.first.now in
     let second = c.args.second.now in
-    IfErr-weaker c.compare_with.result _ _ (λ outcome due tree known read.
+    IfErr-weaker c.compare_with-answer.result _ _ (λ outcome due tree known read.
     subst (λ (d : Result Plan Outcome). IsAnswerDue outcome d) (sym (first_read first second tree c.in_ok-one.one (export_opened first tree c.args.export c.in_ok-one.one read c.in_ok-one.ensures.due)))
     (due tree known))
-    c.compare_with.ensures.refused
+    c.compare_with-answer.ensures.refused
