@@ -7,9 +7,10 @@ use clone_words::{CloneAsked, clone_asked};
 use copy_text::Text;
 use dump_ports::{Failed, Sink};
 use os_ports::{FileFault, Hold, Holdable, OsFiles};
+use program_words::{let_go, told};
 use std::alloc::{AllocError, Global};
 use std::rt;
-use tool_words::{Asked, Outcome, Teller, read_asked, tell, write_bytes};
+use tool_words::{Asked, Outcome, Teller, read_asked, write_bytes};
 
 /// Holds the folders that the words name: alone the one that is written, beside others those that are only read. An archive
 /// that is listed or written as a script is held by none.
@@ -54,7 +55,7 @@ where
     match read_asked(alloc, words) {
         Ok(asked) => hold_asked(files, &asked),
         Err(outcome) => {
-            drop(outcome);
+            let_go(outcome);
             Ok(())
         }
     }
@@ -74,19 +75,6 @@ where
         Asked::Compare { first, second } => {
             files.hold(first.as_str(), Hold::Shared)?;
             files.hold(second.as_str(), Hold::Shared)
-        }
-    }
-}
-
-/// Tells an outcome, and gives what the run came to by that.
-pub(crate) fn told<E: Sink>(err: &mut E, teller: Teller, outcome: Outcome) -> Outcome
-    ensures { (result ≡ outcome) ⊎ (result ≡ Outcome.WriteFault) }
-{
-    match tell(err, teller, &outcome) {
-        Ok(()) => outcome,
-        Err(Failed) => {
-            drop(outcome);
-            Outcome::WriteFault
         }
     }
 }
@@ -119,7 +107,7 @@ pub(crate) fn settle<R: rt::Files, E: Sink>(
     match files.commit() {
         Ok(()) => outcome,
         Err(Failed) => {
-            drop(outcome);
+            let_go(outcome);
             told(err, teller, Outcome::WriteFault)
         }
     }

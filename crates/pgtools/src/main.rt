@@ -1,22 +1,15 @@
 //! PostgreSQL's dump tools over exported catalogues.
 #![tactic(auto)]
 
-ghost use Rattle.std.specs.Prelude.{◌≡◌};
-ghost use Rattle.tool_words.specs.Status.{status_of};
-
-mod arguments;
 mod ending;
-mod help;
 
-use crate::arguments::{ArgumentFault, read_arguments};
-use crate::ending::{hold_folders, settle, tell_detail, told};
-use crate::help::screens_of;
+use crate::ending::{hold_folders, settle, tell_detail};
 use clone_tools::run_tools;
-use command_line::UsageKind;
-use dump_ports::{Failed, OpenGate, Sink, write_all};
+use dump_ports::{Failed, OpenGate};
 use os_ports::{OsErr, OsFiles, OsIn, OsOut, moment_now};
+use program_words::{exit_status, print, read_arguments, refuse, screens_of, told};
 use std::process::ExitCode;
-use tool_words::{Outcome, Teller, tell, teller_of};
+use tool_words::{Outcome, teller_of};
 
 fn main(rt: HostRuntime) -> ExitCode {
     let alloc = rt.alloc();
@@ -43,46 +36,3 @@ fn main(rt: HostRuntime) -> ExitCode {
     tell_detail(alloc, &mut err, teller, &outcome, files.take_fault());
     ExitCode::from(exit_status(outcome))
 }
-
-/// The exit status of what the program came to.
-fn exit_status(outcome: Outcome) -> u8
-    ensures { result ≡ status_of outcome }
-{
-    let status = outcome.status();
-    drop(outcome);
-    status
-}
-
-/// Prints the screens, and gives the status.
-fn print<O: Sink, E: Sink>(out: &mut O, err: &mut E, screens: (&'static str, &'static str)) -> u8 {
-    let (first, second) = screens;
-    match write_both(out, first, second) {
-        Ok(()) => 0,
-        Err(Failed) => refused(err, Outcome::WriteFault),
-    }
-}
-
-fn write_both<O: Sink>(out: &mut O, first: &str, second: &str) -> Result<(), Failed> {
-    write_all(out, first.as_bytes())?;
-    write_all(out, second.as_bytes())
-}
-
-/// Tells that the words weren't read, and gives the status.
-fn refuse<E: Sink>(err: &mut E, fault: ArgumentFault) -> u8 {
-    let outcome = match fault {
-        ArgumentFault::NotText(word) => Outcome::Usage {
-            word,
-            kind: UsageKind::BadValue,
-        },
-        ArgumentFault::Memory => Outcome::Memory,
-    };
-    refused(err, outcome)
-}
-
-/// Tells what the program itself refuses, and gives the status.
-fn refused<E: Sink>(err: &mut E, outcome: Outcome) -> u8 {
-    exit_status(told(err, Teller::Program, outcome))
-}
-
-#[cfg(test)]
-mod tests;

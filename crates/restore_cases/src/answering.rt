@@ -1,6 +1,6 @@
 //! The answer to a case.
 use crate::archives::change_archive;
-use crate::calls::put_call;
+use crate::calls::{Program, put_call};
 use crate::folders::{put_source, put_target};
 use dump_ports::MemFiles;
 use std::alloc::{AllocError, Global};
@@ -10,8 +10,9 @@ use table_cases::Base;
 const BETWEEN: &str = " / ";
 
 // Takes a step, and appends its answer.
-fn put_step(
+fn put_step<P: Program>(
     alloc: Global,
+    program: &P,
     files: &mut MemFiles,
     step: &str,
     out: &mut Vec<u8>,
@@ -19,12 +20,13 @@ fn put_step(
     match change_archive(alloc, files, step)? {
         Some(true) => out.extend_from_slice(b"written"),
         Some(false) => out.extend_from_slice(b"?"),
-        None => put_call(alloc, files, step, out),
+        None => put_call(alloc, program, files, step, out),
     }
 }
 
-fn put_steps(
+fn put_steps<P: Program>(
     alloc: Global,
+    program: &P,
     files: &mut MemFiles,
     line: &str,
     out: &mut Vec<u8>,
@@ -33,7 +35,7 @@ fn put_steps(
         if i > 0 {
             out.extend_from_slice(BETWEEN.as_bytes())?;
         }
-        put_step(alloc, files, step, out)?;
+        put_step(alloc, program, files, step, out)?;
     }
     Ok(())
 }
@@ -47,9 +49,15 @@ fn put_steps(
 /// Or it writes a file: `file NAME TEXT` one of this text, where bytes outside printable ASCII and the backslash are written
 /// `\xHH`; `cut NAME COUNT` leaves the first bytes of one; `byte NAME PLACE VALUE` has another byte at a place; and `order
 /// NAME ID ..` writes a custom archive again with its entries in the order of these dump ids, all of them.
-pub fn answer(alloc: Global, base: &Base, line: &str, out: &mut Vec<u8>) -> Result<(), AllocError> {
+pub(crate) fn answer<P: Program>(
+    alloc: Global,
+    program: &P,
+    base: &Base,
+    line: &str,
+    out: &mut Vec<u8>,
+) -> Result<(), AllocError> {
     let mut files = MemFiles::new(alloc, Vec::new(alloc));
     put_source(alloc, base, &mut files)?;
     put_target(alloc, base, &mut files)?;
-    put_steps(alloc, &mut files, line, out)
+    put_steps(alloc, program, &mut files, line, out)
 }

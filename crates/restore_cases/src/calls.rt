@@ -1,9 +1,22 @@
-//! Calls of the program.
-use clone_tools::run_tools;
+//! Calls of a program.
 use copy_text::Text;
-use dump_ports::{MemFiles, MemSink, MemSource, Moment, OpenGate};
+use dump_ports::{MemFiles, MemSink, MemSource, Moment};
 use std::alloc::{AllocError, Global};
-use tool_words::Outcome;
+
+/// The program that is called.
+pub trait Program {
+    /// Runs it with these words over these files and streams, and gives its exit status.
+    fn run(
+        &self,
+        alloc: Global,
+        words: &[Text],
+        files: &mut MemFiles,
+        input: &mut MemSource,
+        printed: &mut MemSink,
+        told: &mut MemSink,
+        moment: Moment,
+    ) -> u8;
+}
 
 /// How many bytes of standard input a read gives.
 const STEP: usize = 4096;
@@ -16,12 +29,6 @@ struct Ended {
     told: MemSink,
 }
 
-fn exit_status(outcome: Outcome) -> u8 {
-    let status = outcome.status();
-    drop(outcome);
-    status
-}
-
 fn words_of(alloc: Global, spelled: &str) -> Result<Vec<Text>, AllocError> {
     let mut words = Vec::new(alloc);
     for word in spelled.split(' ') {
@@ -32,8 +39,9 @@ fn words_of(alloc: Global, spelled: &str) -> Result<Vec<Text>, AllocError> {
     Ok(words)
 }
 
-fn run_over(
+fn run_over<P: Program>(
     alloc: Global,
+    program: &P,
     words: &[Text],
     files: &mut MemFiles,
     given: Vec<u8>,
@@ -42,7 +50,7 @@ fn run_over(
     let mut input = MemSource::new(given, STEP, Vec::new(alloc));
     let mut printed = MemSink::new(alloc, Vec::new(alloc));
     let mut told = MemSink::new(alloc, Vec::new(alloc));
-    let status = exit_status(run_tools(
+    let status = program.run(
         alloc,
         words,
         files,
@@ -50,8 +58,7 @@ fn run_over(
         &mut printed,
         &mut told,
         moment,
-        &OpenGate,
-    ));
+    );
     Ended {
         status,
         printed,
@@ -60,15 +67,16 @@ fn run_over(
 }
 
 // Runs the program with these words and this standard input on the first of 1970.
-fn run_words(
+fn run_words<P: Program>(
     alloc: Global,
+    program: &P,
     spelled: &str,
     files: &mut MemFiles,
     given: Vec<u8>,
 ) -> Result<Ended, AllocError> {
     let words = words_of(alloc, spelled)?;
     match Moment::new([0, 0, 0, 1, 0, 70, 0]) {
-        Some(moment) => Ok(run_over(alloc, &words, files, given, moment)),
+        Some(moment) => Ok(run_over(alloc, program, &words, files, given, moment)),
         None => Err(AllocError),
     }
 }
@@ -99,8 +107,9 @@ fn given_of(alloc: Global, files: &MemFiles, name: &str) -> Result<Vec<u8>, Allo
 }
 
 /// Appends what a call answers, tells and prints: its words, and behind ` < ` the file that is its standard input.
-pub(crate) fn put_call(
+pub(crate) fn put_call<P: Program>(
     alloc: Global,
+    program: &P,
     files: &mut MemFiles,
     said: &str,
     out: &mut Vec<u8>,
@@ -109,6 +118,6 @@ pub(crate) fn put_call(
         Some((spelled, name)) => (spelled, given_of(alloc, files, name)?),
         None => (said, Vec::new(alloc)),
     };
-    let ended = run_words(alloc, spelled, files, given)?;
+    let ended = run_words(alloc, program, spelled, files, given)?;
     put_ended(alloc, &ended, out)
 }

@@ -31,9 +31,9 @@ pub(crate) fn put_source(
     files: &mut MemFiles,
 ) -> Result<(), AllocError> {
     files.put("S/format", b"1\n")?;
-    for table in SysTable::ALL {
+    for table in &SysTable::ALL {
         let name = format!(in alloc; "S/{}", table.file_name())?;
-        files.put(name.as_str(), base.text(table))?;
+        files.put(name.as_str(), base.text(*table))?;
     }
     put_rows(alloc, base, files)
 }
@@ -45,9 +45,9 @@ pub(crate) fn put_target(
     files: &mut MemFiles,
 ) -> Result<(), AllocError> {
     files.put("D/format", b"1\n")?;
-    for table in SysTable::ALL {
+    for table in &SysTable::ALL {
         let name = format!(in alloc; "D/{}", table.file_name())?;
-        files.put(name.as_str(), bare_text(base, table))?;
+        files.put(name.as_str(), bare_text(base, *table))?;
     }
     Ok(())
 }
@@ -61,7 +61,11 @@ fn add_empty(alloc: Global, base: &mut Base, oid: &str) -> Result<bool, AllocErr
 /// Adds what a line says of the base, and tells whether it says so; `None` where it speaks of nothing of it. `base TABLE
 /// TEXT` is the text of a system table, `base rows OID TEXT` that of the rows of a table, and `empty OID` a table without
 /// rows.
-pub fn add_line(alloc: Global, base: &mut Base, line: &str) -> Result<Option<bool>, AllocError> {
+pub(crate) fn add_line(
+    alloc: Global,
+    base: &mut Base,
+    line: &str,
+) -> Result<Option<bool>, AllocError> {
     match line.split_once(' ') {
         Some(("base", said)) => Ok(Some(base.add(alloc, said)?)),
         Some(("empty", oid)) => Ok(Some(add_empty(alloc, base, oid)?)),

@@ -1,10 +1,11 @@
-//! Cases of restores, for the program `restore_trials`: calls of the program one after another, over the same files.
+//! Cases of restores, for the program `restore_trials`: calls of a program one after another, over the same files.
 #![tactic(auto)]
 
 mod answering;
 mod archives;
 mod calls;
 mod folders;
+mod lines;
 
-pub use answering::answer;
-pub use folders::add_line;
+pub use calls::Program;
+pub use lines::answer_all;

@@ -2,9 +2,9 @@ use copy_text::Text;
 use dump_ports::{MemFiles, MemSink, MemSource, OpenGate, read_all};
 use dump_tools::run_tools;
 use os_ports::moment_now;
+use program_words::exit_status;
 use std::alloc::Global;
 use std::test::Fail;
-use tool_words::Outcome;
 
 /// The export of an empty cluster, in the order in which a folder is written.
 const EMPTY: [(&str, &[u8]); 16] = [
@@ -80,7 +80,7 @@ fn apply_input(rt: &HostRuntime, input: MemSource) -> Result<Run, Fail> {
     Ok(run_words(rt, &words, files, input, none, Vec::new(rt.alloc())))
 }
 
-fn words_of(alloc: Global, spelled: &[&str]) -> Result<Vec<Text>, Fail> {
+pub(crate) fn words_of(alloc: Global, spelled: &[&str]) -> Result<Vec<Text>, Fail> {
     let mut words = Vec::new(alloc);
     for word in spelled {
         if let Some(text) = Text::new(String::from_str(alloc, word)?.into_bytes()) {
@@ -112,13 +112,6 @@ fn run_words(
         told,
         input,
     }
-}
-
-/// The exit status of what the program came to.
-fn exit_status(outcome: Outcome) -> u8 {
-    let status = outcome.status();
-    drop(outcome);
-    status
 }
 
 /// The text of a file, or nothing.

@@ -1,9 +1,10 @@
 //! psql on a folder of the system's files, cut at each call of the system.
 use copy_text::Text;
+use cut_files::{Calls, Cut, CutFiles};
 use dump_ports::{MemSink, MemSource, OpenGate};
 use dump_tools::run_tools;
 use os_ports::{Hold, Holdable, OsFiles, moment_now};
-use port_tests::cut::{Calls, Cut, CutFiles};
+use program_words::exit_status;
 use std::alloc::Global;
 use std::test::Fail;
 use std::{fs, io, rt};
@@ -106,9 +107,7 @@ where
         moment_now(clock),
         &OpenGate,
     );
-    let status = outcome.status();
-    drop(outcome);
-    Ok(status == 0 && files.commit().is_ok())
+    Ok(exit_status(outcome) == 0 && files.commit().is_ok())
 }
 
 /// Whether a run of psql on the old folder of which the calls behind the first so many fail had such a call. What it

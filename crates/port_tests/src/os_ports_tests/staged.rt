@@ -1,6 +1,6 @@
 //! What a run writes is put in place at its end, or not at all.
 use super::reads;
-use crate::cut::{Calls, Cut, CutFiles};
+use cut_files::{Calls, Cut, CutFiles};
 use dump_ports::{Failed, Files};
 use os_ports::{Hold, Holdable, OsFiles};
 use std::alloc::Global;

@@ -118,7 +118,7 @@ Not built yet.
 ";
 
 /// The screens of these words, one behind the other; none where they ask for no help.
-pub(crate) fn screens_of(words: &[Text]) -> Option<(&'static str, &'static str)> {
+pub fn screens_of(words: &[Text]) -> Option<(&'static str, &'static str)> {
     match words {
         [word] if word.as_str() == "--help" => Some((PROGRAM, STATUSES)),
         [word] if word.as_str() == "--version" => Some((VERSION, "")),

@@ -1,4 +1,6 @@
-//! The system's files, of which calls fail.
+//! The system's files, of which calls fail: for tests that cut a run.
+#![tactic(auto)]
+
 use os_ports::{Hold, Holdable};
 use std::alloc::Allocator;
 use std::cell::Cell;

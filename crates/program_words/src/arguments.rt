@@ -1,6 +1,6 @@
 //! The words of the command line as the system gives them.
 ghost use Rattle.std.specs.Prelude.{◌≡◌};
-ghost use Rattle.pgtools.specs.declared.arguments.ArgumentFault.TheVariants as faults;
+ghost use Rattle.program_words.specs.declared.arguments.ArgumentFault.TheVariants as faults;
 
 use copy_text::Text;
 use std::alloc::{AllocError, Global};
@@ -27,7 +27,7 @@ impl From<AllocError> for ArgumentFault {
 }
 
 /// The words behind the program's name.
-pub(crate) fn read_arguments<R: Env>(alloc: Global, env: &R) -> Result<Vec<Text>, ArgumentFault> {
+pub fn read_arguments<R: Env>(alloc: Global, env: &R) -> Result<Vec<Text>, ArgumentFault> {
     let mut words = Vec::new(alloc);
     for word in 0..usize::MAX {
         let Some(bytes) = read_argument(alloc, env, word + 1)? else {

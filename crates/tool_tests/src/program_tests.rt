@@ -1,9 +1,21 @@
-use super::*;
-use copy_text::Text;
+//! The words that the system gives the program, and its screens.
+use crate::dump_tools_tests::words_of;
 use dump_ports::MemSink;
+use program_words::{read_arguments, refuse, screens_of};
 use std::alloc::Global;
 use std::env::{Env, FillError};
 use std::test::Fail;
+
+/// The tools, each of which has a screen.
+const TOOLS: [&str; 7] = [
+    "psql",
+    "pg_dump",
+    "pg_restore",
+    "pg_dumpall",
+    "pg_catcmp",
+    "pg_clone",
+    "pg_gen",
+];
 
 /// Words of which the third isn't UTF-8.
 struct Words;
@@ -43,16 +55,6 @@ fn words_are_utf8(rt: HostRuntime) -> Result<(), Fail> {
     Ok(())
 }
 
-fn words_of(alloc: Global, spelled: &[&str]) -> Result<Vec<Text>, Fail> {
-    let mut words = Vec::new(alloc);
-    for word in spelled {
-        if let Some(text) = Text::new(String::from_str(alloc, word)?.into_bytes()) {
-            words.push(text)?;
-        }
-    }
-    Ok(words)
-}
-
 /// How the screen of these words begins; nothing where they ask for none.
 fn screen_of(alloc: Global, spelled: &[&str]) -> Result<&'static str, Fail> {
     match screens_of(&words_of(alloc, spelled)?) {
@@ -64,17 +66,9 @@ fn screen_of(alloc: Global, spelled: &[&str]) -> Result<&'static str, Fail> {
 #[test]
 fn each_tool_has_its_help(rt: HostRuntime) -> Result<(), Fail> {
     let alloc = rt.alloc();
-    for tool in [
-        "psql",
-        "pg_dump",
-        "pg_restore",
-        "pg_dumpall",
-        "pg_catcmp",
-        "pg_clone",
-        "pg_gen",
-    ] {
-        assert!(rt; screen_of(alloc, &[tool, "--help"])?.starts_with(tool));
-        assert!(rt; screen_of(alloc, &[tool])?.is_empty());
+    for tool in &TOOLS {
+        assert!(rt; screen_of(alloc, &[*tool, "--help"])?.starts_with(*tool));
+        assert!(rt; screen_of(alloc, &[*tool])?.is_empty());
     }
     assert!(rt; screen_of(alloc, &["--help"])?.starts_with("pgtools: "));
     assert!(rt; screen_of(alloc, &["--version"])?.starts_with("pgtools, "));
