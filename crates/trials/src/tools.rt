@@ -3,10 +3,10 @@ use cat_rows::SysTable;
 use copy_text::Text;
 use dump_ports::{MemFiles, MemSink, MemSource, Moment, OpenGate, read_all};
 use dump_tools::run_tools;
+use program_words::exit_status;
 use std::alloc::{AllocError, Global};
 use table_cases::Base;
 use text_cases::decoded;
-use tool_words::Outcome;
 
 /// How many bytes of standard input a read gives.
 const STEP: usize = 7;
@@ -22,12 +22,6 @@ struct Run {
     out: MemSink,
     told: MemSink,
     left: Vec<u8>,
-}
-
-fn exit_status(outcome: Outcome) -> u8 {
-    let status = outcome.status();
-    drop(outcome);
-    status
 }
 
 fn words_of(alloc: Global, spelled: &str) -> Result<Vec<Text>, AllocError> {
@@ -96,10 +90,10 @@ fn put_folder(
     without: &str,
     files: &mut MemFiles,
 ) -> Result<(), AllocError> {
-    for table in SysTable::ALL {
+    for table in &SysTable::ALL {
         if table.file_name() != without {
             let name = format!(in alloc; "{folder}/{}", table.file_name())?;
-            files.put(name.as_str(), base.text(table))?;
+            files.put(name.as_str(), base.text(*table))?;
         }
     }
     if without == "format" {
@@ -123,10 +117,10 @@ fn put_written(
     files: &MemFiles,
     out: &mut Vec<u8>,
 ) -> Result<(), AllocError> {
-    for table in SysTable::ALL {
+    for table in &SysTable::ALL {
         let name = format!(in alloc; "D/{}", table.file_name())?;
         match files.text(name.as_str()) {
-            Some(text) if text == base.text(table) => {}
+            Some(text) if text == base.text(*table) => {}
             Some(text) => put_quoted(table.file_name().as_bytes(), text, out)?,
             None => out.extend_from_slice(b", a file is gone")?,
         }
