@@ -2,7 +2,7 @@
 -- default can be written.
 use Rattle.ddl_forms.proofs.Common.{◌≡◌, ℕ, ◌+◌, ◌-◌, Bool, true, false, cond, List, [], ◌∷◌, ◌++◌, length, length-append, append_assoc, append-nil, take, drop, Option, Some, None, refl, sym, ap, subst, ◌∙◌, ◌⊎◌, arith, inl, inr, codes, option_and_then, is_utf8, chars, encode, and_parts, and_from, take_at, drop_at, TokenKind, begins_word, in_word, is_digit, is_keyword_of, Bracket, Spot, First, LaterNot, Inside, Closed as Shut, Lexeme, spelled, source, is_word, is_sign, run, Runs, Nest, nested, nest_step, nest_done, ends_run, behind_kind, behind_not, behind_null, behind_other, is_inside, moved, step_by, default_and_null, are_not_null, without_not_null, words_apart, nest, run_none, semicolon, IsDefaultText}
 use Rattle.ddl_write.specs.Paths.{only_if}
-use Rattle.ddl_forms.proofs.{Standing.Stood, Standing.placed, Kept.AllCame, Kept.AllPlain, Kept.came_front, Kept.spelled-append, Tokens.space, Tokens.word_token, Tokens.a_word, RunTexts.not_some, RunTexts.run-append, RunTexts.placed-append, RunTexts.plain_last, RunTexts.run_kept, RunTexts.run_read, Behind.Words, Behind.Safe, Behind.admits, Behind.admitted, Putting.Follows, Putting.IsPut, Putting.same_text, Written.Written, Written.leaf_as, Written.pieces_as, Written.run_put, Closing.only_last, Expressions.nested_plain}
+use Rattle.ddl_forms.proofs.{Standing.Stood, Standing.placed, Kept.AllCame, Kept.AllPlain, Kept.came_front, Kept.spelled-append, Tokens.space, Tokens.word_token, Tokens.a_word, RunTexts.plain_runs, RunTexts.not_some, RunTexts.run-append, RunTexts.placed-append, RunTexts.plain_last, RunTexts.run_kept, RunTexts.run_read, Behind.Words, Behind.Safe, Behind.admits, Behind.admitted, Putting.Follows, Putting.IsPut, Putting.same_text, Written.Written, Written.leaf_as, Written.pieces_as, Written.run_put, Closing.only_last, Expressions.nested_plain}
 
 -- ---- steps of the two machines of defaults
 
@@ -141,12 +141,12 @@ pub default_put : (v : List ℕ) (b : Bool) (others : List Lexeme) → IsDefault
 unfolding in_word begins_word is_digit is_utf8 chars encode default_and_null without_not_null is_word is_keyword_of
 default_put v false others is follows e =
     same_text (32 ∷ v) (32 ∷ (v ++ [])) (ap (λ (x : List ℕ). 32 ∷ x) (sym (append-nil v)))
-    (run_put (nested_plain true false) default_and_null (v, false) v others space is (λ ts runs whole same. alone_spells v ts whole runs) follows e)
+    (run_put (plain_runs (nested_plain true false)) default_and_null (v, false) v others space is (λ ts runs whole same. alone_spells v ts whole runs) follows e)
 default_put v true others is follows e =
     let not_null_stood : (others : List Lexeme) → Stood others → admits Words (spelled others) ≡ true → Stood (not_null ++ others) =
     λ others stood e. (a_word (codes "NOT") (spelled (word_token (32 ∷ []) (codes "NULL") ∷ others)) space (refl, refl) refl refl, (a_word (codes "NULL") (spelled others) space (refl, refl) refl e, stood)) in
     let stood = not_null_stood others follows.stood (admitted Words Safe (spelled others) refl e) in
-    let k = run_kept (nested true false) (nested_plain true false) (32 ∷ []) v (not_null ++ others) space is stood refl in
+    let k = run_kept (Runs (nested true false)) (plain_runs (nested_plain true false)) (32 ∷ []) v (not_null ++ others) space is stood refl in
     record {
       tokens = k.tokens ++ not_null;
       bytes = spelled-append k.tokens not_null ∙ ap (λ (x : List ℕ). x ++ spelled not_null) k.bytes;

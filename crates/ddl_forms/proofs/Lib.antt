@@ -6,6 +6,7 @@ pub mod Kept
 pub mod Passed
 pub mod Tokens
 pub mod RunTexts
+pub mod PlainParts
 pub mod Putting
 pub mod Written
 pub mod Expressions

@@ -1,7 +1,8 @@
 -- The text of a run of a machine is written with the tokens that it has: behind a gap and before other tokens, and what
 -- was read of a text is such a text.
-use Rattle.ddl_forms.proofs.Common.{◌≡◌, ℕ, ◌+◌, ◌-◌, ◌≤◌, Bool, true, false, List, [], ◌∷◌, ◌++◌, length, length-append, append-nil, take, drop, Option, Some, None, refl, sym, ap, subst, ◌∙◌, arith, option_and_then, drop-length, TokenKind, Sign, MetaLine, Piece, Lexeme, spelled, source, is_sign, is_sign_kind, start_of, Machine, run, Runs, lexeme_of, lexemes, run_none, collected, semicolon, IsRunText}
-use Rattle.ddl_forms.proofs.{Closing.only_last, Standing.is_safe, Standing.Stands, Standing.Stood, Standing.placed, Standing.NoSemicolon, Standing.collects_all, Kept.AllCame, Kept.AllPlain, Kept.begun_some, Kept.token_begun, Kept.have_come, Kept.whole_text, Kept.stands_again, Kept.all_stand_again, Kept.spelled-append, Tokens.Gap, Tokens.none as none_before, Tokens.gap_stands}
+use Rattle.ddl_forms.proofs.Common.{◌≡◌, ℕ, ◌+◌, ◌-◌, Bool, true, false, List, [], ◌∷◌, ◌++◌, length, length-append, append-nil, take, drop, Option, Some, None, refl, sym, ap, subst, ◌∙◌, arith, option_and_then, drop-length, TokenKind, Sign, MetaLine, Piece, Lexeme, spelled, source, is_sign, is_sign_kind, start_of, Machine, run, Runs, lexeme_of, lexemes, run_none, collected, semicolon}
+use Rattle.ddl_forms.specs.Texts.{IsTextOf}
+use Rattle.ddl_forms.proofs.{Closing.only_last, Standing.is_safe, Standing.Stands, Standing.Stood, Standing.placed, Standing.NoSemicolon, Standing.collects_all, Kept.AllCame, Kept.Plain, Kept.AllPlain, Kept.begun_some, Kept.token_begun, Kept.have_come, Kept.whole_text, Kept.stands_again, Kept.all_stand_again, Kept.spelled-append, Tokens.Gap, Tokens.none as none_before, Tokens.gap_stands}
 
 -- ---- machines
 
@@ -27,16 +28,23 @@ abbrev pub GoesByWords : {S : Type 0} → (Lexeme → Option S) → Type 0
 GoesByWords step =
     ((gap : List ℕ) (start : ℕ) (t : Lexeme) → step (record { gap = gap; kind = t.kind; word = t.word; start = start }) ≡ step t) × ((word : List ℕ) → (step (bare (Sign 59) word) ≡ None) × (step (bare MetaLine word) ≡ None))
 
-pub plain_by : (m : Machine) → ((s : m.State) → GoesByWords (m.step s)) → m.done m.start ≡ false → IsPlainMachine m
+-- the token of such a step is plain, and it is the same for a token of the same kind and word
+pub goes_plain : {S : Type 0} (step : Lexeme → Option S) → GoesByWords step → (x : S) (t : Lexeme) → step t ≡ Some x → Plain t
 unfolding is_sign
-plain_by m goes begins = record { ends = λ s x t e. ends s x t (is_sign_kind 59 t.kind) refl e; line = λ s x t e is. refused s x t MetaLine is ((goes s).1 t.word).1 e; same = λ s. (goes s).0; begins = begins }
+goes_plain step goes x t e = record { ends = ends (is_sign_kind 59 t.kind) refl; line = λ is. refused MetaLine is (goes.1 t.word).1 }
   where
-    refused : (s x : m.State) (t : Lexeme) (k : TokenKind) → t.kind ≡ k → m.step s (bare k t.word) ≡ None → m.step s t ≡ Some x → ⊥
-    refused s x t k is none e = not_some x (m.step s t) e (sym ((goes s).0 [] 0 t) ∙ ap (λ (k : TokenKind). m.step s (bare k t.word)) is ∙ none)
+    refused : (k : TokenKind) → t.kind ≡ k → step (bare k t.word) ≡ None → ⊥
+    refused k is none = not_some x (step t) e (sym (goes.0 [] 0 t) ∙ ap (λ (k : TokenKind). step (bare k t.word)) is ∙ none)
 
-    ends : (s x : m.State) (t : Lexeme) (b : Bool) → is_sign_kind 59 t.kind ≡ b → m.step s t ≡ Some x → is_sign_kind 59 t.kind ≡ false
-    ends s x t false is e = is
-    ends s x t true is e = absurd (refused s x t (Sign 59) (sign_kind 59 t.kind is) ((goes s).1 t.word).0 e)
+    ends : (b : Bool) → is_sign_kind 59 t.kind ≡ b → is_sign_kind 59 t.kind ≡ false
+    ends false is = is
+    ends true is = absurd (refused (Sign 59) (sign_kind 59 t.kind is) (goes.1 t.word).0)
+
+pub same_step : {S : Type 0} (step : Lexeme → Option S) → ((gap : List ℕ) (start : ℕ) (t : Lexeme) → step (record { gap = gap; kind = t.kind; word = t.word; start = start }) ≡ step t) → (t u : Lexeme) → u.kind ≡ t.kind → u.word ≡ t.word → step u ≡ step t
+same_step step same t u kind word = ap (λ (k : TokenKind). step (record { gap = u.gap; kind = k; word = u.word; start = u.start })) kind ∙ ap (λ (w : List ℕ). step (record { gap = u.gap; kind = t.kind; word = w; start = u.start })) word ∙ same u.gap u.start t
+
+pub plain_by : (m : Machine) → ((s : m.State) → GoesByWords (m.step s)) → m.done m.start ≡ false → IsPlainMachine m
+plain_by m goes begins = record { ends = λ s x t e. (goes_plain (m.step s) (goes s) x t e).ends; line = λ s x t e. (goes_plain (m.step s) (goes s) x t e).line; same = λ s. (goes s).0; begins = begins }
 
 pub run-append : (m : Machine) (s : Option m.State) (a b : List Lexeme) → run m s (a ++ b) ≡ run m (run m s a) b
 run-append m s [] b = refl
@@ -74,17 +82,6 @@ pub spelled_placed : (at : ℕ) (ts : List Lexeme) → spelled (placed at ts) �
 spelled_placed at [] = refl
 spelled_placed at (t ∷ ts) = ap (λ (x : List ℕ). t.gap ++ (t.word ++ x)) (spelled_placed (at + length t.gap + length t.word) ts)
 
-pub run_placed : (m : Machine) → IsPlainMachine m → (s : Option m.State) (at : ℕ) (ts : List Lexeme) → run m s (placed at ts) ≡ run m s ts
-run_placed m h s at [] = refl
-run_placed m h s at (t ∷ ts) =
-    let step_placed : (m : Machine) → IsPlainMachine m → (s : Option m.State) (gap : List ℕ) (start : ℕ) (t : Lexeme) → option_and_then (λ x. m.step x (record { gap = gap; kind = t.kind; word = t.word; start = start })) s ≡ option_and_then (λ x. m.step x t) s =
-    λ m h s gap start t. grind arith in
-    ap (λ o. run m o (placed (at + length t.gap + length t.word) ts)) (step_placed m h s t.gap (at + length t.gap) t)
-    ∙ run_placed m h (option_and_then (λ x. m.step x t) s) (at + length t.gap + length t.word) ts
-
-run_gapped : (m : Machine) → IsPlainMachine m → (g : List ℕ) (at : ℕ) (t : Lexeme) (ts : List Lexeme) → run m (Some m.start) (placed at (gapped g t ∷ ts)) ≡ run m (Some m.start) (t ∷ ts)
-run_gapped m h g at t ts = run_placed m h (Some m.start) at (gapped g t ∷ ts) ∙ ap (λ o. run m o ts) (h.same m.start g 0 t)
-
 -- of what kinds tokens are
 abbrev pub kinds : List Lexeme → List TokenKind
 kinds [] = []
@@ -103,6 +100,24 @@ words_placed : (at : ℕ) (ts : List Lexeme) → words (placed at ts) ≡ words 
 words_placed at [] = refl
 words_placed at (t ∷ ts) = ap (λ (ws : List (TokenKind × List ℕ)). (t.kind, t.word) ∷ ws) (words_placed (at + length t.gap + length t.word) ts)
 
+pub one_said : (t u : Lexeme) (ts us : List Lexeme) → words (u ∷ us) ≡ words (t ∷ ts) → (u.kind ≡ t.kind) × (u.word ≡ t.word) × (words us ≡ words ts)
+one_said t u ts us e = let same : (u.kind, u.word) ≡ (t.kind, t.word) = cc in (ap (λ (x : TokenKind × List ℕ). x.0) same, ap (λ (x : TokenKind × List ℕ). x.1) same, cc)
+
+run_same : (m : Machine) → IsPlainMachine m → (s : Option m.State) (ts us : List Lexeme) → words us ≡ words ts → run m s us ≡ run m s ts
+run_same m h s [] [] e = refl
+run_same m h s [] (u ∷ us) e = absurd cc
+run_same m h s (t ∷ ts) [] e = absurd cc
+run_same m h None (t ∷ ts) (u ∷ us) e = run_same m h None ts us (one_said t u ts us e).2
+run_same m h (Some x) (t ∷ ts) (u ∷ us) e = let w = one_said t u ts us e in ap (λ o. run m o us) (same_step (m.step x) (h.same x) t u w.0 w.1) ∙ run_same m h (m.step x t) ts us w.2
+
+-- tokens that have something are plain, and others that say the same have it too
+pub record IsPlain (Run : List Lexeme → Type 0) : Type 0 where
+  pub plain : (ts : List Lexeme) → Run ts → AllPlain ts
+  pub same : (ts us : List Lexeme) → words us ≡ words ts → Run ts → Run us
+
+pub plain_runs : {m : Machine} → IsPlainMachine m → IsPlain (Runs m)
+plain_runs {m} h = record { plain = λ ts r. are_plain m h m.start r.last ts r.runs; same = λ ts us e r. record { last = r.last; runs = run_same m h (Some m.start) ts us e ∙ r.runs; done = r.done } }
+
 source_gapped : (g : List ℕ) (at : ℕ) (t : Lexeme) (ts : List Lexeme) → source (placed at (gapped g t ∷ ts)) ≡ t.word ++ spelled ts
 source_gapped g at t ts = ap (λ (x : List ℕ). t.word ++ x) (spelled_placed (at + length g + length t.word) ts)
 
@@ -118,23 +133,23 @@ safe_behind others e = grind arith
 -- ---- a run's text
 
 -- tokens for the text of a run behind a gap, before others
-pub record IsRunKept (m : Machine) (g v : List ℕ) (others : List Lexeme) : Type 0 where
+pub record IsRunKept (Run : List Lexeme → Type 0) (g v : List ℕ) (others : List Lexeme) : Type 0 where
   pub tokens : List Lexeme
   pub bytes : spelled tokens ≡ g ++ v
   pub stood : Stood (tokens ++ others)
   pub plain : AllPlain tokens
-  pub runs : (at : ℕ) → Runs m (placed at tokens)
+  pub runs : (at : ℕ) → Run (placed at tokens)
   pub whole : (at : ℕ) → source (placed at tokens) ≡ v
   pub same : (at : ℕ) → kinds (placed at tokens) ≡ kinds (lexemes v (collected v 0).pieces)
 
-first_gap : (m : Machine) → IsPlainMachine m → (g v : List ℕ) (ps : List Piece) (others : List Lexeme) → Gap g → start_of (lexemes v ps) ≡ Some 0 → Runs m (lexemes v ps) → AllCame (lexemes v ps) [] → v ≡ spelled (lexemes v ps)
-    → kinds (lexemes v ps) ≡ kinds (lexemes v (collected v 0).pieces) → Stood others → IsSafe others → IsRunKept m g v others
+first_gap : (Run : List Lexeme → Type 0) → IsPlain Run → (g v : List ℕ) (ps : List Piece) (others : List Lexeme) → Gap g → start_of (lexemes v ps) ≡ Some 0 → Run (lexemes v ps) → AllCame (lexemes v ps) [] → v ≡ spelled (lexemes v ps)
+    → kinds (lexemes v ps) ≡ kinds (lexemes v (collected v 0).pieces) → Stood others → IsSafe others → IsRunKept Run g v others
 unfolding is_sign
-first_gap m h g v [] others gap first runs came whole same stood safe = absurd cc
-first_gap m h g v (p ∷ ps) others gap first runs came whole same stood safe =
+first_gap Run h g v [] others gap first runs came whole same stood safe = absurd cc
+first_gap Run h g v (p ∷ ps) others gap first runs came whole same stood safe =
     let start : p.token.start ≡ 0 = cc in
     let none : (lexeme_of v p).gap ≡ [] = ap (λ n. take n (drop p.from v)) (let e : p.token.start - p.from ≡ 0 = omega arith in e) in
-    let all = are_plain m h m.start runs.last ((lexeme_of v p) ∷ (lexemes v ps)) runs.runs in
+    let all = h.plain ((lexeme_of v p) ∷ (lexemes v ps)) runs in
     let first = token_begun (lexeme_of v p).kind (lexeme_of v p).word all.0.line came.0.spells in
     let here = subst (Stands (lexeme_of v p)) (sym (spelled-append (lexemes v ps) others)) (stands_again (lexeme_of v p) (spelled (lexemes v ps)) [] (spelled others) all.0.line (begun_some (lexeme_of v p).word first) came.0 safe) in
     record {
@@ -142,17 +157,17 @@ first_gap m h g v (p ∷ ps) others gap first runs came whole same stood safe =
       bytes = ap (λ (x' : List ℕ). g ++ x') (sym (whole ∙ ap (λ (x : List ℕ). x ++ ((lexeme_of v p).word ++ spelled (lexemes v ps))) none));
       stood = (record { gap = gap_stands g (lexeme_of v p).word (spelled ((lexemes v ps) ++ others)) gap first; token = here.token; some = here.some }, (all_stand_again (lexemes v ps) others [] all.1 came.1 stood safe));
       plain = (record { ends = all.0.ends; line = all.0.line }, all.1);
-      runs = λ at. record { last = runs.last; runs = run_gapped m h g at (lexeme_of v p) (lexemes v ps) ∙ runs.runs; done = runs.done };
+      runs = λ at. h.same (lexeme_of v p ∷ lexemes v ps) (placed at (gapped g (lexeme_of v p) ∷ lexemes v ps)) (words_placed at (gapped g (lexeme_of v p) ∷ lexemes v ps)) runs;
       whole = λ at. source_gapped g at (lexeme_of v p) (lexemes v ps) ∙ sym (whole ∙ ap (λ (x : List ℕ). x ++ ((lexeme_of v p).word ++ spelled (lexemes v ps))) none);
       same = λ at. kinds_placed at (gapped g (lexeme_of v p) ∷ (lexemes v ps)) ∙ same;
     }
 
-pub run_kept : (m : Machine) → IsPlainMachine m → (g v : List ℕ) (others : List Lexeme) → Gap g → IsRunText m v → Stood others → is_safe (spelled others) ≡ true → IsRunKept m g v others
-run_kept m plain g v others gap h stood safe =
+pub run_kept : (Run : List Lexeme → Type 0) → IsPlain Run → (g v : List ℕ) (others : List Lexeme) → Gap g → IsTextOf Run v → Stood others → is_safe (spelled others) ≡ true → IsRunKept Run g v others
+run_kept Run plain g v others gap h stood safe =
     let c = collected v 0 in
     let none : drop c.end v ≡ [] = ap (λ n. drop n v) h.last ∙ drop-length v in
     let whole : v ≡ spelled (lexemes v c.pieces) = whole_text v 0 (omega arith) ∙ ap (λ (x : List ℕ). spelled (lexemes v c.pieces) ++ x) none ∙ append-nil (spelled (lexemes v c.pieces)) in
-    first_gap m plain g v c.pieces others gap h.first h.runs (subst (AllCame (lexemes v c.pieces)) none (have_come v 0 (omega arith))) whole refl stood (safe_behind others safe)
+    first_gap Run plain g v c.pieces others gap h.first h.runs (subst (AllCame (lexemes v c.pieces)) none (have_come v 0 (omega arith))) whole refl stood (safe_behind others safe)
 
 -- ---- a run that was read
 
@@ -161,17 +176,16 @@ no_semicolons [] h = tt
 no_semicolons (t ∷ ts) h = (h.0.ends, no_semicolons ts h.1)
 
 -- what tokens of a text say, as a text of its own: a run's text, with tokens of the same kinds
-pub record IsRunRead (m : Machine) (ts : List Lexeme) : Type 0 where
-  pub text : IsRunText m (source ts)
+pub record IsReadAgain (Run : List Lexeme → Type 0) (ts : List Lexeme) : Type 0 where
+  pub text : IsTextOf Run (source ts)
   pub whole : source (lexemes (source ts) (collected (source ts) 0).pieces) ≡ source ts
   pub same : kinds (lexemes (source ts) (collected (source ts) 0).pieces) ≡ kinds ts
   pub says : words (lexemes (source ts) (collected (source ts) 0).pieces) ≡ words ts
 
-pub run_read : (m : Machine) → IsPlainMachine m → (ts : List Lexeme) (r : List ℕ) → AllCame ts r → Runs m ts → IsRunRead m ts
+pub read_again : (Run : List Lexeme → Type 0) → IsPlain Run → (t : Lexeme) (ts : List Lexeme) (r : List ℕ) → AllCame (t ∷ ts) r → Run (t ∷ ts) → IsReadAgain Run (t ∷ ts)
 unfolding is_sign
-run_read m h [] r came runs = let same : m.start ≡ runs.last = cc runs.runs in absurd (let d = runs.done in let b = h.begins in let e = ap m.done same ∙ d in cc)
-run_read m h (t ∷ ts) r came runs =
-    let all = are_plain m h m.start runs.last (t ∷ ts) runs.runs in
+read_again Run h t ts r came runs =
+    let all = h.plain (t ∷ ts) runs in
     let first = token_begun t.kind t.word all.0.line came.0.spells in
     let others = subst Stood (append-nil ts) (all_stand_again ts [] r all.1 came.1 tt (λ after e. e)) in
     let here : Stands t (spelled ts) = subst (Stands t) (append-nil (spelled ts)) (stands_again t (spelled ts) r [] all.0.line (begun_some t.word first) came.0 (λ after e. e)) in
@@ -182,9 +196,16 @@ run_read m h (t ∷ ts) r came runs =
       text = record {
         first = ap start_of c.tokens;
         last = c.end ∙ (let e : 0 + length v ≡ length v = omega arith in e);
-        runs = subst (Runs m) (sym c.tokens) (record { last = runs.last; runs = run_gapped m h [] 0 t ts ∙ runs.runs; done = runs.done });
+        runs = subst Run (sym c.tokens) (h.same (t ∷ ts) (placed 0 us) (words_placed 0 us) runs);
       };
       whole = ap source c.tokens ∙ source_gapped [] 0 t ts;
       same = ap kinds c.tokens ∙ kinds_placed 0 us;
       says = ap words c.tokens ∙ words_placed 0 us;
     }
+
+abbrev pub IsRunRead : Machine → List Lexeme → Type 0
+IsRunRead m ts = IsReadAgain (Runs m) ts
+
+pub run_read : (m : Machine) → IsPlainMachine m → (ts : List Lexeme) (r : List ℕ) → AllCame ts r → Runs m ts → IsRunRead m ts
+run_read m h [] r came runs = let same : m.start ≡ runs.last = cc runs.runs in absurd (let d = runs.done in let b = h.begins in let e = ap m.done same ∙ d in cc)
+run_read m h (t ∷ ts) r came runs = read_again (Runs m) (plain_runs h) t ts r came runs

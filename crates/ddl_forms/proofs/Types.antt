@@ -2,7 +2,7 @@
 -- a text as a type can be written.
 use Rattle.ddl_forms.proofs.Common.{◌≡◌, ℕ, Bool, true, false, cond, List, [], ◌∷◌, ◌++◌, append-nil, Option, Some, None, Result, Ok, Err, is_ok, refl, sym, ap, subst, ◌∙◌, arith, TokenKind, name_of, is_keyword_of, IsName, QName, TypeName, Lexeme, spelled, source, is_sign, is_sign_kind, is_word, run, Runs, name_in, name_value, qualified, TypeSpot, Begin, Path, typing, type_step, type_done, is_type_word, is_number, if_name, named, type_of, type_part, path, IsPath, IsType, passes_true as passed, run_none}
 use Rattle.ddl_write.specs.Tables.{type_text}
-use Rattle.ddl_forms.proofs.{Behind.Words, Behind.Safe, Behind.admits, Behind.admitted, Kept.AllCame, Tokens.Gap, Tokens.value_name, RunTexts.IsPlainMachine, RunTexts.not_some, RunTexts.kinds, RunTexts.run_read, Putting.Follows, Putting.IsPut, Putting.same_text, Putting.put_as, Written.Written, Written.leaf_as, Written.path_as, Written.run_put}
+use Rattle.ddl_forms.proofs.{Behind.Words, Behind.Safe, Behind.admits, Behind.admitted, Kept.AllCame, Tokens.Gap, Tokens.value_name, RunTexts.plain_runs, RunTexts.IsPlainMachine, RunTexts.not_some, RunTexts.kinds, RunTexts.run_read, Putting.Follows, Putting.IsPut, Putting.same_text, Putting.put_as, Written.Written, Written.leaf_as, Written.path_as, Written.run_put}
 use Rattle.cat_model.specs.declared.type_name.TypeName.TheVariants as type_name
 
 -- ---- the machine
@@ -73,7 +73,7 @@ path_types q ts h =
 pub type_put : {g : List ℕ} (gap : Gap g) (ty : TypeName) (others : List Lexeme) → IsType ty → Follows others → admits Safe (spelled others) ≡ true → IsPut type_part ty (g ++ type_text ty) others
 unfolding type_part type_text
 type_put gap (type_name.Words v) others is follows e =
-    run_put typing_plain type_part (type_name.Words v) v others gap is.run
+    run_put (plain_runs typing_plain) type_part (type_name.Words v) v others gap is.run
     (λ ts runs whole same. (ts, sym (words_by ts v (ap has_dot same ∙ (grind (arith, type_by))) whole), (refl, runs))) follows e
 type_put {g} gap (type_name.Path q) others is follows e =
     let k = (path_as gap).put q is others follows (admitted Words Safe (spelled others) refl e) in

@@ -1,8 +1,9 @@
 -- A part of the grammar with the texts of its values: what can be written lies in tokens that spell it, wherever they
 -- are put, and what tokens of a text spell has a property. A law for each way to put parts together.
-use Rattle.ddl_forms.proofs.Common.{◌≡◌, ℕ, zero, suc, ◌<◌, Bool, true, false, not, cond, ◌&&◌, ◌||◌, List, [], ◌∷◌, ◌++◌, length, append_assoc, append-nil, Option, Some, None, Result, Ok, Err, refl, sym, ap, subst, ◌∙◌, ◌⊎◌, inl, inr, arith, ◌==◌, and_parts, and_from, not-true, nat_tests, list_all, AllByRecursion, IsUtf8, is_utf8, chars, str_to_ascii_lowercase, encode, TokenKind, Word, Literal, Sign, is_digit, begins_word, in_word, is_keyword_of, IsWord, written_name, written_literal, written_kind, IsName, QName, path, joined, Lexeme, never, is_word, is_sign, is_sign_kind, spelled, source, Part, Items, Many, no_more, Machine, Runs, runs_of, one, many, mark, stop, seen, choose, nothing, wider, ◌then◌, ◌▸◌, ◌◂◌, name, name_value, literal, literal_value, qualified, lexemes, collected, semicolon, IsPath, IsRunText, passes_true}
+use Rattle.ddl_forms.proofs.Common.{◌≡◌, ℕ, zero, suc, ◌<◌, Bool, true, false, not, cond, ◌&&◌, ◌||◌, List, [], ◌∷◌, ◌++◌, length, append_assoc, append-nil, Option, Some, None, Result, Ok, Err, refl, sym, ap, subst, ◌∙◌, ◌⊎◌, inl, inr, arith, ◌==◌, and_parts, and_from, not-true, nat_tests, list_all, AllByRecursion, IsUtf8, is_utf8, chars, str_to_ascii_lowercase, encode, TokenKind, Word, Literal, Sign, is_digit, begins_word, in_word, is_keyword_of, IsWord, written_name, written_literal, written_kind, IsName, QName, path, joined, Lexeme, never, is_word, is_sign, is_sign_kind, spelled, source, Part, Items, Many, no_more, Machine, runs_of, one, many, mark, stop, seen, choose, nothing, wider, ◌then◌, ◌▸◌, ◌◂◌, name, name_value, literal, literal_value, qualified, lexemes, collected, semicolon, IsPath, IsRunText, passes_true}
 use Rattle.ddl_parts.specs.Parts.{one_more}
-use Rattle.ddl_forms.proofs.{Behind.Behind, Behind.Anything, Behind.Words, Behind.Safe, Behind.End, Behind.admits, Behind.covers, Behind.through, Behind.admitted, Behind.looser, Behind.tighter, Behind.tight, Behind.Opens, Behind.opens_of, Behind.opened, Behind.then_opens, Behind.one_opens, Behind.other_opens, Closing.ends_with, Closing.ends_append, Closing.Closes, Kept.AllCame, Kept.came_front, Kept.came_behind, RunTexts.IsPlainMachine, RunTexts.kinds, RunTexts.run_kept, RunTexts.run_read, RunTexts.plain_last, Standing.Stands, Standing.Stood, Standing.placed, Tokens.Gap, Tokens.none, Tokens.space, Tokens.a_word, Tokens.a_name, Tokens.a_literal, Tokens.is_single, Tokens.a_sign, Tokens.name_means, Tokens.literal_means, Tokens.name_no_sign, Tokens.value_name, Tokens.text_value, Putting.Follows, Putting.IsPut, Putting.followed, Putting.begun, Putting.same_text, Putting.put_as, Putting.none_put, Putting.one_put, Putting.then_put, Putting.joined-append, Putting.Yields}
+use Rattle.ddl_forms.specs.Texts.{IsTextOf}
+use Rattle.ddl_forms.proofs.{Behind.Behind, Behind.Anything, Behind.Words, Behind.Safe, Behind.End, Behind.admits, Behind.covers, Behind.through, Behind.admitted, Behind.looser, Behind.tighter, Behind.tight, Behind.Opens, Behind.opens_of, Behind.opened, Behind.then_opens, Behind.one_opens, Behind.other_opens, Closing.ends_with, Closing.ends_append, Closing.Closes, Kept.AllCame, Kept.came_front, Kept.came_behind, RunTexts.IsPlain, RunTexts.plain_runs, RunTexts.IsPlainMachine, RunTexts.kinds, RunTexts.run_kept, RunTexts.run_read, RunTexts.plain_last, Standing.Stands, Standing.Stood, Standing.placed, Tokens.Gap, Tokens.none, Tokens.space, Tokens.a_word, Tokens.a_name, Tokens.a_literal, Tokens.is_single, Tokens.a_sign, Tokens.name_means, Tokens.literal_means, Tokens.name_no_sign, Tokens.value_name, Tokens.text_value, Putting.Follows, Putting.IsPut, Putting.followed, Putting.begun, Putting.same_text, Putting.put_as, Putting.none_put, Putting.one_put, Putting.then_put, Putting.joined-append, Putting.Yields}
 
 -- Which values of a part can be written and how, by the proof that they can; what may stand behind, and what the text
 -- begins with, or that it may be empty; and what is known of a value that was read. Where it is closed, each spelling
@@ -507,17 +508,17 @@ path_as {g} gap =
     (λ q is. g ∷ path q ∷ []) (λ q is. path_same g q)
 
 -- a run's text lies in tokens before what goes on with none
-pub run_put : {A : Type 0} {m : Machine} {g : List ℕ} (plain : IsPlainMachine m) (p : Part A) (x : A) (v : List ℕ) (others : List Lexeme) → Gap g → IsRunText m v → ((ts : List Lexeme) → Runs m ts → source ts ≡ v → kinds ts ≡ kinds (lexemes v (collected v 0).pieces) → p.Spells x ts)
+pub run_put : {A : Type 0} {Run : List Lexeme → Type 0} {g : List ℕ} (plain : IsPlain Run) (p : Part A) (x : A) (v : List ℕ) (others : List Lexeme) → Gap g → IsTextOf Run v → ((ts : List Lexeme) → Run ts → source ts ≡ v → kinds ts ≡ kinds (lexemes v (collected v 0).pieces) → p.Spells x ts)
     → Follows others → admits Safe (spelled others) ≡ true → IsPut p x (g ++ v) others
-run_put {m = m} {g = g} plain p x v others gap is says follows e =
-    let k = run_kept m plain g v others gap is follows.stood e in
+run_put {Run = Run} {g = g} plain p x v others gap is says follows e =
+    let k = run_kept Run plain g v others gap is follows.stood e in
     record { tokens = k.tokens; bytes = k.bytes; stood = k.stood; spells = λ at. says (placed at k.tokens) (k.runs at) (k.whole at) (k.same at); last = plain_last k.tokens others k.plain follows.last }
 
 pub run_made : {m : Machine} → IsPlainMachine m → Yields (IsRunText m) (seen source (runs_of m))
 run_made {m} plain v ts r came spells = subst (IsRunText m) (ap source (sym spells.2.0) ∙ sym spells.1) (run_read m plain ts r came spells.2.1).text
 
 abbrev pub run_as : {m : Machine} → {g : List ℕ} → IsPlainMachine m → Gap g → Written (seen source (runs_of m))
-run_as {m} {g} plain gap = leaf_as (IsRunText m) (IsRunText m) g (λ v is. v) Safe (λ v is others. run_put plain (seen source (runs_of m)) v v others gap is (λ ts runs whole same. (ts, sym whole, (refl, runs)))) (run_made plain)
+run_as {m} {g} plain gap = leaf_as (IsRunText m) (IsRunText m) g (λ v is. v) Safe (λ v is others. run_put (plain_runs plain) (seen source (runs_of m)) v v others gap is (λ ts runs whole same. (ts, sym whole, (refl, runs)))) (run_made plain)
 
 -- ---- kinds of values, each behind its word
 

@@ -26,11 +26,15 @@ IsInt z = is_int z ≡ true
 abbrev pub IsPath : QName → Type 0
 IsPath q = IsName q.schema × IsName q.name
 
--- A run of tokens and nothing else: the text begins with its first token and ends with its last.
-pub record IsRunText (m : Machine) (v : List ℕ) : Type 0 where
+-- The text of tokens that are so, and nothing else: it begins with the first of them and ends with the last.
+pub record IsTextOf (Run : List Lexeme → Type 0) (v : List ℕ) : Type 0 where
   pub first : start_of (lexemes v (collected v 0).pieces) ≡ Some 0
   pub last : (collected v 0).end ≡ length v
-  pub runs : Runs m (lexemes v (collected v 0).pieces)
+  pub runs : Run (lexemes v (collected v 0).pieces)
+
+-- a run of tokens
+abbrev pub IsRunText : Machine → List ℕ → Type 0
+IsRunText m v = IsTextOf (Runs m) v
 
 -- an expression
 abbrev pub IsExpressionText : List ℕ → Type 0

@@ -1,12 +1,15 @@
 -- The grammar of statements has the laws of a part: what is read is spelled so, what is spelled so is read, and where
 -- reading stops nothing goes on.
-use Rattle.ddl_laws.proofs.Common.{grammar, ◌≡◌, Bool, true, false, ◌||◌, List, [], ◌∷◌, Some, None, refl, ap, codes, ℕ, ◌+◌, ◌^◌, pos, arith, ◌++◌, append-nil, append_assoc, Ok, Err, sym, ◌∙◌, inl, not, Result, Option, subst, not-true, not-false, is_utf8, chars, encode, ◌==◌, is_some, is_keyword_of, name_of, literal_of, Lexeme, is_word, is_sign, source, starts, run, runs_of, seen, Part, Reading, Stop, stop, choose_at, ◌then◌, Many, no_more, many, passes, ◌◂◌, Like, Lawful, Begins, Apart, Avoids, comma, name_in, name_value, is_name, qualified, literal, is_literal, text_in, literal_value, many_laws, CanEnd, Shorter, run_none, machine_laws, a_word, a_sign, name_laws, qualified_laws, sign_is, words_apart, qualified_begins, literal_laws, literal_begins, word_no_sign, sign_no_word, signs_apart, free, stop_no_type, sign_no_name, sign_no_literal, Headed, lawful_seen, lawful_ended, lawful_next, headed_sign, headed_seen, lawful_unless, lawful_word, lawful_sign, headed_word, lawful_either, headed_next, lawful_choose, lawful_then, one_word, lawful_worded, one_sign, ◌also◌, sign_kind, RestSpot, Begin, Deferrable, Initially, FirstOn, Update, UpdateNo, UpdateSet, SecondOn, Delete, DeleteNo, DeleteSet, Opened, Named, more_names, names_of, columns, if_name, is_long_by, rest_step, rest_long, rest_done, rest_goes_on, resting, key_rest, begins_foreign, foreign_rest, TokenKind, Number, Literal, digits_below, whole_number, First, Step, Both, Lower, Upper, ClauseSpot, Between, BehindAs, BehindStart, BehindIncrement, BehindNo, Due, BehindMinus, Clauses, with_number, reached, clause_first, kind_first, usual_first, step_first, begins_clause, first_reached, clausing, clauses_of, sequence_clauses, sequence_of, create_sequence, expression, nest_step, nest_done, ends_run, default_text, Inside, IsTooLong, shortened, short_word, whole_path, path_in, path_of, path_value, word_agrees, sign_agrees, name_agrees, literal_agrees, name_shortens, guarded_shortens, refused_shortens, word_no_text, Agrees, passes_like, starts-append, starts_kept, starts_again, Tells, Fits, left_of, long_of, told, lawful, named_by, expression_laws, expression_ends, expression_ends_bracket, default_text_laws, run_ends, one_of_laws, one_of_avoids, one_of_avoids_others, new_owner, owned_by, its_role, its_column, sequence_changed, sequence_change, altered_sequence, view_and_body, create_view, replace_view, begun_by, bracketed, index_made, index_body, index_parts, index_of, unique_index_of, create_index, create_unique_index, view_branch, more_relations, Shortens, one_laws, one_begins, seen_avoids, mark_begins, Check, Owner, check_body, primary_of, primary_body, unique_of, unique_body, foreign_of, foreign_body, constraint_body, added, new_default, own_change, table_change, table_changed, only_value, only_name, other_value, other_name, other_path, in_schema, key_word, behind_only, only_changed, altered_table, listed_laws, CheckDef, create_enum, enum_of, attributes, typed, checking, domain_of, create_domain, more_elements, elements, parted, table_elements, table_of, create_table, named_check_is, checks_apart, typed_laws, attributes_end, sign_end, column_ends, elements_apart, named_check_free, LexFault, QName, lexemes, collected, whole_number_laws, zero_below, no_count_first, literal_path, truth, set_value, some_columns, copy_from, create_role, alter_role, create_database, create_schema, created, new_check, its_owner, one_more_check, domain_changed, domain_change, altered_domain, name_and_owner, path_and_owner, owned_name, owned_path, altered, set_config, catalog_calls, selected, equals_or_to, setting, more_commands, command, statement, word_like, sign_like}
+use Rattle.ddl_laws.proofs.Common.{grammar, ◌≡◌, Bool, true, false, ◌||◌, List, [], ◌∷◌, Some, None, refl, ap, codes, ℕ, ◌+◌, ◌^◌, pos, arith, ◌++◌, append-nil, append_assoc, Ok, Err, sym, ◌∙◌, inl, not, Option, subst, not-true, not-false, is_utf8, chars, encode, ◌==◌, is_some, is_keyword_of, name_of, literal_of, Lexeme, is_word, is_sign, source, starts, run, Part, Reading, Stop, stop, choose_at, ◌then◌, Many, no_more, many, passes, ◌◂◌, Like, Lawful, Apart, Avoids, comma, name_in, name_value, is_name, qualified, literal, is_literal, text_in, literal_value, many_laws, CanEnd, machine_laws, a_word, a_sign, name_laws, qualified_laws, sign_is, words_apart, qualified_begins, literal_laws, literal_begins, word_no_sign, sign_no_word, signs_apart, free, stop_no_type, sign_no_name, sign_no_literal, Headed, lawful_seen, lawful_ended, lawful_next, headed_sign, headed_seen, lawful_unless, lawful_word, lawful_sign, headed_word, lawful_either, headed_next, lawful_choose, lawful_then, one_word, lawful_worded, one_sign, ◌also◌, sign_kind, more_names, names_of, columns, rest_goes_on, deferral, action, on_delete, reactions, key_rest, foreign_rest, TokenKind, Number, Literal, whole_number, First, Step, Both, Lower, Upper, ClauseSpot, Between, BehindAs, BehindStart, BehindIncrement, BehindNo, Due, BehindMinus, Clauses, with_number, reached, clause_first, kind_first, usual_first, step_first, first_reached, clausing, clauses_of, sequence_clauses, sequence_of, create_sequence, expression, nest_step, nest_done, ends_run, default_text, Inside, shortened, short_word, whole_path, path_in, path_of, path_value, word_agrees, sign_agrees, name_agrees, literal_agrees, name_shortens, guarded_shortens, refused_shortens, word_no_text, Agrees, passes_like, starts-append, starts_kept, starts_again, Tells, Fits, left_of, long_of, told, lawful, named_by, expression_laws, expression_ends, expression_ends_bracket, default_text_laws, run_ends, one_of_laws, one_of_avoids, one_of_avoids_others, new_owner, owned_by, its_role, its_column, sequence_changed, sequence_change, altered_sequence, view_and_body, create_view, replace_view, begun_by, bracketed, index_made, index_body, index_parts, index_of, unique_index_of, create_index, create_unique_index, view_branch, more_relations, one_laws, one_begins, seen_avoids, mark_begins, Check, Owner, check_body, primary_of, primary_body, unique_of, unique_body, foreign_of, foreign_body, constraint_body, added, new_default, own_change, table_change, table_changed, only_value, only_name, other_value, other_name, other_path, in_schema, key_word, behind_only, only_changed, altered_table, listed_laws, CheckDef, create_enum, enum_of, attributes, typed, checking, domain_of, create_domain, more_elements, elements, parted, table_elements, table_of, create_table, named_check_is, checks_apart, typed_laws, attributes_end, sign_end, column_ends, elements_apart, named_check_free, LexFault, QName, lexemes, collected, whole_number_laws, zero_below, no_count_first, literal_path, truth, set_value, some_columns, copy_from, create_role, alter_role, create_database, create_schema, created, new_check, its_owner, one_more_check, domain_changed, domain_change, altered_domain, name_and_owner, path_and_owner, owned_name, owned_path, altered, set_config, catalog_calls, selected, equals_or_to, setting, more_commands, command, statement, word_like, sign_like}
 use Rattle.ddl_parts.proofs.Lemmas.{listed}
-use Rattle.ddl_parts.specs.Parts.{one_more}
+use Rattle.ddl_parts.specs.Parts.{one_more, mark, one_of, ◌▸◌}
+use Rattle.ddl_parts.proofs.Lemmas.{lawful_maybe, avoids_maybe, or_parts, word_no_sign, never}
+use Rattle.ddl_parts.proofs.Simple.{nothing_laws}
+use Rattle.ddl_read.specs.Rests.{maybe, nothing_more, set_columns, behind_on}
 use Rattle.ddl_admin.proofs.{CommentLaws.comment_on_laws, RoleLaws.create_role_laws, RoleLaws.alter_role_laws, DatabaseLaws.create_database_laws}
 use Rattle.ddl_laws.proofs.Computing.{reads}
-use Rattle.ddl_read.proofs.ColumnLaws.{names_apart}
-use Rattle.ddl_read.specs.{declared.rests.RestSpot.TheVariants.Foreign, declared.rests.RestSpot.TheVariants.Ended, SequenceGrammar.is_between, Clauses.semicolon, AlterGrammar.path_of as its_path}
+use Rattle.ddl_read.proofs.{ColumnLaws.names_apart, RestLaws.kept_laws}
+use Rattle.ddl_read.specs.{Clauses.semicolon, AlterGrammar.path_of as its_path}
 use Rattle.ddl_rights.proofs.GrantLaws.{granted_laws, revoked_laws}
 use Rattle.cat_model.specs.declared.stmt.Stmt.TheVariants as stmt
 use Rattle.cat_model.specs.declared.grant.Owned.TheVariants as owned
@@ -19,68 +22,46 @@ columns_are = headed_sign 40 (lawful_ended 41 (lawful_seen names_of (lawful_next
 
 -- ---- what follows
 
-rest_finish : RestSpot → List Lexeme
-rest_finish Begin = a_word (codes "deferrable") ∷ []
-rest_finish Deferrable = []
-rest_finish Initially = a_word (codes "deferred") ∷ []
-rest_finish Foreign = a_word (codes "deferrable") ∷ []
-rest_finish FirstOn = a_word (codes "delete") ∷ a_word (codes "cascade") ∷ []
-rest_finish Update = a_word (codes "cascade") ∷ []
-rest_finish UpdateNo = a_word (codes "action") ∷ []
-rest_finish UpdateSet = a_word (codes "null") ∷ []
-rest_finish SecondOn = a_word (codes "delete") ∷ a_word (codes "cascade") ∷ []
-rest_finish Delete = a_word (codes "cascade") ∷ []
-rest_finish DeleteNo = a_word (codes "action") ∷ []
-rest_finish DeleteSet = a_word (codes "null") ∷ []
-rest_finish Opened = a_word (codes "a") ∷ a_sign 41 ∷ []
-rest_finish Named = a_sign 41 ∷ []
-rest_finish x = []
+deferred : Headed (is_word (codes "deferrable")) (is_word (codes "deferrable") ▸ maybe (is_word (codes "initially")) (codes "initially") (mark (is_word (codes "deferred"))))
+deferred = headed_word (codes "deferrable") refl (lawful_unless tt (headed_word (codes "initially") refl (one_word (codes "deferred") refl).laws))
 
--- each state can be brought to an end
-rest_ended : (m s : RestSpot) → (last : RestSpot) × (run (resting m) (Some s) (rest_finish s) ≡ Some last) × (rest_done last ≡ true)
-unfolding rest_step rest_finish rest_done is_word is_sign is_keyword_of name_value name_in name_of is_utf8 chars encode
-rest_ended m Begin = (_, refl, refl)
-rest_ended m x = (_, refl, refl)
+pub deferral_laws : Lawful deferral
+unfolding deferral rest_goes_on
+deferral_laws = lawful_maybe rest_goes_on tt deferred (λ t e. grind (arith, or_parts))
 
--- it goes by words and signs, but where it takes a name
-rest_same : (s : RestSpot) (t : Lexeme) → IsTooLong t → (s ≡ Opened → ⊥) → (rest_step s (shortened t) ≡ rest_step s t) × (rest_long s (shortened t) ≡ false)
-unfolding rest_step rest_long
-rest_same Opened t long other = absurd (other refl)
-rest_same Ended t long other = (refl, refl)
-rest_same s t long other = (simp (word_like t long, sign_like t), refl)
+deferral_avoids : (other : Lexeme → Bool) → Apart (is_word (codes "deferrable")) other → ((t : Lexeme) → rest_goes_on t ≡ false → other t ≡ false) → Avoids other deferral
+unfolding deferral
+deferral_avoids other apart none = avoids_maybe other deferred apart rest_goes_on tt none
 
-rest_shorter : (m s : RestSpot) (t : Lexeme) → rest_step s t ≡ None → Shorter (resting m) s t
-unfolding rest_step rest_long rest_done
-rest_shorter m Opened t none = by (name_value t) refl none
+action_laws : (goes : Bool) → Lawful (action goes)
+unfolding action
+action_laws goes =
+    let set = set_laws goes in
+    let none : Lawful nothing_more = nothing_laws never tt in
+    one_of_laws (record { key = codes "no"; part = mark (is_word (codes "action")) })
+    (record { key = codes "set"; part = one_of (record { key = codes "null"; part = set_columns goes }) (record { key = codes "default"; part = set_columns goes } ∷ []) } ∷ record { key = codes "cascade"; part = nothing_more } ∷ record { key = codes "restrict"; part = nothing_more } ∷ [])
+    refl ((one_word (codes "action") refl).laws also one_of_laws (record { key = codes "null"; part = set_columns goes }) (record { key = codes "default"; part = set_columns goes } ∷ []) refl (set also set) also none also none)
   where
-    by : (r : Result (List ℕ) Bool) → name_value t ≡ r → if_name r Named ≡ None → Shorter (resting m) Opened t
-    by (Ok n) is e = absurd cc
-    by (Err long) is e = record {
-      undone = λ l. refl;
-      takes = λ l. (let h = name_shortens.long t (is ∙ ap failed (sym (ap is_long_by is) ∙ l)) in (h.0, (Named, ap (λ r. if_name r Named) h.1.1)));
-      stays = λ l long'. (let h = name_shortens.none t long' (is ∙ ap failed (sym (ap is_long_by is) ∙ l)) in (ap (λ r. if_name r Named) h, ap is_long_by h));
-    }
-      where
-        failed : Bool → Result (List ℕ) Bool
-        failed b = Err b
-rest_shorter m s t none = record { undone = λ l. absurd cc; takes = λ l. absurd cc; stays = λ l long. (let h = rest_same s t long (λ e. absurd cc) in (h.0 ∙ none, h.1)) }
+    set_laws : (goes : Bool) → Lawful (set_columns goes)
+    set_laws true = lawful_unless tt (headed_seen (λ names. tt) columns_are)
+    set_laws false = nothing_laws never tt
 
-resting_ends : (s : RestSpot) → CanEnd (resting s)
-unfolding rest_step rest_done rest_goes_on
-resting_ends s =
-    let rest_covers : (s : RestSpot) (t : Lexeme) → rest_done s ≡ true → rest_goes_on t ≡ false → rest_step s t ≡ None = λ s t d e. grind arith in
-    record { finish = rest_finish; last = λ x. (rest_ended s x).0; finished = λ x. (rest_ended s x).1; done = λ x. (rest_ended s x).2; covers = rest_covers; shorter = rest_shorter s }
+on_delete_is : Headed (is_word (codes "delete")) on_delete
+unfolding on_delete action rest_goes_on columns
+on_delete_is = headed_word (codes "delete") refl (lawful_seen (λ x. tt) (lawful_then (action_laws true) deferral_laws (deferral_avoids (action true).goes_on (λ t e. grind (arith, word_no_sign)) (λ t e. grind (arith, or_parts)))))
 
-some_rest : (s : RestSpot) (test : Lexeme → Bool) → Agrees test → Begins test (runs_of (resting s)) → Headed test (seen source (runs_of (resting s)))
-some_rest s test agrees begins = let h : Headed test (runs_of (resting s)) = record { laws = machine_laws (resting s) (resting_ends s); begins = begins; agrees = agrees } in headed_seen source h
-
-foreign_rest_laws : Lawful foreign_rest
-unfolding foreign_rest rest_step rest_done begins_foreign
-foreign_rest_laws = lawful_unless [] (some_rest Foreign begins_foreign (λ t long. simp (word_like t long)) (grind (arith, run_none)))
-
-ends_goes_on : (t : Lexeme) → is_sign 59 t ≡ true → rest_goes_on t ≡ false
+behind_on_laws : {p : Part (Unit {0})} → Lawful p → Lawful (behind_on p)
 unfolding rest_goes_on
-ends_goes_on t e = rw (sign_no_word 59 (codes "initially") t e, sign_no_word 59 (codes "on") t e, sign_no_word 59 (codes "deferrable") t e, signs_apart 59 40 refl t e) refl
+behind_on_laws lp = lawful_choose (headed_word (codes "on") refl lp) deferral_laws (deferral_avoids (is_word (codes "on")) (words_apart (codes "deferrable") (codes "on") refl) (λ t e. (or_parts (is_word (codes "on") t) (is_word (codes "deferrable") t || is_sign 40 t) e).0))
+
+pub reactions_laws : Lawful reactions
+unfolding reactions action
+reactions_laws =
+    behind_on_laws (lawful_either (headed_word (codes "update") refl (lawful_seen (λ x. tt) (lawful_next (action_laws false) (behind_on_laws on_delete_is.laws) (λ t. refl)))) on_delete_is (words_apart (codes "delete") (codes "update") refl))
+
+rests_end : (t : Lexeme) → is_sign 59 t ≡ true → (deferral.goes_on t ≡ false) × (reactions.goes_on t ≡ false)
+unfolding deferral reactions action on_delete rest_goes_on
+rests_end t e = rw (sign_no_word 59 (codes "initially") t e, sign_no_word 59 (codes "on") t e, sign_no_word 59 (codes "deferrable") t e, signs_apart 59 40 refl t e) (refl, refl)
 
 -- ---- sequences
 
@@ -191,23 +172,19 @@ unfolding new_owner
 new_owner_is = headed_word (codes "owner") refl (lawful_word (codes "to") refl (lawful_ended 59 name_laws (free semicolon)))
 
 pub constraint_body_laws : Lawful constraint_body
-unfolding constraint_body check_body primary_body unique_body foreign_body key_rest rest_step rest_done columns
+unfolding constraint_body check_body primary_body unique_body foreign_body key_rest foreign_rest columns
 constraint_body_laws =
-    let key_rest_laws : Lawful key_rest = lawful_unless [] (some_rest Begin (is_word (codes "deferrable")) (word_agrees (codes "deferrable") refl) (grind (arith, run_none))) in
-    let keyed_laws : Lawful (columns then key_rest) = lawful_next columns_are.laws key_rest_laws (λ t. refl) in
+    let keyed_laws : Lawful (columns then key_rest) = lawful_next columns_are.laws (kept_laws deferral_laws) (λ t. refl) in
     let check = lawful_seen Check (lawful_sign 40 (lawful_ended 41 expression_laws expression_ends_bracket)) in
-    let parents = lawful_word (codes "references") refl (lawful_next qualified_laws (lawful_next columns_are.laws foreign_rest_laws (λ t. refl)) (λ t. refl)) in
+    let parents = lawful_word (codes "references") refl (lawful_next qualified_laws (lawful_next columns_are.laws (kept_laws reactions_laws) (λ t. refl)) (λ t. refl)) in
     let foreign = lawful_seen foreign_of (lawful_word (codes "key") refl (lawful_next columns_are.laws parents (λ t. refl))) in
     one_of_laws (record { key = codes "check"; part = check_body })
     (record { key = codes "primary"; part = primary_body } ∷ record { key = codes "unique"; part = unique_body } ∷ record { key = codes "foreign"; part = foreign_body } ∷ [])
     refl (check also lawful_seen primary_of (lawful_word (codes "key") refl keyed_laws) also lawful_seen unique_of keyed_laws also foreign)
 
 constraint_ends : Apart semicolon constraint_body.goes_on
-unfolding constraint_body check_body primary_body unique_body foreign_body key_rest foreign_rest begins_foreign
-constraint_ends t e =
-    let foreign_rest_ends : (t : Lexeme) → is_sign 59 t ≡ true → foreign_rest.goes_on t ≡ false = λ t e. rw (ends_goes_on t e, sign_no_word 59 (codes "on") t e, sign_no_word 59 (codes "deferrable") t e) refl in
-    let key_rest_ends : (t : Lexeme) → is_sign 59 t ≡ true → key_rest.goes_on t ≡ false = λ t e. rw (ends_goes_on t e, sign_no_word 59 (codes "deferrable") t e) refl in
-    rw (key_rest_ends t e, foreign_rest_ends t e) refl
+unfolding constraint_body check_body primary_body unique_body foreign_body key_rest foreign_rest
+constraint_ends t e = let h = rests_end t e in rw (h.0, h.1) refl
 
 own_change_laws : Lawful own_change
 unfolding own_change added new_default default_text

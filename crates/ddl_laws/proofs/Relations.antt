@@ -1,9 +1,14 @@
 -- Owners, checks and changes of domains and sequences, settings and calls, views, indexes, COPY and ALTER TABLE: each part
 -- of their grammar with the text that it is written in.
-use Rattle.ddl_laws.proofs.Common.{◌≡◌, ℕ, Bool, false, List, [], ◌∷◌, ◌++◌, append_assoc, append-nil, refl, ap, ◌∙◌, ◌⊎◌, inl, inr, codes, true, cond, sym, subst, Result, Ok, Err, flat_map, AllByRecursion, is_utf8, chars, encode, Word, is_keyword_of, name_of, written_name, IsName, Lexeme, source, never, is_sign, is_word, spelled, starts, is_sign_kind, name, name_value, name_in, nothing, seen, choose, runs_of, ◌then◌, ◌▸◌, ◌◂◌, rest_text, joined, path, further, names_of, columns, RestSpot, Begin, rest_step, rest_done, resting, key_rest, foreign_rest, Words, Safe, admits, joined-append, Follows, IsPut, Yields, GoesByWords, plain_by, kinds, run_read, Gap, none, space, newline, spaced, indented, no_key, value_name, Written, Says, opening_as, closing_as, comma_as, name_as, then_as, lead_as, close_as, like_as, shown_as, pieces_as, choose_as, nothing_as, alike_as, either_pieces, run_as, Kinds, leaf_as, is_key, dot_as, equals_as, word_as, mark_as, literal_as, path_as, word_then, end_as, seen_as, heard_as, run_put, kind_as, is_bare_word, word_said, name_said, is_as, path_same, led_as, or_as, IsRunText, IsRest, AreColumns, IsCheck, IsWritable, before_end_mark, lines_nil, expression, nested, lexemes, collected, AreRows, with_feeds, rows_in, check_text, space_before, named_check, check_of, new_owner, some_columns, copy_from, new_check, its_owner, one_more_check, domain_changed, domain_change, altered_domain, set_config, equals_or_to, setting, owned_by, its_role, its_column, sequence_changed, sequence_change, altered_sequence, view_and_body, bracketed, index_made, index_body, index_parts, truth, value_of_sequence, set_value, IsExpressionText, IsBracketText, IsPath, IsDefaultText, nested_plain, expression_as, default_as, number_as, TokenKind, is_reserved, written_kind, QName, Constraint, Check, Primary, Unique, Foreign as ForeignKey, TableChange, Owner, Default, Added, check_body, primary_of, primary_body, unique_of, unique_body, foreign_of, foreign_body, constraint_body, added_of, added, default_of, new_default, own_change, table_change, table_changed, only_value, only_name, other_value, other_path, BehindOnly, in_schema, key_word, behind_only, only_changed, altered_table}
+use Rattle.ddl_laws.proofs.Common.{◌≡◌, ℕ, Bool, false, List, [], ◌∷◌, ◌++◌, append_assoc, append-nil, refl, ap, ◌∙◌, inl, inr, codes, true, cond, sym, subst, Result, Ok, Err, flat_map, AllByRecursion, is_utf8, chars, encode, Word, is_keyword_of, name_of, written_name, IsName, Lexeme, source, never, is_sign, is_word, spelled, starts, is_sign_kind, name, name_value, name_in, seen, ◌then◌, ◌▸◌, ◌◂◌, rest_text, joined, path, further, names_of, columns, deferral, action, on_delete, reactions, key_rest, foreign_rest, Words, Safe, admits, joined-append, Follows, IsPut, Yields, kinds, run_read, Gap, none, space, newline, spaced, indented, no_key, value_name, Written, Says, opening_as, closing_as, comma_as, name_as, then_as, lead_as, close_as, shown_as, pieces_as, choose_as, nothing_as, alike_as, Kinds, leaf_as, is_key, dot_as, equals_as, word_as, mark_as, literal_as, path_as, word_then, end_as, seen_as, heard_as, run_put, kind_as, is_bare_word, word_said, name_said, is_as, path_same, led_as, or_as, IsRest, AreColumns, IsCheck, IsWritable, before_end_mark, lines_nil, expression, nested, lexemes, collected, AreRows, with_feeds, rows_in, check_text, space_before, named_check, check_of, new_owner, some_columns, copy_from, new_check, its_owner, one_more_check, domain_changed, domain_change, altered_domain, set_config, equals_or_to, setting, owned_by, its_role, its_column, sequence_changed, sequence_change, altered_sequence, view_and_body, bracketed, index_made, index_body, index_parts, truth, value_of_sequence, set_value, IsExpressionText, IsBracketText, IsPath, IsDefaultText, nested_plain, expression_as, default_as, number_as, TokenKind, is_reserved, written_kind, QName, Constraint, Check, Primary, Unique, Foreign as ForeignKey, TableChange, Owner, Default, Added, check_body, primary_of, primary_body, unique_of, unique_body, foreign_of, foreign_body, constraint_body, added_of, added, default_of, new_default, own_change, table_change, table_changed, only_value, only_name, other_value, other_path, BehindOnly, in_schema, key_word, behind_only, only_changed, altered_table}
+use Rattle.ddl_forms.specs.Texts.{IsTextOf}
+use Rattle.ddl_forms.proofs.{Behind.End, Behind.Opens, Behind.opened, Behind.one_opens, PlainParts.IsPlainPart, PlainParts.plain_spells, PlainParts.plain_parts, PlainParts.word_plain, PlainParts.sign_plain, PlainParts.name_plain, PlainParts.then_plain, PlainParts.seen_plain, PlainParts.choose_plain, PlainParts.nothing_plain, PlainParts.many_plain, RunTexts.plain_runs, RunTexts.read_again, Putting.none_put, Putting.same_text, Written.not_closed}
+use Rattle.ddl_parts.proofs.Lemmas.{Part}
+use Rattle.ddl_read.specs.Columns.{more_names}
+use Rattle.ddl_read.specs.Rests.{kept, set_columns, behind_on}
 use Rattle.ddl_write.specs.{Paths.listed, Views.stands_alone}
 use Rattle.ddl_laws.proofs.{Paths.literal_path_as, GrammarLaws.only_is, GrammarLaws.other_is}
-use Rattle.ddl_read.specs.{declared.rests.RestSpot.TheVariants.Foreign, declared.relations.Index.Index, AlterGrammar.path_of}
+use Rattle.ddl_read.specs.{AlterGrammar.path_of}
 use Rattle.cat_model.specs.declared.stmt.Stmt.TheVariants as stmt
 
 -- ---- columns
@@ -36,39 +41,79 @@ columns_as {g} gap = pieces_as (in_brackets_as gap) (λ ns is. g ∷ listed ns �
 
 -- ---- what follows them
 
-pub rest_goes : (s : RestSpot) → GoesByWords (rest_step s)
-unfolding rest_step is_word is_sign is_keyword_of name_value name_in name_of
-rest_goes Begin = ((λ gap start t. refl), λ word. (refl, refl))
-rest_goes x = ((λ gap start t. refl), λ word. (refl, refl))
+pub rest_put : {p : Part (Unit {0})} → IsPlainPart p → p.Spells tt [] → (v : List ℕ) → IsRest p v → (others : List Lexeme) → Follows others → admits Safe (spelled others) ≡ true → IsPut (kept p) v (joined (rest_text v ∷ [])) others
+rest_put {p} plain empty [] is others follows e = none_put (kept p) [] others (tt, refl, empty) follows
+rest_put {p} plain empty (b ∷ v) is others follows e =
+    same_text (32 ∷ b ∷ v) (joined (rest_text (b ∷ v) ∷ [])) (sym (append-nil (32 ∷ b ∷ v)))
+    (run_put {g = 32 ∷ []} (plain_spells plain tt) (kept p) (b ∷ v) (b ∷ v) others space is (λ ts runs whole same. (tt, sym whole, runs)) follows e)
 
-pub begins : (rest_done Begin ≡ false) × (rest_done Foreign ≡ false)
-unfolding rest_done
-begins = (refl, refl)
+pub rest_made : {p : Part (Unit {0})} → IsPlainPart p → Yields (IsRest p) (kept p)
+rest_made {p} plain v [] r came s = subst (IsRest p) (sym s.1) tt
+rest_made {p} plain v (t ∷ ts) r came s = subst (IsRest p) (sym s.1) (is_rest (source (t ∷ ts)) (read_again (p.Spells tt) (plain_spells plain tt) t ts r came s.2).text)
+  where
+    is_rest : (v : List ℕ) → IsTextOf (p.Spells tt) v → IsRest p v
+    is_rest [] is = tt
+    is_rest (b ∷ v) is = is
 
-abbrev pub rest_to : (s : RestSpot) → (v : List ℕ) → IsRest s v → IsRunText (resting s) v ⊎ (v ≡ [])
-rest_to s [] is = inr refl
-rest_to s (b ∷ v) is = inl is
+pub rest_begins : (v : List ℕ) → Opens true Safe (joined (rest_text v ∷ []))
+rest_begins [] m c rest e = e
+rest_begins (b ∷ v) m c rest e = one_opens false true Safe End (32 ∷ b ∷ v ++ []) (opened (32 ∷ []) (b ∷ v ++ [])) m c rest e
 
-pub rest_from : (s : RestSpot) (v : List ℕ) → IsRunText (resting s) v ⊎ (v ≡ []) → IsRest s v
-rest_from s [] h = tt
-rest_from s (b ∷ v) (inl is) = is
-rest_from s (b ∷ v) (inr e) = absurd cc
+-- the text that a part takes behind a space, or nothing
+abbrev pub rest_as : {p : Part (Unit {0})} → IsPlainPart p → p.Spells tt [] → Written (kept p)
+rest_as {p} plain empty = record {
+  Fit = IsRest p;
+  Is = IsRest p;
+  pieces = λ v is. rest_text v ∷ [];
+  after = Safe;
+  opens = Safe;
+  lacks = true;
+  closed = false;
+  put = rest_put plain empty;
+  begins = λ v is. rest_begins v;
+  made = rest_made plain;
+  closes = not_closed (kept p);
+}
 
-pub rest_same : (s : RestSpot) (start : rest_done s ≡ false) (v : List ℕ) (is : IsRest s v) → joined (either_pieces (run_as (plain_by (resting s) rest_goes start) space) (nothing_as {test = never} []) v (rest_to s v is)) ≡ joined (rest_text v ∷ [])
-rest_same s start [] is = refl
-rest_same s start (b ∷ v) is = refl
+pub deferral_plain : IsPlainPart deferral
+unfolding deferral
+deferral_plain = search plain_parts depth 30
 
--- a run's text behind a space, or nothing
-abbrev pub rest_as : {test : Lexeme → Bool} → (s : RestSpot) → rest_done s ≡ false → Written (choose test (seen source (runs_of (resting s))) (nothing test []))
-rest_as s start = pieces_as (like_as (choose_as (run_as (plain_by (resting s) rest_goes start) space) (nothing_as [])) (IsRest s) (rest_to s) (rest_from s)) (λ v is. rest_text v ∷ []) (rest_same s start)
+keyed_plain : {A : Type 0} {p : Part A} (key : List ℕ) → IsPlainPart p → IsPlainPart (is_word key ▸ p)
+keyed_plain key h = seen_plain (λ x. x.1) (then_plain (word_plain key) h)
+
+columns_plain : IsPlainPart columns
+unfolding columns
+columns_plain =
+    let more = many_plain (is_sign 44) more_names (λ s. seen_plain (λ x. x.1) (then_plain (sign_plain 44 refl) name_plain)) in
+    seen_plain (λ x. x.1) (then_plain (sign_plain 40 refl) (seen_plain (λ x. x.0) (then_plain (seen_plain names_of (then_plain name_plain more)) (sign_plain 41 refl))))
+
+action_plain : (goes : Bool) → IsPlainPart (action goes)
+unfolding action
+action_plain goes =
+    let set = keyed_plain (codes "set") (choose_plain (keyed_plain (codes "null") (set_plain goes)) (keyed_plain (codes "default") (set_plain goes))) in
+    choose_plain (keyed_plain (codes "no") (word_plain (codes "action"))) (choose_plain set (choose_plain (keyed_plain (codes "cascade") (nothing_plain never tt)) (keyed_plain (codes "restrict") (nothing_plain never tt))))
+  where
+    set_plain : (goes : Bool) → IsPlainPart (set_columns goes)
+    set_plain true = choose_plain (seen_plain (λ names. tt) columns_plain) (nothing_plain (is_sign 40) tt)
+    set_plain false = nothing_plain never tt
+
+behind_on_plain : {p : Part (Unit {0})} → IsPlainPart p → IsPlainPart (behind_on p)
+behind_on_plain h = choose_plain (keyed_plain (codes "on") h) deferral_plain
+
+pub reactions_plain : IsPlainPart reactions
+unfolding reactions on_delete
+reactions_plain =
+    let deleted : IsPlainPart on_delete = keyed_plain (codes "delete") (seen_plain (λ x. tt) (then_plain (action_plain true) deferral_plain)) in
+    behind_on_plain (choose_plain (keyed_plain (codes "update") (seen_plain (λ x. tt) (then_plain (action_plain false) (behind_on_plain deleted)))) deleted)
 
 unfoldable pub key_rest_as : Written key_rest
-unfolding key_rest
-key_rest_as = rest_as Begin begins.0
+unfolding key_rest deferral
+key_rest_as = rest_as deferral_plain (inr (refl, refl))
 
 unfoldable pub foreign_rest_as : Written foreign_rest
-unfolding foreign_rest
-foreign_rest_as = rest_as Foreign begins.1
+unfolding foreign_rest reactions deferral
+foreign_rest_as = rest_as reactions_plain (inr (inr (refl, refl)))
 
 -- ---- owners and checks
 
@@ -127,8 +172,8 @@ unfolding expression space_before
 body_put v others is follows e = by (stands_alone v)
   where
     by : (b : Bool) → IsPut expression v ((10 ∷ []) ++ (cond b [] (codes " ") ++ v)) others
-    by true = run_put (nested_plain false false) expression v v others newline is (λ ts runs whole same. (ts, sym whole, (refl, runs))) follows e
-    by false = run_put (nested_plain false false) expression v v others spaced is (λ ts runs whole same. (ts, sym whole, (refl, runs))) follows e
+    by true = run_put (plain_runs (nested_plain false false)) expression v v others newline is (λ ts runs whole same. (ts, sym whole, (refl, runs))) follows e
+    by false = run_put (plain_runs (nested_plain false false)) expression v v others spaced is (λ ts runs whole same. (ts, sym whole, (refl, runs))) follows e
 
 unfoldable pub body_as : Written expression
 unfolding expression_as
@@ -150,7 +195,7 @@ same_start b a [] e is = absurd cc
 pub bracket_put : (v : List ℕ) (others : List Lexeme) → IsBracketText v → Follows others → admits Safe (spelled others) ≡ true → IsPut bracketed v ((32 ∷ []) ++ v) others
 unfolding bracketed expression
 bracket_put v others is follows e =
-    run_put (nested_plain false false) bracketed v v others space is.0 (λ ts runs whole same. (same_start 40 ts (lexemes v (collected v 0).pieces) same is.1, (ts, sym whole, (refl, runs)))) follows e
+    run_put (plain_runs (nested_plain false false)) bracketed v v others space is.0 (λ ts runs whole same. (same_start 40 ts (lexemes v (collected v 0).pieces) same is.1, (ts, sym whole, (refl, runs)))) follows e
 
 pub bracket_made : Yields IsBracketText bracketed
 unfolding bracketed expression
@@ -188,9 +233,9 @@ copy_from_as =
 
 abbrev pub IsConstraint : Constraint → Type 0
 IsConstraint (Check v) = IsExpressionText v
-IsConstraint (Primary ns rest) = AreColumns ns × IsRest Begin rest
-IsConstraint (Unique ns rest) = AreColumns ns × IsRest Begin rest
-IsConstraint (ForeignKey ns parent theirs rest) = AreColumns ns × (IsPath parent × (AreColumns theirs × IsRest Foreign rest))
+IsConstraint (Primary ns rest) = AreColumns ns × IsRest deferral rest
+IsConstraint (Unique ns rest) = AreColumns ns × IsRest deferral rest
+IsConstraint (ForeignKey ns parent theirs rest) = AreColumns ns × (IsPath parent × (AreColumns theirs × IsRest reactions rest))
 
 unfoldable pub constraint_body_as : Kinds IsConstraint constraint_body
 unfolding constraint_body check_body primary_body unique_body foreign_body is_key expression_as columns_as key_rest_as foreign_rest_as

@@ -14,12 +14,11 @@ use Rattle.cat_model.specs.declared.stmt.Stmt.{Stmt}
 use Rattle.cat_model.specs.declared.stmt.Stmt.TheVariants as stmt
 use Rattle.ddl_lines.specs.CopyRows.{AreRows}
 use Rattle.ddl_write.specs.Spelling.{spelling}
-pub use Rattle.ddl_forms.specs.Texts.{IsInt, IsPath, IsRunText, IsExpressionText, IsBracketText, IsDefaultText, IsTypeText, IsType}
+pub use Rattle.ddl_forms.specs.Texts.{IsInt, IsPath, IsTextOf, IsRunText, IsExpressionText, IsBracketText, IsDefaultText, IsTypeText, IsType}
 use Rattle.ddl_rights.specs.Writable.{IsObject, AreRights, IsGrantee, IsGrantor}
 use Rattle.ddl_read.specs.declared.located.Located.{Located}
-use Rattle.ddl_read.specs.declared.rests.RestSpot.{RestSpot}
-use Rattle.ddl_read.specs.declared.rests.RestSpot.TheVariants.{Begin, Foreign}
-use Rattle.ddl_read.specs.Rests.{resting}
+use Rattle.ddl_parts.specs.Parts.{Part}
+use Rattle.ddl_read.specs.Rests.{deferral, reactions}
 
 abbrev pub IsOwnedName : Owned → Type 0
 IsOwnedName (owned.Schema n) = IsName n
@@ -61,9 +60,9 @@ AreColumns [] = ⊥
 AreColumns (n ∷ more) = IsName n × AllByRecursion IsName more
 
 -- what may follow the columns of a key, or those of a foreign key's parents, or nothing
-abbrev pub IsRest : RestSpot → List ℕ → Type 0
-IsRest s [] = Unit {0}
-IsRest s (b ∷ rest) = IsRunText (resting s) (b ∷ rest)
+abbrev pub IsRest : Part (Unit {0}) → List ℕ → Type 0
+IsRest p [] = Unit {0}
+IsRest p (b ∷ rest) = IsTextOf (p.Spells tt) (b ∷ rest)
 
 -- a default, if there is one
 abbrev pub IsDefault : Option (List ℕ) → Type 0
@@ -86,9 +85,9 @@ IsWritable (stmt.CreateDomain q base not_null default checks) = IsPath q × IsTy
 IsWritable (stmt.CreateTable q columns checks) = IsPath q × AllByRecursion IsColumn columns × AllByRecursion IsCheck checks
 IsWritable (stmt.CreateSequence q kind start step min max cache cycle) = IsPath q × IsInt start × IsInt step × IsInt min × IsInt max × IsInt cache
 IsWritable (stmt.SetDefault q n v) = IsPath q × IsName n × IsDefaultText v
-IsWritable (stmt.AddPrimary q n columns rest) = IsPath q × IsName n × AreColumns columns × IsRest Begin rest
-IsWritable (stmt.AddUnique q n columns rest) = IsPath q × IsName n × AreColumns columns × IsRest Begin rest
-IsWritable (stmt.AddForeign q n columns parent parents rest) = IsPath q × IsName n × AreColumns columns × IsPath parent × AreColumns parents × IsRest Foreign rest
+IsWritable (stmt.AddPrimary q n columns rest) = IsPath q × IsName n × AreColumns columns × IsRest deferral rest
+IsWritable (stmt.AddUnique q n columns rest) = IsPath q × IsName n × AreColumns columns × IsRest deferral rest
+IsWritable (stmt.AddForeign q n columns parent parents rest) = IsPath q × IsName n × AreColumns columns × IsPath parent × AreColumns parents × IsRest reactions rest
 IsWritable (stmt.AddCheck q n v) = IsPath q × IsName n × IsExpressionText v
 IsWritable (stmt.Set n v) = IsName n × IsExpressionText v
 IsWritable (stmt.SetConfig n v) = IsText n × IsText v

@@ -1,7 +1,7 @@
 pub mod Common
 pub mod Statements
 pub mod TableLaws
-pub mod RestScans
+pub mod RestLaws
 pub mod SequenceScans
 pub mod ColumnLaws
 pub mod ValueLaws

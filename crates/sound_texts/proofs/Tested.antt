@@ -1,26 +1,22 @@
 -- Each test says what it tests.
-use Rattle.std.proofs.Common.{◌≡◌, ℕ, Bool, true, false, ◌&&◌, List, [], ◌∷◌, length, Option, Some, None, refl, sym, ap, ◌∙◌}
+use Rattle.std.proofs.Common.{◌≡◌, ℕ, true, false, List, [], ◌∷◌, Option, Some, None, Ok, Err, refl, sym, ap, subst, ◌∙◌, append-nil}
 use Rattle.std.proofs.lemmas.Bool.{and_parts, and_from, eqb-true, eq-eqb}
-use Rattle.std.specs.Prelude.{◌==◌}
 use Rattle.std.specs.List.{AllByRecursion, list_all}
 use Rattle.copy_text.specs.Texts.{IsName, is_name}
 use Rattle.copy_text.proofs.TextLemmas.{name_from_test, test_from_name}
 use Rattle.cat_model.specs.declared.object.QName.{QName}
 use Rattle.cat_model.specs.declared.type_name.TypeName.{TypeName}
 use Rattle.cat_model.specs.declared.type_name.TypeName.TheVariants.{Words, Path}
-use Rattle.cat_model.specs.Lexemes.{same_text}
 use Rattle.cat_model.specs.Values.{Bytes}
 use Rattle.cat_model.proofs.MarkLaws.{same_text-equal, same_text-self}
-use Rattle.ddl_parts.specs.Lexemes.{starts, start_of, is_sign}
-use Rattle.ddl_parts.specs.Parts.{Machine, run, Runs}
-use Rattle.ddl_parts.specs.Collecting.{collected}
+use Rattle.ddl_parts.specs.Lexemes.{Lexeme, start_of}
+use Rattle.ddl_parts.specs.Parts.{Part, Reading, Machine, run, Runs}
 use Rattle.ddl_parts.specs.Expressions.{nested}
 use Rattle.ddl_parts.specs.Types.{typing, type_of}
-use Rattle.ddl_forms.specs.Texts.{IsPath, IsRunText, IsExpressionText, IsBracketText, IsTypeText, IsType}
-use Rattle.ddl_read.specs.declared.rests.RestSpot.{RestSpot}
-use Rattle.ddl_read.specs.Rests.{resting}
+use Rattle.ddl_forms.specs.Texts.{IsPath, IsRunText, IsBracketText, IsType}
+use Rattle.ddl_parts.specs.Laws.{Lawful}
 use Rattle.ddl_laws.specs.Respelling.{AreColumns, IsRest}
-use Rattle.sound_texts.specs.Tests.{tokens, is_at_start, is_done, is_run, is_bracketed, is_path, are_words, is_type_text, is_type, are_columns, is_rest}
+use Rattle.sound_texts.specs.Tests.{tokens, is_at_start, is_done, is_run, is_bracketed, is_path, are_words, is_type_text, is_type, are_columns, is_rest, is_all}
 
 -- ---- runs
 
@@ -92,10 +88,21 @@ pub columns_to : (names : List Bytes) → AreColumns names → are_columns names
 columns_to [] is = absurd is
 columns_to (n ∷ ns) is = names_to (n ∷ ns) is
 
-pub rest_from : (spot : RestSpot) (v : Bytes) → is_rest spot v ≡ true → IsRest spot v
-rest_from spot [] e = tt
-rest_from spot (b ∷ v) e = run_from (resting spot) (b ∷ v) e
+read_all : {p : Part (Unit {0})} → Lawful p → (ts : List Lexeme) (r : Reading (Unit {0})) → p.read ts ≡ r → is_all r ≡ true → p.Spells tt ts
+read_all {p} laws ts (Ok (v, [])) is e = let f = laws.found ts v [] is in subst (p.Spells v) (sym (f.parts ∙ append-nil f.front)) f.spells
+read_all {p} laws ts (Ok (v, t ∷ rest)) is e = absurd cc
+read_all {p} laws ts (Err s) is e = absurd cc
 
-pub rest_to : (spot : RestSpot) (v : Bytes) → IsRest spot v → is_rest spot v ≡ true
-rest_to spot [] is = refl
-rest_to spot (b ∷ v) is = run_to (resting spot) (b ∷ v) is
+all_read : {p : Part (Unit {0})} → Lawful p → (ts : List Lexeme) → p.Spells tt ts → is_all (p.read ts) ≡ true
+all_read {p} laws ts spells = ap (λ us. is_all (p.read us)) (sym (append-nil ts)) ∙ ap is_all (laws.only tt ts [] spells refl)
+
+pub rest_from : {p : Part (Unit {0})} (laws : Lawful p) (v : Bytes) → is_rest p v ≡ true → IsRest p v
+rest_from laws [] e = tt
+rest_from {p} laws (b ∷ v) e =
+    let a = and_parts _ _ e in
+    let c = and_parts _ _ a.1 in
+    record { first = begins (start_of (tokens (b ∷ v))) a.0; last = eqb-true _ _ c.0; runs = read_all laws (tokens (b ∷ v)) (p.read (tokens (b ∷ v))) refl c.1 }
+
+pub rest_to : {p : Part (Unit {0})} (laws : Lawful p) (v : Bytes) → IsRest p v → is_rest p v ≡ true
+rest_to laws [] is = refl
+rest_to laws (b ∷ v) is = and_from _ _ (ap is_at_start is.first) (and_from _ _ (eq-eqb _ _ is.last) (all_read laws (tokens (b ∷ v)) is.runs))

@@ -13,7 +13,7 @@ use Rattle.cat_model.specs.declared.table.ColumnDef.{ColumnDef}
 use Rattle.cat_model.specs.declared.table.CheckDef.{CheckDef}
 use Rattle.cat_model.specs.Values.{Bytes}
 use Rattle.ddl_parts.specs.Expressions.{nested}
-use Rattle.ddl_read.specs.declared.rests.RestSpot.TheVariants.{Begin, Foreign}
+use Rattle.ddl_laws.proofs.GrammarLaws.{deferral_laws, reactions_laws}
 use Rattle.ddl_rights.specs.RightsGrammar.{within, kind_rights}
 use Rattle.ddl_rights.specs.Writable.{kind_of}
 use Rattle.ddl_laws.specs.Respelling.{IsWritable, AllWritable, IsDefault as IsGivenDefault, IsCheck, IsColumn}
@@ -67,10 +67,10 @@ writable_fit (stmt.CreateTable q columns checks) is = (columns_fit columns is.1,
 writable_fit (stmt.CreateView q body) is = run_to (nested false false) body is.1
 writable_fit (stmt.ReplaceView q body) is = run_to (nested false false) body is.1
 writable_fit (stmt.SetDefault q column text) is = run_to (nested true false) text is.2
-writable_fit (stmt.AddPrimary q name columns rest) is = and_from _ _ (columns_to columns is.2) (rest_to Begin rest is.3)
-writable_fit (stmt.AddUnique q name columns rest) is = and_from _ _ (columns_to columns is.2) (rest_to Begin rest is.3)
+writable_fit (stmt.AddPrimary q name columns rest) is = and_from _ _ (columns_to columns is.2) (rest_to deferral_laws rest is.3)
+writable_fit (stmt.AddUnique q name columns rest) is = and_from _ _ (columns_to columns is.2) (rest_to deferral_laws rest is.3)
 writable_fit (stmt.AddForeign q name columns parent parents rest) is =
-    and_from _ _ (columns_to columns is.2) (and_from _ _ (and_from _ _ (path_to parent is.3) (columns_to parents is.4)) (rest_to Foreign rest is.5))
+    and_from _ _ (columns_to columns is.2) (and_from _ _ (and_from _ _ (path_to parent is.3) (columns_to parents is.4)) (rest_to reactions_laws rest is.5))
 writable_fit (stmt.AddCheck q name text) is = run_to (nested false false) text is.2
 writable_fit (stmt.CreateIndex q name method rest) is = and_from _ _ (path_to q is.0) (and_from _ _ (test_from_name name is.1) (and_from _ _ (test_from_name method is.2) (bracket_to rest is.3)))
 writable_fit (stmt.CreateUniqueIndex q name method rest) is = and_from _ _ (path_to q is.0) (and_from _ _ (test_from_name name is.1) (and_from _ _ (test_from_name method is.2) (bracket_to rest is.3)))

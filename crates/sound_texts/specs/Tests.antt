@@ -1,5 +1,5 @@
 -- Which texts of types, expressions, constraints and indexes can be written and are read back, as tests.
-use Rattle.std.specs.Prelude.{ℕ, Bool, true, false, ◌&&◌, ◌==◌, List, [], ◌∷◌, length, Option, Some, None}
+use Rattle.std.specs.Prelude.{ℕ, Bool, true, false, ◌&&◌, ◌==◌, List, [], ◌∷◌, length, Option, Some, None, Ok}
 use Rattle.std.specs.List.{list_all}
 use Rattle.copy_text.specs.Texts.{is_name}
 use Rattle.cat_model.specs.declared.object.QName.{QName}
@@ -8,13 +8,11 @@ use Rattle.cat_model.specs.declared.type_name.TypeName.TheVariants.{Words, Path}
 use Rattle.cat_model.specs.Lexemes.{same_text}
 use Rattle.cat_model.specs.Values.{Bytes}
 use Rattle.ddl_parts.specs.Lexemes.{Lexeme, starts, start_of, is_sign}
-use Rattle.ddl_parts.specs.Parts.{Machine, run}
+use Rattle.ddl_parts.specs.Parts.{Part, Reading, Machine, run}
 use Rattle.ddl_parts.specs.Pieces.{lexemes}
 use Rattle.ddl_parts.specs.Collecting.{collected}
 use Rattle.ddl_parts.specs.Expressions.{nested}
 use Rattle.ddl_parts.specs.Types.{typing, type_of}
-use Rattle.ddl_read.specs.declared.rests.RestSpot.{RestSpot}
-use Rattle.ddl_read.specs.Rests.{resting}
 
 -- the tokens of a text
 abbrev pub tokens : Bytes → List Lexeme
@@ -28,9 +26,18 @@ abbrev pub is_done : (m : Machine) → Option m.State → Bool
 is_done m None = false
 is_done m (Some s) = m.done s
 
--- a run of tokens and nothing else: the text begins with its first token and ends with its last
+-- the text begins with its first token and ends with its last
+abbrev pub is_of_tokens : Bytes → Bool → Bool
+is_of_tokens v are = is_at_start (start_of (tokens v)) && ((collected v 0).end == length v && are)
+
+-- a run of tokens and nothing else
 unfoldable pub is_run : Machine → Bytes → Bool
-is_run m v = is_at_start (start_of (tokens v)) && ((collected v 0).end == length v && is_done m (run m (Some m.start) (tokens v)))
+is_run m v = is_of_tokens v (is_done m (run m (Some m.start) (tokens v)))
+
+-- what is read has no token behind it
+abbrev pub is_all : {A : Type 0} → Reading A → Bool
+is_all (Ok (v, [])) = true
+is_all _ = false
 
 -- an expression, and one that begins with an opening bracket
 abbrev pub is_expression : Bytes → Bool
@@ -65,9 +72,9 @@ are_columns [] = false
 are_columns (name ∷ names) = list_all is_name (name ∷ names)
 
 -- what may follow the columns of a key, or those of a foreign key's parent, or nothing
-abbrev pub is_rest : RestSpot → Bytes → Bool
-is_rest spot [] = true
-is_rest spot (b ∷ rest) = is_run (resting spot) (b ∷ rest)
+abbrev pub is_rest : Part (Unit {0}) → Bytes → Bool
+is_rest p [] = true
+is_rest p (b ∷ rest) = is_of_tokens (b ∷ rest) (is_all (p.read (tokens (b ∷ rest))))
 
 -- a parent with its columns
 abbrev pub is_parent : Option (QName × List Bytes) → Bool

@@ -3,7 +3,7 @@ use Rattle.std.proofs.lemmas.Bool.{and_parts, and_from}
 use Rattle.copy_text.proofs.TextLemmas.{name_from_test}
 use Rattle.cat_model.specs.declared.stmt.Stmt.TheVariants as stmt
 use Rattle.ddl_parts.specs.Expressions.{nested}
-use Rattle.ddl_read.specs.declared.rests.RestSpot.TheVariants.{Begin, Foreign}
+use Rattle.ddl_laws.proofs.GrammarLaws.{deferral_laws, reactions_laws}
 use Rattle.sound_texts.proofs.Tested.{run_from, run_to, bracket_from, path_from, type_from, type_to, columns_from, rest_from}
 use Rattle.sound_texts.proofs.Writable.{writable_fit}
 use Rattle.sound_texts.proofs.laws.texts_are_good_that_can_be_written.Goals as goal
@@ -22,19 +22,19 @@ returns-clause-checks c = λ v. (run_from (nested false false) v, run_to (nested
 
 pub returns-clause-primaries : goal.returns-clause-primaries
 returns-clause-primaries c = λ q name rest columns path is. (
-  λ e. let a = and_parts _ _ e in (path, is, columns_from columns a.0, rest_from Begin rest a.1),
+  λ e. let a = and_parts _ _ e in (path, is, columns_from columns a.0, rest_from deferral_laws rest a.1),
   writable_fit (stmt.AddPrimary q name columns rest),
 )
 
 pub returns-clause-uniques : goal.returns-clause-uniques
 returns-clause-uniques c = λ q name rest columns path is. (
-  λ e. let a = and_parts _ _ e in (path, is, columns_from columns a.0, rest_from Begin rest a.1),
+  λ e. let a = and_parts _ _ e in (path, is, columns_from columns a.0, rest_from deferral_laws rest a.1),
   writable_fit (stmt.AddUnique q name columns rest),
 )
 
 pub returns-clause-foreign_keys : goal.returns-clause-foreign_keys
 returns-clause-foreign_keys c = λ q parent name rest columns parents path is. (
-  λ e. let a = and_parts _ _ e in let b = and_parts _ _ a.1 in let d = and_parts _ _ b.0 in (path, is, columns_from columns a.0, path_from parent d.0, columns_from parents d.1, rest_from Foreign rest b.1),
+  λ e. let a = and_parts _ _ e in let b = and_parts _ _ a.1 in let d = and_parts _ _ b.0 in (path, is, columns_from columns a.0, path_from parent d.0, columns_from parents d.1, rest_from reactions_laws rest b.1),
   writable_fit (stmt.AddForeign q name columns parent parents rest),
 )
 
