@@ -36,7 +36,7 @@ use Rattle.ddl_forms.proofs.Written.{Written, Mark, heard_as, is_key, name_as, p
 use Rattle.ddl_read.specs.declared.alters.Constraint.{Constraint}
 use Rattle.ddl_read.specs.declared.alters.Constraint.TheVariants.{Check, Primary, Unique, Foreign as ForeignKey}
 use Rattle.ddl_read.specs.declared.alters.TableChange.TheVariants.{Added}
-use Rattle.ddl_read.specs.declared.rests.RestSpot.TheVariants.{Begin, Foreign}
+use Rattle.ddl_laws.proofs.GrammarLaws.{deferral_laws, reactions_laws}
 use Rattle.ddl_read.specs.declared.fault.DdlFault.{DdlFault}
 use Rattle.ddl_read.specs.AlterGrammar.{added, added_of, own_change, behind_only, key_word, only_changed, altered_table, constrained}
 use Rattle.ddl_read.specs.Grammar.{altered, command, statement, owned_name, owned_path, altered_domain, created, selected, setting}
@@ -213,13 +213,13 @@ pub primaries_read : (columns : List Bytes) (rest : Bytes) → grammar.constrain
 unfolding constraint_body_as columns_as key_rest_as
 primaries_read columns rest e =
     let a = and_parts _ _ e in
-    fit_said (Primary columns rest) (inr (inl ((columns, rest), (columns_from columns a.0, rest_from Begin rest a.1), refl))) (key_said (codes "PRIMARY KEY ") columns rest) (key_bytes (codes " PRIMARY KEY ") columns rest)
+    fit_said (Primary columns rest) (inr (inl ((columns, rest), (columns_from columns a.0, rest_from deferral_laws rest a.1), refl))) (key_said (codes "PRIMARY KEY ") columns rest) (key_bytes (codes " PRIMARY KEY ") columns rest)
 
 pub uniques_read : (columns : List Bytes) (rest : Bytes) → grammar.constraint (record { kind = kinds.Unique; columns = columns; parent = None; text = rest }) ≡ true → statement_said (key_said (codes "UNIQUE ") columns rest) ≡ Some (stmt.AddUnique some_table (codes "a") columns rest)
 unfolding constraint_body_as columns_as key_rest_as
 uniques_read columns rest e =
     let a = and_parts _ _ e in
-    fit_said (Unique columns rest) (inr (inr (inl ((columns, rest), (columns_from columns a.0, rest_from Begin rest a.1), refl)))) (key_said (codes "UNIQUE ") columns rest) (key_bytes (codes " UNIQUE ") columns rest)
+    fit_said (Unique columns rest) (inr (inr (inl ((columns, rest), (columns_from columns a.0, rest_from deferral_laws rest a.1), refl)))) (key_said (codes "UNIQUE ") columns rest) (key_bytes (codes " UNIQUE ") columns rest)
 
 pub foreign_keys_read : (columns : List Bytes) (parent : QName) (parents : List Bytes) (rest : Bytes) → grammar.constraint (record { kind = kinds.Foreign; columns = columns; parent = Some (parent, parents); text = rest }) ≡ true → statement_said (foreign_said columns parent parents rest) ≡ Some (stmt.AddForeign some_table (codes "a") columns parent parents rest)
 unfolding constraint_body_as columns_as foreign_rest_as
@@ -227,7 +227,7 @@ foreign_keys_read columns parent parents rest e =
     let a = and_parts _ _ e in
     let b = and_parts _ _ a.1 in
     let c = and_parts _ _ b.0 in
-    fit_said (ForeignKey columns parent parents rest) (inr (inr (inr ((columns, (parent, (parents, rest))), (columns_from columns a.0, (path_from parent c.0, (columns_from parents c.1, rest_from Foreign rest b.1))), refl)))) (foreign_said columns parent parents rest)
+    fit_said (ForeignKey columns parent parents rest) (inr (inr (inr ((columns, (parent, (parents, rest))), (columns_from columns a.0, (path_from parent c.0, (columns_from parents c.1, rest_from reactions_laws rest b.1))), refl)))) (foreign_said columns parent parents rest)
     (ap (λ (x : Bytes). codes " FOREIGN KEY " ++ (names_listed columns ++ (codes " REFERENCES " ++ (path parent ++ (names_listed parents ++ x))))) (append-nil (rest_text rest)))
 
 pub checks_read : (v : Bytes) → grammar.constraint (check_of v) ≡ true → statement_said (check_said v) ≡ Some (stmt.AddCheck some_table (codes "a") v)

@@ -12,7 +12,7 @@ use Rattle.ddl_parts.specs.Parts.{scan, many_at}
 use Rattle.ddl_parts.specs.Expressions.{ends_run, nest_step, nest_done, expression, default_text}
 use Rattle.ddl_parts.specs.Collecting.{collected_within, collected}
 use Rattle.ddl_read.specs.Columns.{columns}
-use Rattle.ddl_read.specs.Rests.{rest_step, rest_long, rest_done, key_rest, begins_foreign, foreign_rest}
+use Rattle.ddl_read.specs.Rests.{deferral, action, on_delete, reactions, key_rest, foreign_rest}
 use Rattle.ddl_read.specs.Clauses.{named_check}
 use Rattle.ddl_read.specs.Grammar.{create_schema, created, new_owner, new_check, domain_change, altered_domain, name_and_owner, path_and_owner, altered, selected, equals_or_to, setting, command, statement}
 use Rattle.ddl_read.specs.AlterGrammar.{primary_body, unique_body, foreign_body, other_value, other_path, table_change, behind_only, altered_table, only_value, check_body, constraint_body, added, new_default, own_change}
@@ -30,7 +30,7 @@ use Rattle.obj_graph.specs.Graphs.{holder_links, other_links, edges_between, gra
 use Rattle.graph_laws.proofs.laws.keys_meet_the_examples.Goals as goal
 
 pub returns : goal.returns
-unfolding is_utf8 chars encode is_blank is_digit begins_word in_word is_sign marks_escapes in_line next_is run_end quote_end escape_end comment_end fraction_end number_end begins_line closed begun in_utf8 piece_at next_within next_token_of tokens_within tokens_of inside undoubled name_of literal_of is_keyword_of spelling is_word sign_of name_in name_value text_in literal_value scan many_at ends_run nest_step nest_done expression default_text collected_within collected columns rest_step rest_long rest_done key_rest begins_foreign foreign_rest named_check create_schema created new_owner new_check domain_change altered_domain name_and_owner path_and_owner altered selected equals_or_to setting command statement primary_body unique_body foreign_body other_value other_path table_change behind_only altered_table only_value check_body constraint_body added new_default own_change line_at statement_of statements_within statements_of default_said is_default constraint_said objects_of key_ends relation_ends type_ends type_links class_links column_links default_links sequence_links view_links keys_of constraint_links index_links depend_links boundary_links holder_links other_links edges_between graph_of
+unfolding is_utf8 chars encode is_blank is_digit begins_word in_word is_sign marks_escapes in_line next_is run_end quote_end escape_end comment_end fraction_end number_end begins_line closed begun in_utf8 piece_at next_within next_token_of tokens_within tokens_of inside undoubled name_of literal_of is_keyword_of spelling is_word sign_of name_in name_value text_in literal_value scan many_at ends_run nest_step nest_done expression default_text collected_within collected columns deferral action on_delete reactions key_rest foreign_rest named_check create_schema created new_owner new_check domain_change altered_domain name_and_owner path_and_owner altered selected equals_or_to setting command statement primary_body unique_body foreign_body other_value other_path table_change behind_only altered_table only_value check_body constraint_body added new_default own_change line_at statement_of statements_within statements_of default_said is_default constraint_said objects_of key_ends relation_ends type_ends type_links class_links column_links default_links sequence_links view_links keys_of constraint_links index_links depend_links boundary_links holder_links other_links edges_between graph_of
 returns c = record {
   objects = refl;
   edges = refl;

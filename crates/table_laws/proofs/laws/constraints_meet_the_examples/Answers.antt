@@ -16,7 +16,7 @@ use Rattle.ddl_parts.specs.Parts.{scan, many_at}
 use Rattle.ddl_parts.specs.Expressions.{ends_run, nest_step, nest_done, expression, default_text}
 use Rattle.ddl_parts.specs.Collecting.{collected_within, collected}
 use Rattle.ddl_read.specs.Columns.{columns}
-use Rattle.ddl_read.specs.Rests.{rest_step, rest_long, rest_done, key_rest, begins_foreign, foreign_rest}
+use Rattle.ddl_read.specs.Rests.{deferral, action, on_delete, reactions, key_rest, foreign_rest}
 use Rattle.ddl_read.specs.Clauses.{named_check}
 use Rattle.ddl_read.specs.Grammar.{create_schema, created, new_owner, new_check, domain_change, altered_domain, name_and_owner, path_and_owner, altered, selected, equals_or_to, setting, command, statement}
 use Rattle.ddl_read.specs.AlterGrammar.{primary_body, unique_body, foreign_body, other_value, other_path, table_change, behind_only, altered_table, only_value, check_body, constraint_body, added, new_default, own_change}
@@ -29,7 +29,7 @@ use Rattle.well_formed.specs.Catalogues.{table_fault}
 use Rattle.table_laws.proofs.laws.constraints_meet_the_examples.Goals as goal
 
 pub returns-clause-texts : goal.returns-clause-texts
-unfolding is_utf8 chars encode is_blank is_digit begins_word in_word is_sign marks_escapes in_line next_is run_end quote_end escape_end comment_end fraction_end number_end begins_line closed begun in_utf8 piece_at next_within next_token_of tokens_within tokens_of inside undoubled name_of literal_of is_keyword_of spelling is_word sign_of name_in name_value text_in literal_value scan many_at ends_run nest_step nest_done expression default_text collected_within collected columns rest_step rest_long rest_done key_rest begins_foreign foreign_rest named_check create_schema created new_owner new_check domain_change altered_domain name_and_owner path_and_owner altered selected equals_or_to setting command statement primary_body unique_body foreign_body other_value other_path table_change behind_only altered_table only_value check_body constraint_body added new_default own_change line_at statement_of statements_within statements_of default_said is_default constraint_said
+unfolding is_utf8 chars encode is_blank is_digit begins_word in_word is_sign marks_escapes in_line next_is run_end quote_end escape_end comment_end fraction_end number_end begins_line closed begun in_utf8 piece_at next_within next_token_of tokens_within tokens_of inside undoubled name_of literal_of is_keyword_of spelling is_word sign_of name_in name_value text_in literal_value scan many_at ends_run nest_step nest_done expression default_text collected_within collected columns deferral action on_delete reactions key_rest foreign_rest named_check create_schema created new_owner new_check domain_change altered_domain name_and_owner path_and_owner altered selected equals_or_to setting command statement primary_body unique_body foreign_body other_value other_path table_change behind_only altered_table only_value check_body constraint_body added new_default own_change line_at statement_of statements_within statements_of default_said is_default constraint_said
 returns-clause-texts c = record {
   primary = refl;
   unique = refl;
@@ -44,7 +44,7 @@ returns-clause-texts c = record {
 }
 
 pub returns-clause-rows : goal.returns-clause-rows
-unfolding is_utf8 chars encode is_blank is_digit begins_word in_word is_sign marks_escapes in_line next_is run_end quote_end escape_end comment_end fraction_end number_end begins_line closed begun in_utf8 piece_at next_within next_token_of tokens_within tokens_of inside undoubled name_of literal_of is_keyword_of spelling lexemes plain_columns expression_references first_from is_word sign_of name_in name_value text_in literal_value scan many_at ends_run nest_step nest_done expression default_text collected_within collected columns rest_step rest_long rest_done key_rest begins_foreign foreign_rest named_check create_schema created new_owner new_check domain_change altered_domain name_and_owner path_and_owner altered selected equals_or_to setting command statement primary_body unique_body foreign_body other_value other_path table_change behind_only altered_table only_value check_body constraint_body added new_default own_change line_at statement_of statements_within statements_of all_tokens default_said is_default named_index index_text index_said constraint_said table_fault
+unfolding is_utf8 chars encode is_blank is_digit begins_word in_word is_sign marks_escapes in_line next_is run_end quote_end escape_end comment_end fraction_end number_end begins_line closed begun in_utf8 piece_at next_within next_token_of tokens_within tokens_of inside undoubled name_of literal_of is_keyword_of spelling lexemes plain_columns expression_references first_from is_word sign_of name_in name_value text_in literal_value scan many_at ends_run nest_step nest_done expression default_text collected_within collected columns deferral action on_delete reactions key_rest foreign_rest named_check create_schema created new_owner new_check domain_change altered_domain name_and_owner path_and_owner altered selected equals_or_to setting command statement primary_body unique_body foreign_body other_value other_path table_change behind_only altered_table only_value check_body constraint_body added new_default own_change line_at statement_of statements_within statements_of all_tokens default_said is_default named_index index_text index_said constraint_said table_fault
 returns-clause-rows c = record {
   none = refl;
   second_oid = refl;
@@ -62,7 +62,7 @@ returns-clause-rows c = record {
 }
 
 pub returns-clause-keys : goal.returns-clause-keys
-unfolding is_utf8 chars encode is_blank is_digit begins_word in_word is_sign marks_escapes in_line next_is run_end quote_end escape_end comment_end fraction_end number_end begins_line closed begun in_utf8 piece_at next_within next_token_of tokens_within tokens_of inside undoubled name_of literal_of is_keyword_of spelling lexemes plain_columns expression_references first_from is_word sign_of name_in name_value text_in literal_value scan many_at ends_run nest_step nest_done expression default_text collected_within collected columns rest_step rest_long rest_done key_rest begins_foreign foreign_rest named_check create_schema created new_owner new_check domain_change altered_domain name_and_owner path_and_owner altered selected equals_or_to setting command statement primary_body unique_body foreign_body other_value other_path table_change behind_only altered_table only_value check_body constraint_body added new_default own_change line_at statement_of statements_within statements_of all_tokens default_said is_default named_index index_text index_said constraint_said table_fault
+unfolding is_utf8 chars encode is_blank is_digit begins_word in_word is_sign marks_escapes in_line next_is run_end quote_end escape_end comment_end fraction_end number_end begins_line closed begun in_utf8 piece_at next_within next_token_of tokens_within tokens_of inside undoubled name_of literal_of is_keyword_of spelling lexemes plain_columns expression_references first_from is_word sign_of name_in name_value text_in literal_value scan many_at ends_run nest_step nest_done expression default_text collected_within collected columns deferral action on_delete reactions key_rest foreign_rest named_check create_schema created new_owner new_check domain_change altered_domain name_and_owner path_and_owner altered selected equals_or_to setting command statement primary_body unique_body foreign_body other_value other_path table_change behind_only altered_table only_value check_body constraint_body added new_default own_change line_at statement_of statements_within statements_of all_tokens default_said is_default named_index index_text index_said constraint_said table_fault
 returns-clause-keys c = record {
   both = refl;
   no_index = refl;
@@ -76,7 +76,7 @@ returns-clause-keys c = record {
 }
 
 pub returns-clause-foreign_keys : goal.returns-clause-foreign_keys
-unfolding is_utf8 chars encode is_blank is_digit begins_word in_word is_sign marks_escapes in_line next_is run_end quote_end escape_end comment_end fraction_end number_end begins_line closed begun in_utf8 piece_at next_within next_token_of tokens_within tokens_of inside undoubled name_of literal_of is_keyword_of spelling lexemes plain_columns expression_references first_from is_word sign_of name_in name_value text_in literal_value scan many_at ends_run nest_step nest_done expression default_text collected_within collected columns rest_step rest_long rest_done key_rest begins_foreign foreign_rest named_check create_schema created new_owner new_check domain_change altered_domain name_and_owner path_and_owner altered selected equals_or_to setting command statement primary_body unique_body foreign_body other_value other_path table_change behind_only altered_table only_value check_body constraint_body added new_default own_change line_at statement_of statements_within statements_of all_tokens default_said is_default named_index index_text index_said constraint_said table_fault
+unfolding is_utf8 chars encode is_blank is_digit begins_word in_word is_sign marks_escapes in_line next_is run_end quote_end escape_end comment_end fraction_end number_end begins_line closed begun in_utf8 piece_at next_within next_token_of tokens_within tokens_of inside undoubled name_of literal_of is_keyword_of spelling lexemes plain_columns expression_references first_from is_word sign_of name_in name_value text_in literal_value scan many_at ends_run nest_step nest_done expression default_text collected_within collected columns deferral action on_delete reactions key_rest foreign_rest named_check create_schema created new_owner new_check domain_change altered_domain name_and_owner path_and_owner altered selected equals_or_to setting command statement primary_body unique_body foreign_body other_value other_path table_change behind_only altered_table only_value check_body constraint_body added new_default own_change line_at statement_of statements_within statements_of all_tokens default_said is_default named_index index_text index_said constraint_said table_fault
 returns-clause-foreign_keys c = record {
   to_an_index = refl;
   to_a_primary = refl;
@@ -91,7 +91,7 @@ returns-clause-foreign_keys c = record {
 }
 
 pub returns-clause-checks : goal.returns-clause-checks
-unfolding is_utf8 chars encode is_blank is_digit begins_word in_word is_sign marks_escapes in_line next_is run_end quote_end escape_end comment_end fraction_end number_end begins_line closed begun in_utf8 piece_at next_within next_token_of tokens_within tokens_of inside undoubled name_of literal_of is_keyword_of spelling lexemes plain_columns expression_references first_from is_word sign_of name_in name_value text_in literal_value scan many_at ends_run nest_step nest_done expression default_text collected_within collected columns rest_step rest_long rest_done key_rest begins_foreign foreign_rest named_check create_schema created new_owner new_check domain_change altered_domain name_and_owner path_and_owner altered selected equals_or_to setting command statement primary_body unique_body foreign_body other_value other_path table_change behind_only altered_table only_value check_body constraint_body added new_default own_change line_at statement_of statements_within statements_of all_tokens default_said is_default named_index index_text index_said constraint_said table_fault
+unfolding is_utf8 chars encode is_blank is_digit begins_word in_word is_sign marks_escapes in_line next_is run_end quote_end escape_end comment_end fraction_end number_end begins_line closed begun in_utf8 piece_at next_within next_token_of tokens_within tokens_of inside undoubled name_of literal_of is_keyword_of spelling lexemes plain_columns expression_references first_from is_word sign_of name_in name_value text_in literal_value scan many_at ends_run nest_step nest_done expression default_text collected_within collected columns deferral action on_delete reactions key_rest foreign_rest named_check create_schema created new_owner new_check domain_change altered_domain name_and_owner path_and_owner altered selected equals_or_to setting command statement primary_body unique_body foreign_body other_value other_path table_change behind_only altered_table only_value check_body constraint_body added new_default own_change line_at statement_of statements_within statements_of all_tokens default_said is_default named_index index_text index_said constraint_said table_fault
 returns-clause-checks c = record {
   of_a_domain = refl;
   relation = refl;
