@@ -12,12 +12,12 @@ pub use Rattle.ddl_lines.specs.{CopyRows.AreRows, CopyRows.Copied, CopyRows.with
 pub use Rattle.ddl_numbers.proofs.NumberLaws.{count_begins, no_count_first, number_no_sign, whole_number_laws, zero_below}
 pub use Rattle.ddl_numbers.specs.Numbers.{count_first, counted, opposite}
 pub use Rattle.ddl_read.proofs.TableLaws.{attributes_end, checks_apart, column_ends, column_name_is, elements_apart, named_check_free, named_check_is, sign_end, typed_laws}
-pub use Rattle.ddl_read.specs.{AlterGrammar.BehindOnly, AlterGrammar.added_of, AlterGrammar.default_of, AlterGrammar.foreign_of, AlterGrammar.in_schema, AlterGrammar.key_word, AlterGrammar.only_changed, AlterGrammar.only_name, AlterGrammar.other_name, AlterGrammar.primary_of, AlterGrammar.table_changed, AlterGrammar.unique_of, Clauses.check_of, Columns.further, Columns.more_names, Columns.names_of, Grammar.catalog_calls, Grammar.domain_changed, Grammar.its_owner, Grammar.more_commands, Grammar.one_more_check, Grammar.owned_name, Grammar.owned_path, Grammar.semicolon, Reading.Whole, Reading.completed, Reading.fault_by, Reading.fault_of, Reading.first_start, Reading.is_line_kind, Reading.line_fault, Reading.line_in, Reading.line_said, Reading.listed, Reading.statements_at, Reading.statements_by, Reading.whole, Reading.whole_of, Reading.with_rows, Reading.◌>>=◌, RelationGrammar.begun_by, RelationGrammar.index_made, RelationGrammar.index_of, RelationGrammar.index_parts, RelationGrammar.its_column, RelationGrammar.its_role, RelationGrammar.more_relations, RelationGrammar.sequence_changed, RelationGrammar.unique_index_of, RelationGrammar.view_and_body, RelationGrammar.view_branch, SequenceGrammar.begins_clause, SequenceGrammar.behind_no, SequenceGrammar.bound_or, SequenceGrammar.clauses_of, SequenceGrammar.clausing, SequenceGrammar.first_reached, SequenceGrammar.lower, SequenceGrammar.no_clauses, SequenceGrammar.numbered, SequenceGrammar.reached, SequenceGrammar.upper, SequenceGrammar.with_number, TableGrammar.Attributes, TableGrammar.checking, TableGrammar.column_name, TableGrammar.column_of, TableGrammar.domain_of, TableGrammar.element_at, TableGrammar.elements, TableGrammar.enum_of, TableGrammar.given, TableGrammar.more_elements, TableGrammar.not_null, TableGrammar.parted, TableGrammar.table_of, ValueGrammar.literal_path, ValueGrammar.value_of_sequence, declared.alters.Constraint.Constraint, declared.alters.Constraint.TheVariants.Check, declared.alters.Constraint.TheVariants.Foreign, declared.alters.Constraint.TheVariants.Primary, declared.alters.Constraint.TheVariants.Unique, declared.alters.TableChange.TableChange, declared.alters.TableChange.TheVariants.Added, declared.alters.TableChange.TheVariants.Default, declared.alters.TableChange.TheVariants.Owner, declared.fault.DdlFault.DdlFault, declared.located.Located.Located, declared.sequences.ClauseSpot.ClauseSpot, declared.sequences.ClauseSpot.TheVariants.BehindAs, declared.sequences.ClauseSpot.TheVariants.BehindIncrement, declared.sequences.ClauseSpot.TheVariants.BehindMinus, declared.sequences.ClauseSpot.TheVariants.BehindNo, declared.sequences.ClauseSpot.TheVariants.BehindStart, declared.sequences.ClauseSpot.TheVariants.Between, declared.sequences.ClauseSpot.TheVariants.Due, declared.sequences.Clauses.Clauses, declared.sequences.Field.TheVariants.Cache, declared.sequences.Field.TheVariants.First, declared.sequences.Field.TheVariants.Greatest, declared.sequences.Field.TheVariants.Least, declared.sequences.Field.TheVariants.Step, declared.sequences.Open.TheVariants.Both, declared.sequences.Open.TheVariants.Lower, declared.sequences.Open.TheVariants.Upper}
+pub use Rattle.ddl_read.specs.{AlterGrammar.BehindOnly, AlterGrammar.added_of, AlterGrammar.default_of, AlterGrammar.foreign_of, AlterGrammar.in_schema, AlterGrammar.key_word, AlterGrammar.only_changed, AlterGrammar.only_name, AlterGrammar.other_name, AlterGrammar.primary_of, AlterGrammar.table_changed, AlterGrammar.unique_of, Clauses.check_of, Columns.further, Columns.more_names, Columns.names_of, Grammar.catalog_calls, Grammar.domain_changed, Grammar.its_owner, Grammar.more_commands, Grammar.one_more_check, Grammar.owned_name, Grammar.owned_path, Grammar.semicolon, Reading.Whole, Reading.completed, Reading.fault_by, Reading.fault_of, Reading.first_start, Reading.is_line_kind, Reading.line_fault, Reading.line_in, Reading.line_said, Reading.listed, Reading.statements_at, Reading.statements_by, Reading.whole, Reading.whole_of, Reading.with_rows, Reading.◌>>=◌, RelationGrammar.index_made, RelationGrammar.index_of, RelationGrammar.index_parts, RelationGrammar.its_column, RelationGrammar.its_role, RelationGrammar.more_relations, RelationGrammar.sequence_changed, RelationGrammar.unique_index_of, RelationGrammar.view_and_body, RelationGrammar.view_branch, SequenceGrammar.bound_or, SequenceGrammar.clausing, SequenceGrammar.no_clauses, TableGrammar.Attributes, TableGrammar.checking, TableGrammar.column_name, TableGrammar.column_of, TableGrammar.domain_of, TableGrammar.element_at, TableGrammar.elements, TableGrammar.enum_of, TableGrammar.given, TableGrammar.more_elements, TableGrammar.not_null, TableGrammar.parted, TableGrammar.table_of, ValueGrammar.literal_path, ValueGrammar.value_of_sequence, declared.alters.Constraint.Constraint, declared.alters.Constraint.TheVariants.Check, declared.alters.Constraint.TheVariants.Foreign, declared.alters.Constraint.TheVariants.Primary, declared.alters.Constraint.TheVariants.Unique, declared.alters.TableChange.TableChange, declared.alters.TableChange.TheVariants.Added, declared.alters.TableChange.TheVariants.Default, declared.alters.TableChange.TheVariants.Owner, declared.fault.DdlFault.DdlFault, declared.located.Located.Located, declared.sequences.Clauses.Clauses, Clauses.begun_by, SequenceGrammar.with_clause, SequenceGrammar.with_clauses}
 pub use Rattle.ddl_rights.specs.{Grants.behind_first, Grants.first, Memberships.member_of, RightsGrammar.all_of, RightsGrammar.grantee, RightsGrammar.having, RightsGrammar.joining, RightsGrammar.kind_has, RightsGrammar.kind_rights, RightsGrammar.kind_with, RightsGrammar.more_rights, RightsGrammar.object, RightsGrammar.only, RightsGrammar.right_behind, RightsGrammar.rights_on, RightsGrammar.wanted, RightsGrammar.with_right, RightsGrammar.within}
 unfoldable pub use Rattle.ddl_admin.specs.{Comments.column_remarked, Comments.comment_on, Comments.commented_object, Comments.constraint_remarked, Comments.name_remarked, Comments.path_remarked, Comments.remark, Comments.remark_end, Databases.create_database, Databases.encoded, Databases.furthers, Databases.maybe_encoded, Databases.utf8_value, Roles.alter_role, Roles.create_role, Roles.later_flags, Roles.role_changes, Roles.role_flags, Roles.role_settings}
 unfoldable pub use Rattle.ddl_forms.proofs.{Expressions.default_as, Expressions.expression_as, Tokens.is_single, Written.is_bare_word, Written.is_key}
 unfoldable pub use Rattle.ddl_lines.specs.{CopyRows.is_between, CopyRows.rows_at, CopyRows.rows_behind, CopyRows.rows_from, CopyRows.rows_in, MetaLines.command_len, MetaLines.meta_line, MetaLines.name_alone, MetaLines.said_by, MetaLines.stands_alone}
 unfoldable pub use Rattle.ddl_numbers.specs.Numbers.{count_value, digits_below, whole_number}
-unfoldable pub use Rattle.ddl_read.specs.{AlterGrammar.added, AlterGrammar.altered_table, AlterGrammar.behind_only, AlterGrammar.check_body, AlterGrammar.constraint_body, AlterGrammar.foreign_body, AlterGrammar.new_default, AlterGrammar.only_value, AlterGrammar.other_path, AlterGrammar.other_value, AlterGrammar.own_change, AlterGrammar.primary_body, AlterGrammar.table_change, AlterGrammar.unique_body, Clauses.named_check, Clauses.new_owner, Columns.columns, CopyGrammar.copy_from, CopyGrammar.some_columns, Grammar.altered, Grammar.altered_domain, Grammar.command, Grammar.create_schema, Grammar.created, Grammar.domain_change, Grammar.equals_or_to, Grammar.name_and_owner, Grammar.new_check, Grammar.path_and_owner, Grammar.selected, Grammar.set_config, Grammar.setting, Grammar.statement, Reading.line_at, Reading.statement_of, Reading.statements_of, Reading.statements_within, RelationGrammar.altered_sequence, RelationGrammar.bracketed, RelationGrammar.create_index, RelationGrammar.create_unique_index, RelationGrammar.create_view, RelationGrammar.index_body, RelationGrammar.owned_by, RelationGrammar.replace_view, RelationGrammar.sequence_change, Rests.action, Rests.deferral, Rests.foreign_rest, Rests.key_rest, Rests.on_delete, Rests.reactions, Rests.rest_goes_on, SequenceGrammar.clause_first, SequenceGrammar.create_sequence, SequenceGrammar.kind_first, SequenceGrammar.sequence_clauses, SequenceGrammar.sequence_of, SequenceGrammar.step_first, SequenceGrammar.usual_first, TableGrammar.attributes, TableGrammar.column, TableGrammar.column_name_value, TableGrammar.create_domain, TableGrammar.create_enum, TableGrammar.create_table, TableGrammar.default_first, TableGrammar.element, TableGrammar.last_element, TableGrammar.null_first, TableGrammar.table_elements, TableGrammar.typed, ValueGrammar.set_value, ValueGrammar.truth}
+unfoldable pub use Rattle.ddl_read.specs.{AlterGrammar.added, AlterGrammar.altered_table, AlterGrammar.behind_only, AlterGrammar.check_body, AlterGrammar.constraint_body, AlterGrammar.foreign_body, AlterGrammar.new_default, AlterGrammar.only_value, AlterGrammar.other_path, AlterGrammar.other_value, AlterGrammar.own_change, AlterGrammar.primary_body, AlterGrammar.table_change, AlterGrammar.unique_body, Clauses.named_check, Clauses.new_owner, Columns.columns, CopyGrammar.copy_from, CopyGrammar.some_columns, Grammar.altered, Grammar.altered_domain, Grammar.command, Grammar.create_schema, Grammar.created, Grammar.domain_change, Grammar.equals_or_to, Grammar.name_and_owner, Grammar.new_check, Grammar.path_and_owner, Grammar.selected, Grammar.set_config, Grammar.setting, Grammar.statement, Reading.line_at, Reading.statement_of, Reading.statements_of, Reading.statements_within, RelationGrammar.altered_sequence, RelationGrammar.bracketed, RelationGrammar.create_index, RelationGrammar.create_unique_index, RelationGrammar.create_view, RelationGrammar.index_body, RelationGrammar.owned_by, RelationGrammar.replace_view, RelationGrammar.sequence_change, Rests.action, Rests.deferral, Rests.foreign_rest, Rests.key_rest, Rests.on_delete, Rests.reactions, Rests.rest_goes_on, SequenceGrammar.create_sequence, SequenceGrammar.sequence_clauses, SequenceGrammar.sequence_of, TableGrammar.attributes, TableGrammar.column, TableGrammar.column_name_value, TableGrammar.create_domain, TableGrammar.create_enum, TableGrammar.create_table, TableGrammar.default_first, TableGrammar.element, TableGrammar.last_element, TableGrammar.null_first, TableGrammar.table_elements, TableGrammar.typed, ValueGrammar.set_value, ValueGrammar.truth, SequenceGrammar.begins_clause, SequenceGrammar.clause_behind}
 unfoldable pub use Rattle.ddl_rights.specs.{Grants.from_grantee, Grants.grant_option, Grants.grant_rights, Grants.granted, Grants.revoke_rights, Grants.revoked, Grants.to_grantee, Memberships.granted_by, Memberships.inherit_and_set, Memberships.member, Memberships.membership, Memberships.options, Memberships.others_behind, Memberships.set_behind, Memberships.truth_first, Memberships.with_options, RightsGrammar.goes_with, RightsGrammar.grantee_of, RightsGrammar.on_object, RightsGrammar.right_first, RightsGrammar.rights_and_object, RightsGrammar.rights_from, RightsGrammar.some_kind_has, RightsGrammar.wanted_first}
 pub use Rattle.ddl_parts.specs.{declared.runs.Spot.TheVariants.Inside, declared.pieces.Piece.Piece}

@@ -1,15 +1,14 @@
 -- The grammar of statements has the laws of a part: what is read is spelled so, what is spelled so is read, and where
 -- reading stops nothing goes on.
-use Rattle.ddl_laws.proofs.Common.{grammar, ◌≡◌, Bool, true, false, ◌||◌, List, [], ◌∷◌, Some, None, refl, ap, codes, ℕ, ◌+◌, ◌^◌, pos, arith, ◌++◌, append-nil, append_assoc, Ok, Err, sym, ◌∙◌, inl, not, Option, subst, not-true, not-false, is_utf8, chars, encode, ◌==◌, is_some, is_keyword_of, name_of, literal_of, Lexeme, is_word, is_sign, source, starts, run, Part, Reading, Stop, stop, choose_at, ◌then◌, Many, no_more, many, passes, ◌◂◌, Like, Lawful, Apart, Avoids, comma, name_in, name_value, is_name, qualified, literal, is_literal, text_in, literal_value, many_laws, CanEnd, machine_laws, a_word, a_sign, name_laws, qualified_laws, sign_is, words_apart, qualified_begins, literal_laws, literal_begins, word_no_sign, sign_no_word, signs_apart, free, stop_no_type, sign_no_name, sign_no_literal, Headed, lawful_seen, lawful_ended, lawful_next, headed_sign, headed_seen, lawful_unless, lawful_word, lawful_sign, headed_word, lawful_either, headed_next, lawful_choose, lawful_then, one_word, lawful_worded, one_sign, ◌also◌, sign_kind, more_names, names_of, columns, rest_goes_on, deferral, action, on_delete, reactions, key_rest, foreign_rest, TokenKind, Number, Literal, whole_number, First, Step, Both, Lower, Upper, ClauseSpot, Between, BehindAs, BehindStart, BehindIncrement, BehindNo, Due, BehindMinus, Clauses, with_number, reached, clause_first, kind_first, usual_first, step_first, first_reached, clausing, clauses_of, sequence_clauses, sequence_of, create_sequence, expression, nest_step, nest_done, ends_run, default_text, Inside, shortened, short_word, whole_path, path_in, path_of, path_value, word_agrees, sign_agrees, name_agrees, literal_agrees, name_shortens, guarded_shortens, refused_shortens, word_no_text, Agrees, passes_like, starts-append, starts_kept, starts_again, Tells, Fits, left_of, long_of, told, lawful, named_by, expression_laws, expression_ends, expression_ends_bracket, default_text_laws, run_ends, one_of_laws, one_of_avoids, one_of_avoids_others, new_owner, owned_by, its_role, its_column, sequence_changed, sequence_change, altered_sequence, view_and_body, create_view, replace_view, begun_by, bracketed, index_made, index_body, index_parts, index_of, unique_index_of, create_index, create_unique_index, view_branch, more_relations, one_laws, one_begins, seen_avoids, mark_begins, Check, Owner, check_body, primary_of, primary_body, unique_of, unique_body, foreign_of, foreign_body, constraint_body, added, new_default, own_change, table_change, table_changed, only_value, only_name, other_value, other_name, other_path, in_schema, key_word, behind_only, only_changed, altered_table, listed_laws, CheckDef, create_enum, enum_of, attributes, typed, checking, domain_of, create_domain, more_elements, elements, parted, table_elements, table_of, create_table, named_check_is, checks_apart, typed_laws, attributes_end, sign_end, column_ends, elements_apart, named_check_free, LexFault, QName, lexemes, collected, whole_number_laws, zero_below, no_count_first, literal_path, truth, set_value, some_columns, copy_from, create_role, alter_role, create_database, create_schema, created, new_check, its_owner, one_more_check, domain_changed, domain_change, altered_domain, name_and_owner, path_and_owner, owned_name, owned_path, altered, set_config, catalog_calls, selected, equals_or_to, setting, more_commands, command, statement, word_like, sign_like}
-use Rattle.ddl_parts.proofs.Lemmas.{listed}
-use Rattle.ddl_parts.specs.Parts.{one_more, mark, one_of, ◌▸◌}
-use Rattle.ddl_parts.proofs.Lemmas.{lawful_maybe, avoids_maybe, or_parts, word_no_sign, never}
+use Rattle.ddl_laws.proofs.Common.{grammar, ◌≡◌, Bool, true, false, ◌||◌, List, [], ◌∷◌, Some, None, refl, ap, codes, ℕ, arith, ◌++◌, append-nil, append_assoc, Ok, Err, sym, ◌∙◌, inl, not, Option, subst, not-true, not-false, is_utf8, chars, encode, ◌==◌, is_some, is_keyword_of, name_of, literal_of, Lexeme, is_word, is_sign, source, starts, run, Part, Reading, Stop, stop, choose_at, ◌then◌, Many, no_more, many, passes, ◌◂◌, Like, Lawful, Apart, Avoids, comma, name_in, name_value, is_name, qualified, literal, is_literal, text_in, literal_value, many_laws, CanEnd, machine_laws, a_word, a_sign, name_laws, qualified_laws, sign_is, words_apart, qualified_begins, literal_laws, literal_begins, word_no_sign, sign_no_word, signs_apart, free, stop_no_type, sign_no_name, sign_no_literal, Headed, lawful_seen, lawful_ended, lawful_next, headed_sign, headed_seen, lawful_unless, lawful_word, lawful_sign, headed_word, lawful_either, headed_next, lawful_choose, lawful_then, one_word, lawful_worded, one_sign, ◌also◌, sign_kind, more_names, names_of, columns, rest_goes_on, deferral, action, on_delete, reactions, key_rest, foreign_rest, TokenKind, Literal, whole_number, Clauses, clausing, sequence_clauses, sequence_of, create_sequence, expression, nest_step, nest_done, ends_run, default_text, Inside, shortened, short_word, whole_path, path_in, path_of, path_value, word_agrees, sign_agrees, name_agrees, literal_agrees, name_shortens, guarded_shortens, refused_shortens, word_no_text, Agrees, passes_like, starts-append, starts_kept, starts_again, Tells, Fits, left_of, long_of, told, lawful, named_by, expression_laws, expression_ends, expression_ends_bracket, default_text_laws, run_ends, one_of_laws, one_of_avoids, one_of_avoids_others, new_owner, owned_by, its_role, its_column, sequence_changed, sequence_change, altered_sequence, view_and_body, create_view, replace_view, begun_by, bracketed, index_made, index_body, index_parts, index_of, unique_index_of, create_index, create_unique_index, view_branch, more_relations, one_laws, one_begins, seen_avoids, mark_begins, Check, Owner, check_body, primary_of, primary_body, unique_of, unique_body, foreign_of, foreign_body, constraint_body, added, new_default, own_change, table_change, table_changed, only_value, only_name, other_value, other_name, other_path, in_schema, key_word, behind_only, only_changed, altered_table, listed_laws, CheckDef, create_enum, enum_of, attributes, typed, checking, domain_of, create_domain, more_elements, elements, parted, table_elements, table_of, create_table, named_check_is, checks_apart, typed_laws, attributes_end, sign_end, column_ends, elements_apart, named_check_free, LexFault, QName, lexemes, collected, whole_number_laws, literal_path, truth, set_value, some_columns, copy_from, create_role, alter_role, create_database, create_schema, created, new_check, its_owner, one_more_check, domain_changed, domain_change, altered_domain, name_and_owner, path_and_owner, owned_name, owned_path, altered, set_config, catalog_calls, selected, equals_or_to, setting, more_commands, command, statement, word_like, sign_like, ◌&&◌, inr, cond, no_clauses, with_clauses, clause_behind}
+use Rattle.ddl_parts.proofs.{Common.or_cases, Lemmas.listed, Lemmas.lawful_maybe, Lemmas.avoids_maybe, Lemmas.or_parts, Lemmas.word_no_sign, Lemmas.never, Simple.nothing_laws, Simple.passes_by, Tables.AllLawful}
+use Rattle.ddl_parts.specs.Parts.{Branch, one_more, mark, one_of, ◌▸◌}
 use Rattle.ddl_parts.proofs.Simple.{nothing_laws}
-use Rattle.ddl_read.specs.Rests.{maybe, nothing_more, set_columns, behind_on}
 use Rattle.ddl_admin.proofs.{CommentLaws.comment_on_laws, RoleLaws.create_role_laws, RoleLaws.alter_role_laws, DatabaseLaws.create_database_laws}
 use Rattle.ddl_laws.proofs.Computing.{reads}
-use Rattle.ddl_read.proofs.{ColumnLaws.names_apart, RestLaws.kept_laws}
-use Rattle.ddl_read.specs.{Clauses.semicolon, AlterGrammar.path_of as its_path}
+use Rattle.ddl_laws.proofs.Once.{AreOnce, once_laws}
+use Rattle.ddl_read.proofs.{ColumnLaws.names_apart, RestLaws.kept_laws, SequenceLaws.clause_laws, SequenceLaws.clauses_take, SequenceLaws.plain_laws, SequenceLaws.some_clause, SequenceLaws.usual_laws}
+use Rattle.ddl_read.specs.{SequenceGrammar.is_unsaid, SequenceGrammar.kind_branch, SequenceGrammar.more_branches, SequenceGrammar.usual_bound, declared.sequences.Clause.Clause, Clauses.semicolon, AlterGrammar.path_of as its_path}
 use Rattle.ddl_rights.proofs.GrantLaws.{granted_laws, revoked_laws}
 use Rattle.cat_model.specs.declared.stmt.Stmt.TheVariants as stmt
 use Rattle.cat_model.specs.declared.grant.Owned.TheVariants as owned
@@ -62,52 +61,6 @@ reactions_laws =
 rests_end : (t : Lexeme) → is_sign 59 t ≡ true → (deferral.goes_on t ≡ false) × (reactions.goes_on t ≡ false)
 unfolding deferral reactions action on_delete rest_goes_on
 rests_end t e = rw (sign_no_word 59 (codes "initially") t e, sign_no_word 59 (codes "on") t e, sign_no_word 59 (codes "deferrable") t e, signs_apart 59 40 refl t e) (refl, refl)
-
--- ---- sequences
-
-abbrev a_zero : Lexeme
-a_zero = record { gap = 32 ∷ []; kind = Number; word = 48 ∷ []; start = 0 }
-
-finish_at : ClauseSpot → List Lexeme
-finish_at Between = []
-finish_at BehindAs = a_word (codes "smallint") ∷ []
-finish_at BehindStart = a_word (codes "with") ∷ a_zero ∷ []
-finish_at BehindIncrement = a_word (codes "by") ∷ a_zero ∷ []
-finish_at (BehindNo Both) = a_word (codes "minvalue") ∷ []
-finish_at (BehindNo Lower) = a_word (codes "minvalue") ∷ []
-finish_at (BehindNo Upper) = a_word (codes "maxvalue") ∷ []
-finish_at (Due field) = a_zero ∷ []
-finish_at (BehindMinus field) = a_zero ∷ []
-
--- each state can be brought to an end
-ended_at : (spot : ClauseSpot) (c : Clauses) → (last : clausing.State) × (run clausing (Some (reached c spot)) (finish_at spot) ≡ Some last) × (clausing.done last ≡ true)
-unfolding step_first kind_first usual_first finish_at is_word is_keyword_of is_sign
-ended_at BehindStart c = (reached (with_number First (pos 0) c) Between, rw (zero_below (2 ^ 63) (omega arith)) refl, refl)
-ended_at BehindIncrement c = (reached (with_number Step (pos 0) c) Between, rw (zero_below (2 ^ 63) (omega arith)) refl, refl)
-ended_at (Due field) c = (reached (with_number field (pos 0) c) Between, rw (zero_below (2 ^ 63) (omega arith)) refl, refl)
-ended_at (BehindMinus field) c = (reached (with_number field (pos 0) c) Between, rw (zero_below (2 ^ 63 + 1) (omega arith)) refl, refl)
-ended_at (BehindNo Both) c = (_, refl, refl)
-ended_at (BehindNo x) c = (_, refl, refl)
-ended_at x c = (_, refl, refl)
-
-clausing_ends : CanEnd clausing
-unfolding step_first clause_first kind_first usual_first
-clausing_ends = record {
-  finish = λ r. finish_at r.spot;
-  last = λ r. (ended_at r.spot r.clauses).0;
-  finished = λ r. (ended_at r.spot r.clauses).1;
-  done = λ r. (ended_at r.spot r.clauses).2;
-  covers = λ r t d e. (grind arith);
-  shorter = λ r t none. record { undone = λ l. absurd cc; takes = λ l. absurd cc; stays = λ l long. ((grind (arith, word_like, sign_like, no_count_first)) ∙ none, refl) };
-}
-
--- ---- the statement
-
-create_sequence_laws : Lawful create_sequence
-unfolding create_sequence sequence_clauses
-create_sequence_laws =
-    let clauses = lawful_seen (λ ts. clauses_of (run clausing (Some first_reached) ts)) (machine_laws clausing clausing_ends) in
-    lawful_seen (λ x. sequence_of x.0 x.1) (lawful_next qualified_laws (lawful_ended 59 clauses (λ t e. simp (sign_no_word 59))) (λ t. refl))
 
 -- ---- an index's brackets
 
@@ -164,6 +117,78 @@ unfolding index_body bracketed expression nest_done
 index_body_laws =
     let method = lawful_next name_laws (begun_by_laws (is_sign 40) (sign_agrees 40) expression expression_laws (λ v spells. cc) opened (a_sign 40) (sign_is 40)) (λ t. refl) in
     lawful_seen index_made (lawful_next name_laws (lawful_word (codes "on") refl (lawful_next qualified_laws (lawful_word (codes "using") refl method) (λ t. refl))) (λ t. refl))
+
+-- ---- sequences
+
+-- a part behind its word, where that stands
+led : {A : Type 0} (key : List ℕ) (p : Part A) → Lawful p → (t : Lexeme) → is_word key t ≡ true → (v : A) × (more : List Lexeme) × (is_word key ▸ p).Spells v (t ∷ more)
+led key p lp t e = let x = lp.example in (x.value, x.tokens, ((tt, x.value), refl, (t ∷ [], x.tokens, refl, (t, refl, ap passes_by e), x.spells)))
+
+-- a clause begins with each token with which one may begin
+clause_at : (c : Clauses) (t : Lexeme) → begins_clause c t ≡ true → (v : Clause) × (more : List Lexeme) × (clause_behind c).Spells v (t ∷ more)
+unfolding clause_behind begins_clause
+clause_at c t e = by (is_word (codes "no") t) refl
+  where
+    word : List (Branch Clause) → Bool
+    word [] = false
+    word (b ∷ rest) = is_word b.key t || word rest
+
+    plain : (b : Branch Clause) (rest : List (Branch Clause)) → AllLawful b rest → word (b ∷ rest) ≡ true → (v : Clause) × (more : List Lexeme) × (one_of b rest).Spells v (t ∷ more)
+    plain b [] laws is = led b.key b.part laws t (grind arith)
+    plain b (c ∷ rest) laws is =
+        elim (or_cases (is_word b.key t) (word (c ∷ rest)) is) [ inl e ↦ (let x = led b.key b.part laws.0 t e in (x.0, x.1, inl x.2)) | inr e ↦ (let x = plain c rest laws.1 e in (x.0, x.1, inr x.2)) ]
+
+    by : (b : Bool) → is_word (codes "no") t ≡ b → (v : Clause) × (more : List Lexeme) × (clause_behind c).Spells v (t ∷ more)
+    by true is = let x = led (codes "no") (usual_bound (is_unsaid c.least) (is_unsaid c.greatest)) (usual_laws (is_unsaid c.least) (is_unsaid c.greatest)) t is in (x.0, x.1, inl x.2)
+    by false is = let x = plain kind_branch more_branches plain_laws (grind arith) in (x.0, x.1, inr x.2)
+
+clauses_once : AreOnce (begins_clause no_clauses) clausing
+unfolding begins_clause clause_behind whole_number
+clauses_once = record {
+  laws = λ c. begun_by_laws (begins_clause c) (agrees c) (clause_behind c) (clause_laws c) (some_clause c) (clause_at c);
+  agrees = agrees;
+  begins = λ c v ts spells. spells.0;
+  takes = clauses_take;
+  ends = λ c t. ends (is_unsaid c.least) (is_unsaid c.greatest) t;
+  covers = covers;
+}
+  where
+    agrees : (c : Clauses) → Agrees (begins_clause c)
+    agrees c t long =
+        rw (
+          word_agrees (codes "as") refl t long,
+          word_agrees (codes "start") refl t long,
+          word_agrees (codes "increment") refl t long,
+          word_agrees (codes "no") refl t long,
+          word_agrees (codes "minvalue") refl t long,
+          word_agrees (codes "maxvalue") refl t long,
+          word_agrees (codes "cache") refl t long,
+          word_agrees (codes "cycle") refl t long,
+        ) refl
+
+    other : {x y : Bool} (a w : Bool) → cond w true x ≡ false → (x ≡ false → y ≡ false) → cond w a y ≡ false
+    other a true e later = absurd cc
+    other a false e later = later e
+
+    last : (w x : Bool) → (w && true) ≡ false → (w && x) ≡ false
+    last true x e = absurd cc
+    last false x e = refl
+
+    covers : (c : Clauses) (t : Lexeme) → begins_clause no_clauses t ≡ false → begins_clause c t ≡ false
+    covers c t none =
+        other _ (is_word (codes "as") t) none (λ e. other _ (is_word (codes "start") t) e (λ e. other _ (is_word (codes "increment") t) e (λ e. other _ (is_word (codes "no") t) e (λ e. other _ (is_word (codes "minvalue") t) e
+        (λ e. other _ (is_word (codes "maxvalue") t) e (λ e. other _ (is_word (codes "cache") t) e (last (is_word (codes "cycle") t) (not c.cycle))))))))
+
+    ends : (least greatest : Bool) (t : Lexeme) → ((usual_bound least greatest).goes_on t || (one_of kind_branch more_branches).goes_on t) ≡ false
+    ends true true t = refl
+    ends true false t = refl
+    ends false x t = refl
+
+create_sequence_laws : Lawful create_sequence
+unfolding create_sequence sequence_clauses begins_clause
+create_sequence_laws =
+    let clauses = lawful_seen (with_clauses no_clauses) (once_laws (begins_clause no_clauses) clausing clauses_once) in
+    lawful_seen (λ x. sequence_of x.0 x.1) (lawful_next qualified_laws (lawful_ended 59 clauses (λ t e. simp (sign_no_word 59))) (λ t. refl))
 
 -- ---- ALTER TABLE
 

@@ -1,135 +1,128 @@
--- CREATE SEQUENCE with the text that it is written in: its clauses bring those so far on from one state to another.
-use Rattle.ddl_laws.proofs.Common.{◌≡◌, ℕ, ◌+◌, ◌<◌, ◌^◌, ℤ, pos, Bool, true, false, cond, List, [], ◌∷◌, ◌++◌, append-nil, Option, Some, None, Result, Ok, refl, sym, ap, subst, ◌∙◌, inl, codes, option_and_then, arith, signed_decimal, Word, is_keyword_of, QName, Lexeme, is_word, is_sign, never, spelled, starts, Part, stop, passes, run, ◌then◌, path, joined, only_if as words_if, usual_min, usual_max, type_words, bound, min_text, max_text, count_first, count_value, counted, opposite, whole_number, count_begins, number_no_sign, First, Step, Least, Greatest, Cache, Both, Lower, Upper, ClauseSpot, Between, BehindAs, BehindStart, BehindIncrement, BehindNo, Due, BehindMinus, Clauses, no_clauses, with_number, reached, behind_no, clause_first, kind_first, lower, upper, usual_first, numbered, step_first, clausing, first_reached, clauses_of, sequence_clauses, bound_or, sequence_of, create_sequence, Words, Safe, admits, admitted, Opens, then_opens, passes_true as passed, number_as, positive_is, opposite_is, IsBelow, count_below, Follows, IsPut, Yields, followed, same_text, put_as, none_put, one_put, then_put, joined-append, is_safe_byte, Gap, space, indented, indent, Written, Kinds, not_closed, is_bare_word, bare_word, path_as, then_as, end_as, kind_as, IsInt, IsWritable}
+-- CREATE SEQUENCE with the text that it is written in: each clause is an item behind those before it.
+use Rattle.ddl_laws.proofs.Common.{◌≡◌, ℕ, ℤ, Bool, true, false, not, cond, ◌&&◌, ◌||◌, List, [], ◌∷◌, ◌++◌, Option, Some, None, refl, sym, ap, subst, ◌∙◌, inl, inr, codes, arith, signed_decimal, AllByRecursion, QName, Lexeme, is_word, never, starts, many, Part, ◌▸◌, joined, only_if as words_if, usual_min, usual_max, type_words, bound, min_text, max_text, Clauses, no_clauses, with_clause, with_clauses, clause_behind, begins_clause, clausing, sequence_clauses, sequence_of, Words, Safe, number_as, space, indented, Written, is_key, word_as, mark_as, lead_as, word_then, nothing_as, seen_as, choose_as, after_as, OptionFit, Follows, IsPut, followed, same_text, put_as, none_put, then_put, joined-append, then_opens, Opens, admits, admitted, meets, covers, indent, not_closed, Yields, AllCame, came_front, came_behind, Many, no_more, spelled, ◌then◌, str_to_ascii_lowercase, IsInt, IsWritable}
 use Rattle.std.specs.Ordering.{int_eq}
-use Rattle.cat_model.specs.{declared.constraint.SequenceKind.SequenceKind, declared.constraint.SequenceKind.TheVariants.SmallInt, declared.constraint.SequenceKind.TheVariants.Integer, declared.constraint.SequenceKind.TheVariants.BigInt}
-use Rattle.ddl_forms.proofs.{Putting.begun, Tokens.a_word}
+use Rattle.std.specs.Str.{str_eq_ignore_ascii_case}
+use Rattle.cat_model.specs.declared.constraint.SequenceKind.{SequenceKind}
+use Rattle.cat_model.specs.declared.constraint.SequenceKind.TheVariants.{SmallInt, Integer, BigInt}
+use Rattle.ddl_parts.specs.Parts.{one_more}
+use Rattle.ddl_parts.proofs.{Sequence.lead_begins, Telling.same_by}
+use Rattle.ddl_forms.proofs.{Putting.begun, Written.items_from}
 use Rattle.ddl_laws.specs.Respelling.{IsPath}
-use Rattle.ddl_read.specs.{declared.sequences.Bound.Bound, declared.sequences.Bound.TheVariants.Unsaid, declared.sequences.Bound.TheVariants.Usual, declared.sequences.Bound.TheVariants.Given, declared.sequences.Field.Field, declared.sequences.Reached.Reached, SequenceGrammar.only_if, SequenceGrammar.given_or}
-use Rattle.cat_model.specs.declared.stmt.Stmt.TheVariants as stmt
+use Rattle.ddl_read.specs.SequenceGrammar.{is_unsaid, integer_kind, usual_bound}
+use Rattle.ddl_read.specs.declared.sequences.{Bound.Bound, Bound.TheVariants.Usual, Bound.TheVariants.Given, Clause.Clause}
+use Rattle.ddl_read.specs.declared.sequences.Clause.TheVariants.{Kind, Start, Step, Least, Greatest, Cache, Cycle}
 
--- ---- what a number brings on
+-- ---- what is read
 
-pub counted_by : (o : Option ℕ) (n : ℕ) → counted o ≡ (let r : Result ℕ Bool = Ok n in r) → o ≡ Some n
-counted_by o n e = grind arith
+abbrev pub IsBound : Bound → Type 0
+IsBound Usual = Unit {0}
+IsBound (Given n) = IsInt n
 
-pub no_minus : (limit : ℕ) (t : Lexeme) (n : ℕ) → count_value limit t ≡ Ok n → is_sign 45 t ≡ false
-no_minus limit t n e = number_no_sign 45 t (count_begins limit n (t ∷ []) (t, refl, e))
+-- a type that has words
+abbrev pub IsNamed : SequenceKind → Type 0
+IsNamed BigInt = ⊥
+IsNamed kind = Unit {0}
 
-pub minus_is : (t : Lexeme) (u : Unit {0}) → passes (is_sign 45) t ≡ Ok u → is_sign 45 t ≡ true
-minus_is t u e = passed u (is_sign 45 t) e
+abbrev pub IsClause : Clause → Type 0
+IsClause (Kind kind) = IsNamed kind
+IsClause (Start n) = IsInt n
+IsClause (Step n) = IsInt n
+IsClause (Least b) = IsBound b
+IsClause (Greatest b) = IsBound b
+IsClause (Cache n) = IsInt n
+IsClause Cycle = Unit {0}
 
-pub negative_runs : (f : Field) (c : Clauses) (m t : Lexeme) (n : ℕ) → is_sign 45 m ≡ true → count_value (2 ^ 63 + 1) t ≡ Ok n → run clausing (Some (reached c (Due f))) (m ∷ t ∷ []) ≡ Some (reached (with_number f (opposite n) c) Between)
-unfolding step_first count_value
-negative_runs f c m t n minus e = rw (minus, counted_by (count_first (2 ^ 63 + 1) (t ∷ [])) n e) refl
+unfoldable pub clause_as : Written (clause_behind no_clauses)
+unfolding clause_behind is_key
+clause_as =
+    let no : Written (is_word (codes "no") ▸ usual_bound true true) = lead_as (word_as indented (codes "NO") refl) (choose_as (seen_as (λ u. Least Usual) (mark_as (word_as space (codes "MINVALUE") refl))) (seen_as (λ u. Greatest Usual) (mark_as (word_as space (codes "MAXVALUE") refl)))) refl in
+    let kind : Written (is_word (codes "as") ▸ integer_kind) = lead_as (word_as indented (codes "AS") refl) (choose_as (seen_as (λ u. Kind SmallInt) (mark_as (word_as space (codes "smallint") refl))) (seen_as (λ u. Kind Integer) (mark_as (word_as space (codes "integer") refl)))) refl in
+    let start = lead_as (word_as indented (codes "START") refl) (word_then (codes "WITH") refl (seen_as Start (number_as space)) refl) refl in
+    let step = lead_as (word_as indented (codes "INCREMENT") refl) (word_then (codes "BY") refl (seen_as Step (number_as space)) refl) refl in
+    let least = lead_as (word_as indented (codes "MINVALUE") refl) (seen_as (λ n. Least (Given n)) (number_as space)) refl in
+    let greatest = lead_as (word_as indented (codes "MAXVALUE") refl) (seen_as (λ n. Greatest (Given n)) (number_as space)) refl in
+    let cache = lead_as (word_as indented (codes "CACHE") refl) (seen_as Cache (number_as space)) refl in
+    let cycle = lead_as (word_as indented (codes "CYCLE") refl) (after_as (nothing_as Cycle) Words refl) refl in
+    choose_as no (choose_as kind (choose_as start (choose_as step (choose_as least (choose_as greatest (choose_as cache cycle))))))
 
-abbrev pub Runs : Field → Clauses → ℤ → List Lexeme → Type 0
-Runs f c z ts = run clausing (Some (reached c (Due f))) ts ≡ Some (reached (with_number f z c) Between)
+pub clause_is : (v : Clause) → clause_as.Is v → IsClause v
+unfolding clause_as
+clause_is v is = grind arith
 
--- ---- from one state to another
+pub made : Yields (AllByRecursion IsClause) (many (begins_clause no_clauses) clausing)
+unfolding clause_behind
+made vs ts r came spells = by no_clauses vs ts r came spells
+  where
+    any_bound : (least greatest : Bool) (v : Clause) (ts : List Lexeme) → (usual_bound least greatest).Spells v ts → (usual_bound true true).Spells v ts
+    any_bound true true v ts s = s
+    any_bound true false v ts s = inl s
+    any_bound false x v ts s = inr s
 
--- tokens that bring the clauses from one state to another
-abbrev pub moves : Reached → Reached → Part (Unit {0})
-moves r x = record { Spells = λ u ts. run clausing (Some r) ts ≡ Some x; read = λ ts. stop ts; goes_on = never }
+    anywhere : (c : Clauses) (v : Clause) (ts : List Lexeme) → (clause_behind c).Spells v ts → (clause_behind no_clauses).Spells v ts
+    anywhere c v ts spells = elim spells [ inl s ↦ inl (s.0, s.1, (s.2.0, s.2.1, s.2.2, s.2.3, any_bound (is_unsaid c.least) (is_unsaid c.greatest) s.0.1 s.2.1 s.2.4)) | inr s ↦ inr s ]
 
-pub run_on : (o : Option Reached) (a b : List Lexeme) → run clausing o (a ++ b) ≡ run clausing (run clausing o a) b
-run_on o [] b = refl
-run_on o (t ∷ a) b = run_on (option_and_then (λ x. clausing.step x t) o) a b
+    by : (c : Clauses) (vs : List Clause) (ts : List Lexeme) (r : List ℕ) → AllCame ts r → Many clausing c vs ts → AllByRecursion IsClause vs
+    by c _ _ r came (no_more _) = tt
+    by c _ _ r came (one_more _ v vs a b spells others) = (clause_is v (clause_as.made v a (spelled b ++ r) (came_front a b r came) (anywhere c v a spells.1)), by (with_clause c v) vs b r (came_behind a b r came) others)
 
--- texts of tokens that do so before what is safe, and begin safely or are none
-pub record Move (r x : Reached) (pieces : List (List ℕ)) : Type 0 where
-  pub put : (others : List Lexeme) → Follows others → admits Safe (spelled others) ≡ true → IsPut (moves r x) tt (joined pieces) others
+-- ---- the numbers so far
+
+abbrev pub AreGiven : Clauses → Type 0
+AreGiven c = OptionFit IsInt c.start × (OptionFit IsInt c.step × (OptionFit IsBound c.least × (OptionFit IsBound c.greatest × OptionFit IsInt c.cache)))
+
+pub one_given : (c : Clauses) (v : Clause) → AreGiven c → IsClause v → AreGiven (with_clause c v)
+one_given c v given is = grind arith
+
+pub all_given : (c : Clauses) (vs : List Clause) → AreGiven c → AllByRecursion IsClause vs → AreGiven (with_clauses c vs)
+all_given c [] given all = given
+all_given c (v ∷ vs) given all = all_given (with_clause c v) vs (one_given c v given all.0) all.1
+
+pub writable : (q : QName) (c : Clauses) → IsPath q → AreGiven c → IsWritable (sequence_of q c)
+unfolding sequence_of usual_min usual_max
+writable q c path given = grind arith
+
+-- ---- clauses with their texts
+
+-- by the words that a token is
+abbrev pub unsaid_by : Clauses → (List ℕ → Bool) → Bool
+unsaid_by c is =
+    cond (is (codes "as")) (is_unsaid c.kind) (cond (is (codes "start")) (is_unsaid c.start) (cond (is (codes "increment")) (is_unsaid c.step) (cond (is (codes "no")) (is_unsaid c.least || is_unsaid c.greatest)
+    (cond (is (codes "minvalue")) (is_unsaid c.least) (cond (is (codes "maxvalue")) (is_unsaid c.greatest) (cond (is (codes "cache")) (is_unsaid c.cache) (is (codes "cycle") && not c.cycle)))))))
+
+pub key_begins : (key : List ℕ) (p : Part Clause) (c : Clauses) (v : Clause) (ts : List Lexeme) → (is_word key ▸ p).Spells v ts → unsaid_by c (str_eq_ignore_ascii_case key) ≡ true → starts (begins_clause c) ts ≡ true
+unfolding begins_clause is_word
+key_begins key p c v ts spells fresh = by ts (lead_begins (is_word key) p v ts spells)
+  where
+    by : (us : List Lexeme) → starts (is_word key) us ≡ true → starts (begins_clause c) us ≡ true
+    by [] e = absurd cc
+    by (t ∷ us) e =
+        let same = λ (w : List ℕ). same_by t.kind t.word key w e in
+        rw (same (codes "as"), same (codes "start"), same (codes "increment"), same (codes "no"), same (codes "minvalue"), same (codes "maxvalue"), same (codes "cache"), same (codes "cycle")) fresh
+
+-- clauses behind others, with these texts before what is safe; they begin safely or are none
+pub record Put (c : Clauses) (vs : List Clause) (pieces : List (List ℕ)) : Type 0 where
+  pub put : (others : List Lexeme) → Follows others → admits Safe (spelled others) ≡ true → IsPut (items_from clausing c) vs (joined pieces) others
   pub begins : Opens true Safe (joined pieces)
 
--- the same text in other pieces
-pub so : {r x : Reached} {a b : List (List ℕ)} → joined a ≡ joined b → Move r x a → Move r x b
-so {r} {x} {a} {b} e m = record { put = λ others follows h. same_text (joined a) (joined b) e (m.put others follows h); begins = subst (Opens true Safe) e m.begins }
-
-pub stay : (r : Reached) → Move r r []
-stay r = record { put = λ others follows e. none_put (moves r r) tt others refl follows; begins = λ m c rest e. e }
-
-pub both : {r x y : Reached} {a b : List (List ℕ)} → Move r x a → Move x y b → Move r y (a ++ b)
-both {r} {x} {y} {a} {b} m n = record {
-  put = λ others follows e.
-      let k = n.put others follows e in
-      put_as (moves r x then moves x y) (moves r y) (tt, tt) tt (joined (a ++ b)) others
-      (then_put (moves r x) (moves x y) tt tt a b others k (m.put (k.tokens ++ others) (followed k) (begun Safe k (n.begins Safe refl (spelled others) e))))
-      (λ ts h. ap (run clausing (Some r)) h.2 ∙ run_on (Some r) h.0 h.1 ∙ ap (λ (o : Option Reached). run clausing o h.1) h.3 ∙ h.4);
-  begins = subst (Opens true Safe) (sym (joined-append a b)) (then_opens true true Safe Safe (joined a) (joined b) m.begins n.begins);
-}
-
-pub safely : (b : ℕ) (text : List ℕ) → is_safe_byte b ≡ true → Opens true Safe (b ∷ text)
-safely b text is = grind arith
-
-abbrev pub IsStep : Reached → Reached → List ℕ → List ℕ → Type 0
-IsStep r x g w = (at : ℕ) → step_first r (record { gap = g; kind = Word; word = w; start = at } ∷ []) ≡ Some x
-
--- a word, whose step is known
-pub word : {r : Reached} {b : ℕ} {g : List ℕ} (x : Reached) → Gap (b ∷ g) → is_safe_byte b ≡ true → (w : List ℕ) → is_bare_word w ≡ true → IsStep r x (b ∷ g) w → Move r x ((b ∷ g) ∷ w ∷ [])
-unfolding is_sign
-word {r} {b} {g} x gap safe w is steps = record {
-  put = λ others follows e.
-      let t : Lexeme = record { gap = b ∷ g; kind = Word; word = w; start = 0 } in
-      same_text ((b ∷ g) ++ w) ((b ∷ g) ++ (w ++ [])) (ap (λ (x : List ℕ). (b ∷ g) ++ x) (sym (append-nil w)))
-      (one_put (moves r x) tt t others (a_word w (spelled others) gap (bare_word w is).0 (bare_word w is).1 (admitted Words Safe (spelled others) refl e)) (inl refl) (λ at. steps _) follows);
-  begins = safely b (g ++ (w ++ [])) safe;
-}
-
-pub number : (f : Field) (c : Clauses) (z : ℤ) → IsInt z → Move (reached c (Due f)) (reached (with_number f z c) Between) ((32 ∷ []) ∷ signed_decimal z ∷ [])
-unfolding whole_number step_first count_value
-number f c z is =
-    let number_runs : (f : Field) (c : Clauses) (z : ℤ) (ts : List Lexeme) → whole_number.Spells z ts → Runs f c z ts = λ f c z ts spells. grind (arith, negative_runs, minus_is, no_minus, counted_by) in
+-- a clause before others, by its first word and what stands behind that
+pub one : {p : Part Clause} {vs : List Clause} {more : List (List ℕ)} (c : Clauses) (v : Clause) (word : List ℕ) (is : is_key (str_to_ascii_lowercase word) word ≡ true) (w : Written p) (fit : w.Fit v) (texts : List (List ℕ)) → meets Words w ≡ true → covers w.after Safe ≡ true
+    → joined (indent ∷ word ∷ w.pieces v fit) ≡ joined texts → unsaid_by c (str_eq_ignore_ascii_case (str_to_ascii_lowercase word)) ≡ true → ((ts : List Lexeme) → (is_word (str_to_ascii_lowercase word) ▸ p).Spells v ts → (clause_behind c).Spells v ts) → Put (with_clause c v) vs more → Put c (v ∷ vs) (texts ++ more)
+one {p} {vs} {more} c v word is w fit texts meet safe same unsaid here m =
+    let lead = lead_as (word_as indented word is) w meet in
+    let key = str_to_ascii_lowercase word in
+    let begins : Opens true Safe (joined texts) = subst (Opens true Safe) same (first (word ++ joined (w.pieces v fit))) in
     record {
       put = λ others follows e.
-          put_as whole_number (moves (reached c (Due f)) (reached (with_number f z c) Between)) z tt ((32 ∷ []) ++ (signed_decimal z ++ [])) others ((number_as space).put z is others follows e) (number_runs f c z);
-      begins = safely 32 (signed_decimal z ++ []) refl;
+          let k = m.put others follows e in
+          let next = begun Safe k (m.begins Safe refl (spelled others) e) in
+          let j = same_text (joined (indent ∷ word ∷ w.pieces v fit)) (joined texts) same (lead.put v fit (k.tokens ++ others) (followed k) (admitted w.after Safe (spelled (k.tokens ++ others)) safe next)) in
+          put_as ((is_word key ▸ p) then items_from clausing (with_clause c v)) (items_from clausing c) (v, vs) (v ∷ vs) (joined (texts ++ more)) others (then_put (is_word key ▸ p) (items_from clausing (with_clause c v)) v vs texts more others k j)
+          (λ ts h. subst (Many clausing c (v ∷ vs)) (sym h.2) (one_more c v vs h.0 h.1 (key_begins key p c v h.0 h.3 unsaid, here h.0 h.3) h.4));
+      begins = subst (Opens true Safe) (sym (joined-append texts more)) (then_opens true true Safe Safe (joined texts) (joined more) begins m.begins);
     }
-
--- ---- the clauses as they are written
-
-abbrev pub bound_of : Bool → ℤ → Bound
-bound_of true n = Usual
-bound_of false n = Given n
-
-abbrev pub between : Clauses → Reached
-between c = reached c Between
-
--- the type that is written
-abbrev pub said : SequenceKind → Option SequenceKind
-said SmallInt = Some SmallInt
-said Integer = Some Integer
-said BigInt = None
-
--- a word behind a line feed and four spaces, or behind a space
-abbrev pub line_word : {r : Reached} → (x : Reached) → (w : List ℕ) → is_bare_word w ≡ true → IsStep r x indent w → Move r x (indent ∷ w ∷ [])
-line_word x w is steps = word x indented refl w is steps
-
-abbrev pub next_word : {r : Reached} → (x : Reached) → (w : List ℕ) → is_bare_word w ≡ true → IsStep r x (32 ∷ []) w → Move r x ((32 ∷ []) ∷ w ∷ [])
-next_word x w is steps = word x space refl w is steps
-
-pub type_moves : (kind : SequenceKind) → Move first_reached (between (record no_clauses { kind = said kind })) (type_words kind ∷ [])
-unfolding is_bare_word is_keyword_of is_word step_first clause_first kind_first
-type_moves SmallInt = so refl (both (line_word (reached no_clauses BehindAs) (codes "AS") refl (λ at. refl)) (next_word (between (record no_clauses { kind = Some SmallInt })) (codes "smallint") refl (λ at. refl)))
-type_moves Integer = so refl (both (line_word (reached no_clauses BehindAs) (codes "AS") refl (λ at. refl)) (next_word (between (record no_clauses { kind = Some Integer })) (codes "integer") refl (λ at. refl)))
-type_moves BigInt = so refl (stay first_reached)
-
-pub min_moves : (d : Clauses) (u : Bool) (m : ℤ) → IsInt m → Move (between (record d { least = Unsaid; greatest = Unsaid })) (between (record d { least = bound_of u m; greatest = Unsaid })) (bound u (codes "\n    NO MINVALUE") (codes "\n    MINVALUE ") m ∷ [])
-unfolding is_bare_word is_keyword_of is_word step_first clause_first usual_first bound
-min_moves d true m is =
-    let c = record d { least = Unsaid; greatest = Unsaid } in
-    so refl (both (line_word (reached c (BehindNo Both)) (codes "NO") refl (λ at. refl)) (next_word (between (record c { least = Usual })) (codes "MINVALUE") refl (λ at. refl)))
-min_moves d false m is = let c = record d { least = Unsaid; greatest = Unsaid } in so refl (both (line_word (reached c (Due Least)) (codes "MINVALUE") refl (λ at. refl)) (number Least c m is))
-
-pub max_moves : (d : Clauses) (usual : Bool) (l : ℤ) (u : Bool) (m : ℤ) → IsInt m → Move (between (record d { least = bound_of usual l; greatest = Unsaid })) (between (record d { least = bound_of usual l; greatest = bound_of u m })) (bound u (codes "\n    NO MAXVALUE") (codes "\n    MAXVALUE ") m ∷ [])
-unfolding is_bare_word is_keyword_of is_word step_first clause_first usual_first bound
-max_moves d usual l true m is =
-    let c = record d { least = bound_of usual l; greatest = Unsaid } in
-    so refl (both (line_word (reached c (BehindNo Upper)) (codes "NO") refl (grind arith)) (next_word (between (record c { greatest = Usual })) (codes "MAXVALUE") refl (λ at. refl)))
-max_moves d usual l false m is = let c = record d { least = bound_of usual l; greatest = Unsaid } in so refl (both (line_word (reached c (Due Greatest)) (codes "MAXVALUE") refl (λ at. refl)) (number Greatest c m is))
-
-pub cycle_moves : (d : Clauses) (cycle : Bool) → Move (between (record d { cycle = false })) (between (record d { cycle = cycle })) (words_if cycle (codes "\n    CYCLE") ∷ [])
-unfolding is_bare_word is_keyword_of is_word step_first clause_first
-cycle_moves d false = so refl (stay (between (record d { cycle = false })))
-cycle_moves d true = so refl (line_word (between (record d { cycle = true })) (codes "CYCLE") refl (λ at. refl))
+  where
+    first : (text : List ℕ) → Opens true Safe (indent ++ text)
+    first text = grind arith
 
 -- a sequence's type and numbers, and whether it cycles
 pub record Values : Type 0 where
@@ -144,119 +137,116 @@ pub record Values : Type 0 where
 abbrev pub AreInts : Values → Type 0
 AreInts v = IsInt v.start × IsInt v.step × IsInt v.min × IsInt v.max × IsInt v.cache
 
+abbrev pub bound_of : Bool → ℤ → Bound
+bound_of true n = Usual
+bound_of false n = Given n
+
+-- the type that is written
+abbrev pub said : SequenceKind → Option SequenceKind
+said SmallInt = Some SmallInt
+said Integer = Some Integer
+said BigInt = None
+
 abbrev pub written : Values → Clauses
 written v = record {
   kind = said v.kind;
   start = Some v.start;
   step = Some v.step;
-  least = bound_of (int_eq v.min (usual_min v.kind v.step)) v.min;
-  greatest = bound_of (int_eq v.max (usual_max v.kind v.step)) v.max;
+  least = Some (bound_of (int_eq v.min (usual_min v.kind v.step)) v.min);
+  greatest = Some (bound_of (int_eq v.max (usual_max v.kind v.step)) v.max);
   cache = Some v.cache;
   cycle = v.cycle;
 }
+
+abbrev pub with_cycle : Bool → List Clause
+with_cycle true = Cycle ∷ []
+with_cycle false = []
+
+abbrev pub numbers_written : Values → List Clause
+numbers_written v =
+    Start v.start ∷ Step v.step ∷ Least (bound_of (int_eq v.min (usual_min v.kind v.step)) v.min) ∷ Greatest (bound_of (int_eq v.max (usual_max v.kind v.step)) v.max) ∷ Cache v.cache ∷ with_cycle v.cycle
+
+abbrev pub with_kind : SequenceKind → List Clause → List Clause
+with_kind BigInt vs = vs
+with_kind kind vs = Kind kind ∷ vs
+
+abbrev pub clauses_written : Values → List Clause
+clauses_written v = with_kind v.kind (numbers_written v)
 
 abbrev pub clause_pieces : Values → List (List ℕ)
 clause_pieces v =
     type_words v.kind ∷ codes "\n    START WITH " ∷ signed_decimal v.start ∷ codes "\n    INCREMENT BY " ∷ signed_decimal v.step ∷ min_text v.kind v.step v.min ∷ max_text v.kind v.step v.max
     ∷ codes "\n    CACHE " ∷ signed_decimal v.cache ∷ words_if v.cycle (codes "\n    CYCLE") ∷ []
 
+pub min_put : (d : Clauses) {vs : List Clause} {more : List (List ℕ)} (usual : Bool) (n : ℤ) → IsInt n → Put (record d { least = Some (bound_of usual n); greatest = None }) vs more
+    → Put (record d { least = None; greatest = None }) (Least (bound_of usual n) ∷ vs) (bound usual (codes "\n    NO MINVALUE") (codes "\n    MINVALUE ") n ∷ more)
+unfolding bound clause_behind is_key
+min_put d true n is m =
+    one (record d { least = None; greatest = None }) (Least Usual) (codes "NO") refl (seen_as (λ u. Least Usual) (mark_as (word_as space (codes "MINVALUE") refl))) (tt, tt, refl) (codes "\n    NO MINVALUE" ∷ []) refl refl refl refl
+    (λ ts s. inl (s.0, s.1, (s.2.0, s.2.1, s.2.2, s.2.3, inl s.2.4))) m
+min_put d false n is m =
+    one (record d { least = None; greatest = None }) (Least (Given n)) (codes "MINVALUE") refl (seen_as (λ n. Least (Given n)) (number_as space)) (n, is, refl) ((codes "\n    MINVALUE " ++ signed_decimal n) ∷ []) refl refl refl refl (λ ts s. inr (inr (inr (inr (inl s))))) m
+
+pub max_put : (d : Clauses) (least : Bound) {vs : List Clause} {more : List (List ℕ)} (usual : Bool) (n : ℤ) → IsInt n → Put (record d { least = Some least; greatest = Some (bound_of usual n) }) vs more
+    → Put (record d { least = Some least; greatest = None }) (Greatest (bound_of usual n) ∷ vs) (bound usual (codes "\n    NO MAXVALUE") (codes "\n    MAXVALUE ") n ∷ more)
+unfolding bound clause_behind is_key
+max_put d least true n is m =
+    one (record d { least = Some least; greatest = None }) (Greatest Usual) (codes "NO") refl (seen_as (λ u. Greatest Usual) (mark_as (word_as space (codes "MAXVALUE") refl))) (tt, tt, refl) (codes "\n    NO MAXVALUE" ∷ []) refl refl refl refl (λ ts s. inl s) m
+max_put d least false n is m =
+    one (record d { least = Some least; greatest = None }) (Greatest (Given n)) (codes "MAXVALUE") refl (seen_as (λ n. Greatest (Given n)) (number_as space)) (n, is, refl) ((codes "\n    MAXVALUE " ++ signed_decimal n) ∷ []) refl refl refl refl (λ ts s. inr (inr (inr (inr (inr (inl s)))))) m
+
 -- clause by clause
-pub clauses_move : (v : Values) → AreInts v → Move first_reached (between (written v)) (clause_pieces v)
-unfolding is_bare_word is_keyword_of is_word step_first clause_first
-clauses_move v is =
-    let u = int_eq v.min (usual_min v.kind v.step) in
-    let w = int_eq v.max (usual_max v.kind v.step) in
-    let typed = record no_clauses { kind = said v.kind } in
-    let started = record typed { start = Some v.start } in
-    let stepping = record started { step = Some v.step } in
-    let bounded = record stepping { least = bound_of u v.min; greatest = bound_of w v.max } in
-    let start : Move (between typed) (between started) (codes "\n    START WITH " ∷ signed_decimal v.start ∷ []) =
-    so refl (both (line_word (reached typed BehindStart) (codes "START") refl (λ at. refl)) (both (next_word (reached typed (Due First)) (codes "WITH") refl (λ at. refl)) (number First typed v.start is.0))) in
-    let step : Move (between started) (between stepping) (codes "\n    INCREMENT BY " ∷ signed_decimal v.step ∷ []) =
-    so refl (both (line_word (reached started BehindIncrement) (codes "INCREMENT") refl (λ at. refl)) (both (next_word (reached started (Due Step)) (codes "BY") refl (λ at. refl)) (number Step started v.step is.1))) in
-    let cache : Move (between bounded) (between (record bounded { cache = Some v.cache })) (codes "\n    CACHE " ∷ signed_decimal v.cache ∷ []) =
-    so refl (both (line_word (reached bounded (Due Cache)) (codes "CACHE") refl (λ at. refl)) (number Cache bounded v.cache is.4)) in
-    let bounds = both (min_moves stepping u v.min is.2) (both (max_moves stepping u v.min w v.max is.3) (both cache (cycle_moves (record bounded { cache = Some v.cache }) v.cycle))) in
-    both (type_moves v.kind) (both start (both step bounds))
+pub clauses_put : (v : Values) → AreInts v → Put no_clauses (clauses_written v) (clause_pieces v)
+unfolding clause_behind is_key
+clauses_put v is = by v.kind
+  where
+    numbers : List (List ℕ)
+    numbers =
+        codes "\n    START WITH " ∷ signed_decimal v.start ∷ codes "\n    INCREMENT BY " ∷ signed_decimal v.step ∷ min_text v.kind v.step v.min ∷ max_text v.kind v.step v.max
+        ∷ codes "\n    CACHE " ∷ signed_decimal v.cache ∷ words_if v.cycle (codes "\n    CYCLE") ∷ []
 
--- ---- the numbers so far
+    none : (c : Clauses) (pieces : List (List ℕ)) → joined pieces ≡ [] → Put c [] pieces
+    none c pieces e = record { put = λ others follows h. same_text [] (joined pieces) (sym e) (none_put (items_from clausing c) [] others (no_more c) follows); begins = λ m k rest h. ap (λ (x : List ℕ). admits m (x ++ rest)) e ∙ h }
 
-abbrev pub IsGiven : Option ℤ → Type 0
-IsGiven None = Unit {0}
-IsGiven (Some z) = IsInt z
+    cycles : (c : Clauses) (cycle : Bool) → c.cycle ≡ false → Put c (with_cycle cycle) (words_if cycle (codes "\n    CYCLE") ∷ [])
+    cycles c false e = none c ([] ∷ []) refl
+    cycles c true e = one c Cycle (codes "CYCLE") refl (after_as (nothing_as {test = never} Cycle) Words refl) refl (codes "\n    CYCLE" ∷ []) refl refl refl (ap not e) (λ ts s. inr (inr (inr (inr (inr (inr (inr s))))))) (none (with_clause c Cycle) [] refl)
 
-abbrev pub IsBound : Bound → Type 0
-IsBound (Given z) = IsInt z
-IsBound Unsaid = Unit {0}
-IsBound Usual = Unit {0}
+    behind : (kind : Option SequenceKind) → Put (record no_clauses { kind = kind }) (numbers_written v) numbers
+    behind kind =
+        let c = record no_clauses { kind = kind; start = Some v.start; step = Some v.step } in
+        let least = bound_of (int_eq v.min (usual_min v.kind v.step)) v.min in
+        let bounded = record c { least = Some least; greatest = Some (bound_of (int_eq v.max (usual_max v.kind v.step)) v.max) } in
+        let cache = one bounded (Cache v.cache) (codes "CACHE") refl (seen_as Cache (number_as space)) (v.cache, is.4, refl) (codes "\n    CACHE " ∷ signed_decimal v.cache ∷ []) refl refl refl refl (λ ts s. inr (inr (inr (inr (inr (inr (inl s))))))) (cycles (record bounded { cache = Some v.cache }) v.cycle refl) in
+        let bounds = min_put c (int_eq v.min (usual_min v.kind v.step)) v.min is.2 (max_put c least (int_eq v.max (usual_max v.kind v.step)) v.max is.3 cache) in
+        let step = one (record no_clauses { kind = kind; start = Some v.start }) (Step v.step) (codes "INCREMENT") refl (word_then (codes "BY") refl (seen_as Step (number_as space)) refl) (v.step, is.1, refl) (codes "\n    INCREMENT BY " ∷ signed_decimal v.step ∷ []) refl refl refl refl (λ ts s. inr (inr (inr (inl s)))) bounds in
+        one (record no_clauses { kind = kind }) (Start v.start) (codes "START") refl (word_then (codes "WITH") refl (seen_as Start (number_as space)) refl) (v.start, is.0, refl) (codes "\n    START WITH " ∷ signed_decimal v.start ∷ []) refl refl refl refl (λ ts s. inr (inr (inl s))) step
 
-abbrev pub AreGiven : Clauses → Type 0
-AreGiven c = IsGiven c.start × (IsGiven c.step × (IsBound c.least × (IsBound c.greatest × IsGiven c.cache)))
+    by : (kind : SequenceKind) → Put no_clauses (with_kind kind (numbers_written v)) (type_words kind ∷ numbers)
+    by SmallInt = one no_clauses (Kind SmallInt) (codes "AS") refl (seen_as (λ u. Kind SmallInt) (mark_as (word_as space (codes "smallint") refl))) (tt, tt, refl) (codes "\n    AS smallint" ∷ []) refl refl refl refl (λ ts s. inr (inl (s.0, s.1, (s.2.0, s.2.1, s.2.2, s.2.3, inl s.2.4)))) (behind (Some SmallInt))
+    by Integer = one no_clauses (Kind Integer) (codes "AS") refl (seen_as (λ u. Kind Integer) (mark_as (word_as space (codes "integer") refl))) (tt, tt, refl) (codes "\n    AS integer" ∷ []) refl refl refl refl (λ ts s. inr (inl (s.0, s.1, (s.2.0, s.2.1, s.2.2, s.2.3, inr s.2.4)))) (behind (Some Integer))
+    by BigInt = let m = behind None in record { put = m.put; begins = m.begins }
 
-abbrev pub KeptBy : Option Reached → Type 0
-KeptBy None = Unit {0}
-KeptBy (Some r) = AreGiven r.clauses
+pub said_so : (v : Values) → with_clauses no_clauses (clauses_written v) ≡ written v
+said_so v = by v.kind v.cycle
+  where
+    by : (kind : SequenceKind) (cycle : Bool) → with_clauses no_clauses (with_kind kind (numbers_written (record v { cycle = cycle }))) ≡ record (written v) { kind = said kind; cycle = cycle }
+    by SmallInt true = refl
+    by SmallInt false = refl
+    by Integer true = refl
+    by Integer false = refl
+    by BigInt true = refl
+    by BigInt false = refl
 
-pub record Keeps (o : Option Reached) : Type 0 where
-  kept : KeptBy o
-
-pub keeps : (r : Reached) → AreGiven r.clauses → Keeps (Some r)
-keeps r k = record { kept = k }
-
-pub if_keeps : (b : Bool) (p q : Option Reached) → Keeps p → Keeps q → Keeps (cond b p q)
-if_keeps b p q kp kq = grind arith
-
-pub only_keeps : (b : Bool) (r : Reached) → AreGiven r.clauses → Keeps (only_if b r)
-only_keeps b r k = grind arith
-
-pub no_keeps : (c : Clauses) (a b : Bool) → AreGiven c → Keeps (behind_no c a b)
-no_keeps c a b k = grind arith
-
-pub number_keeps : (f : Field) (sign : ℕ → ℤ) (limit : ℕ) (c : Clauses) (o : Option ℕ) → ((n : ℕ) → n < limit → IsInt (sign n)) → AreGiven c → IsBelow limit o → Keeps (numbered f sign c o)
-number_keeps f sign limit c o ints k below = grind arith
-
-pub lower_keeps : (c : Clauses) (ts : List Lexeme) → AreGiven c → Keeps (lower c ts)
-lower_keeps c ts k = only_keeps (starts (is_word (codes "minvalue")) ts) (reached (record c { least = Usual }) Between) (k.0, (k.1.0, (tt, k.1.1.1)))
-
-pub upper_keeps : (c : Clauses) (ts : List Lexeme) → AreGiven c → Keeps (upper c ts)
-upper_keeps c ts k = only_keeps (starts (is_word (codes "maxvalue")) ts) (reached (record c { greatest = Usual }) Between) (k.0, (k.1.0, (k.1.1.0, (tt, k.1.1.1.1))))
-
-pub step_keeps : (spot : ClauseSpot) (c : Clauses) (ts : List Lexeme) → AreGiven c → Keeps (step_first (reached c spot) ts)
-unfolding step_first usual_first clause_first kind_first
-step_keeps Between c ts k = grind (arith, if_keeps, starts, only_keeps, no_keeps)
-step_keeps BehindAs c ts k = grind arith
-step_keeps BehindStart c ts k = only_keeps (starts (is_word (codes "with")) ts) (reached c (Due First)) k
-step_keeps BehindIncrement c ts k = only_keeps (starts (is_word (codes "by")) ts) (reached c (Due Step)) k
-step_keeps (BehindNo Both) c ts k = if_keeps (starts (is_word (codes "minvalue")) ts) _ _ (lower_keeps c ts k) (upper_keeps c ts k)
-step_keeps (BehindNo Lower) c ts k = lower_keeps c ts k
-step_keeps (BehindNo Upper) c ts k = upper_keeps c ts k
-step_keeps (Due f) c ts k = if_keeps (starts (is_sign 45) ts) (Some (reached c (BehindMinus f))) (numbered f pos c (count_first (2 ^ 63) ts)) (keeps (reached c (BehindMinus f)) k) (number_keeps f pos (2 ^ 63) c (count_first (2 ^ 63) ts) positive_is k (count_below (2 ^ 63) ts))
-step_keeps (BehindMinus f) c ts k = number_keeps f opposite (2 ^ 63 + 1) c (count_first (2 ^ 63 + 1) ts) opposite_is k (count_below (2 ^ 63 + 1) ts)
-
-pub one_keeps : (o : Option Reached) (t : Lexeme) → Keeps o → Keeps (option_and_then (λ r. clausing.step r t) o)
-one_keeps None t k = record { kept = tt }
-one_keeps (Some r) t k = step_keeps r.spot r.clauses (t ∷ []) k.kept
-
-pub run_keeps : (o : Option Reached) (ts : List Lexeme) → Keeps o → Keeps (run clausing o ts)
-run_keeps o [] k = k
-run_keeps o (t ∷ ts) k = run_keeps (option_and_then (λ r. clausing.step r t) o) ts (one_keeps o t k)
-
-pub sequence_clauses_yield : Yields AreGiven sequence_clauses
+-- what spells the clauses that are written spells them
+pub clauses_as_put : (c : Clauses) (v : Values) → AreInts v → written v ≡ c → (others : List Lexeme) → Follows others → admits Safe (spelled others) ≡ true → IsPut sequence_clauses c (joined (clause_pieces v)) others
 unfolding sequence_clauses
-sequence_clauses_yield = grind (arith, run_keeps, keeps)
+clauses_as_put c v is e others follows h =
+    put_as (items_from clausing no_clauses) sequence_clauses (clauses_written v) c (joined (clause_pieces v)) others ((clauses_put v is).put others follows h) (λ ts s. (clauses_written v, sym (said_so v ∙ e), s))
 
-pub writable : (q : QName) (c : Clauses) → IsPath q → AreGiven c → IsWritable (sequence_of q c)
-unfolding sequence_of usual_min usual_max
-writable q c path k = grind arith
-
--- ---- the statement
-
--- what brings the clauses from the first state to another spells them
-pub clauses_put : (c : Clauses) (v : Values) (is : AreInts v) → written v ≡ c → (others : List Lexeme) → Follows others → admits Safe (spelled others) ≡ true → IsPut sequence_clauses c (joined (clause_pieces v)) others
+pub clauses_made : Yields AreGiven sequence_clauses
 unfolding sequence_clauses
-clauses_put c v is e others follows h =
-    put_as (moves first_reached (between (written v))) sequence_clauses tt c (joined (clause_pieces v)) others ((clauses_move v is).put others follows h)
-    (λ ts runs. (ts, sym e ∙ ap clauses_of (sym runs), (refl, record { last = between (written v); runs = runs; done = refl })))
+clauses_made c ts r came s = subst AreGiven (sym s.1) (all_given no_clauses s.0 (tt, (tt, (tt, (tt, tt)))) (made s.0 ts r came s.2))
 
 abbrev pub clauses_as : Written sequence_clauses
 clauses_as = record {
@@ -267,8 +257,8 @@ clauses_as = record {
   opens = Safe;
   lacks = true;
   closed = false;
-  put = λ c fit. clauses_put c fit.0 fit.1 fit.2;
-  begins = λ c fit. (clauses_move fit.0 fit.1).begins;
-  made = sequence_clauses_yield;
+  put = λ c fit. clauses_as_put c fit.0 fit.1 fit.2;
+  begins = λ c fit. (clauses_put fit.0 fit.1).begins;
+  made = clauses_made;
   closes = not_closed sequence_clauses;
 }

@@ -7,14 +7,14 @@ use Rattle.ddl_laws.proofs.{Relations.new_owner_as, Relations.altered_domain_as,
 use Rattle.cat_model.specs.declared.grant.Owned.TheVariants as owned
 use Rattle.cat_model.specs.declared.stmt.Stmt.TheVariants as stmt
 use Rattle.cat_model.specs.declared.grant.Commented.TheVariants as commented
-use Rattle.ddl_read.specs.{SequenceGrammar.given_or}
+use Rattle.std.specs.Option.{unwrap_or}
 use Rattle.cat_model.specs.{declared.constraint.SequenceKind.TheVariants.BigInt, declared.constraint.SequenceKind.SequenceKind}
 use Rattle.std.specs.Ordering.{int_eq}
 
 -- ---- the kinds, behind their first words
 
 unfoldable pub created_as : Kinds IsWritable created
-unfolding created create_schema create_role create_view replace_view create_index create_unique_index is_key create_enum_as create_domain_as create_table_as create_database_as view_and_body_as index_parts_as create_sequence
+unfolding created create_schema create_role create_view replace_view create_index create_unique_index is_key create_enum_as create_domain_as create_table_as create_database_as view_and_body_as index_parts_as create_sequence clauses_as
 created_as =
     let again = led_as (word_as space (codes "REPLACE") refl) (led_as (word_as space (codes "VIEW") refl) (kind_as (λ x. stmt.ReplaceView x.0 x.1) view_and_body_as (λ x is. is)) refl) refl in
     or_as (led_as (word_as space (codes "SCHEMA") refl) (kind_as stmt.CreateSchema (end_as (name_as space) refl) (λ n is. is)) refl) (or_as (led_as (word_as space (codes "TYPE") refl) create_enum_as refl)
@@ -131,8 +131,8 @@ spelled_so gap (stmt.ReplaceView q body) words is = (in_create gap _ 7 ((q, body
 spelled_so gap (stmt.CreateIndex q n m rest) words is = (in_create gap _ 8 (record { name = n; table = q; method = m; rest = rest }, (is.1, (is.0, (is.2, is.3))), refl), refl)
 spelled_so gap (stmt.CreateUniqueIndex q n m rest) words is = (in_create gap _ 9 (record { name = n; table = q; method = m; rest = rest }, (is.1, (is.0, (is.2, is.3))), refl), refl)
 spelled_so gap (stmt.CreateSequence q kind start step min max cache cycle) words is =
-    let bound_is : (usual n : ℤ) → bound_or usual (bound_of (int_eq n usual) n) ≡ n = λ usual n. grind arith in
-    let said_is : (kind : SequenceKind) → given_or BigInt (said kind) ≡ kind = λ x. grind arith in
+    let bound_is : (usual n : ℤ) → bound_or usual (Some (bound_of (int_eq n usual) n)) ≡ n = λ usual n. grind arith in
+    let said_is : (kind : SequenceKind) → unwrap_or (said kind) BigInt ≡ kind = λ x. grind arith in
     let v : Values = record { kind = kind; start = start; step = step; min = min; max = max; cache = cache; cycle = cycle } in
     (in_create gap _ 10 ((q, written v), (is.0, (v, (is.1, is.2, is.3, is.4, is.5), refl)), rw (said_is v.kind, bound_is (usual_min v.kind v.step) v.min, bound_is (usual_max v.kind v.step) v.max) refl), refl)
 spelled_so {g} gap (stmt.OwnerTo (owned.Schema n) r) words is = (in_alter gap _ 0 ((n, r), (is.0, is.1), refl), owner_behind g (codes "ALTER SCHEMA ") (written_name n) (written_name r))

@@ -2,6 +2,7 @@ pub mod Common
 pub mod Statements
 pub mod TableLaws
 pub mod RestLaws
-pub mod SequenceScans
+pub mod ItemLaws
+pub mod SequenceLaws
 pub mod ColumnLaws
 pub mod ValueLaws

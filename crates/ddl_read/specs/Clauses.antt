@@ -1,13 +1,21 @@
--- What several kinds of statements have: the semicolon, named checks and new owners.
-use Rattle.std.specs.Prelude.{ℕ, Bool, List, codes}
+-- What several kinds of statements have: the semicolon, parts that begin with some tokens, named checks and new owners.
+use Rattle.std.specs.Prelude.{◌≡◌, ℕ, Bool, true, List, codes}
 use Rattle.cat_model.specs.declared.table.CheckDef.{CheckDef}
-use Rattle.ddl_parts.specs.Lexemes.{Lexeme, is_word, is_sign}
-use Rattle.ddl_parts.specs.Parts.{Part, seen, ◌then◌, ◌▸◌, ◌◂◌}
+use Rattle.ddl_parts.specs.Lexemes.{Lexeme, is_word, is_sign, starts}
+use Rattle.ddl_parts.specs.Parts.{Part, seen, choose_at, stop, ◌then◌, ◌▸◌, ◌◂◌}
 use Rattle.ddl_parts.specs.Leaves.{name}
 use Rattle.ddl_parts.specs.Expressions.{expression}
 
 abbrev pub semicolon : Lexeme → Bool
 semicolon = is_sign 59
+
+-- a part, where the next token passes a test
+abbrev pub begun_by : {A : Type 0} → (Lexeme → Bool) → Part A → Part A
+begun_by test p = record {
+  Spells = λ v ts. (starts test ts ≡ true) × p.Spells v ts;
+  read = λ ts. choose_at (starts test ts) (p.read ts) (stop ts);
+  goes_on = p.goes_on;
+}
 
 abbrev pub check_of : List ℕ × List ℕ → CheckDef
 check_of x = record { name = x.0; text = x.1 }

@@ -1,15 +1,15 @@
 -- The grammar of statements about sequences, views and indexes: what stands behind ALTER SEQUENCE and behind CREATE.
-use Rattle.std.specs.Prelude.{◌≡◌, ℕ, Bool, true, List, [], ◌∷◌, codes}
+use Rattle.std.specs.Prelude.{ℕ, List, [], ◌∷◌, codes}
 use Rattle.cat_model.specs.declared.object.QName.{QName}
 use Rattle.cat_model.specs.declared.grant.Owned.TheVariants as owned
 use Rattle.cat_model.specs.declared.stmt.Stmt.{Stmt}
 use Rattle.cat_model.specs.declared.stmt.Stmt.TheVariants as stmt
-use Rattle.ddl_parts.specs.Lexemes.{Lexeme, is_word, is_sign, starts}
-use Rattle.ddl_parts.specs.Parts.{Part, Branch, seen, choose, choose_at, stop, one_of, ◌then◌, ◌▸◌, ◌◂◌}
+use Rattle.ddl_parts.specs.Lexemes.{is_word, is_sign}
+use Rattle.ddl_parts.specs.Parts.{Part, Branch, seen, choose, one_of, ◌then◌, ◌▸◌, ◌◂◌}
 use Rattle.ddl_parts.specs.Leaves.{name, qualified}
 use Rattle.ddl_parts.specs.Expressions.{expression}
 use Rattle.ddl_read.specs.declared.relations.Index.{Index}
-use Rattle.ddl_read.specs.Clauses.{semicolon, new_owner}
+use Rattle.ddl_read.specs.Clauses.{semicolon, begun_by, new_owner}
 use Rattle.ddl_read.specs.SequenceGrammar.{create_sequence}
 
 -- ---- ALTER SEQUENCE ..
@@ -48,14 +48,6 @@ unfoldable pub replace_view : Part Stmt
 replace_view = is_word (codes "replace") ▸ (is_word (codes "view") ▸ seen (λ x. stmt.ReplaceView x.0 x.1) view_and_body)
 
 -- ---- CREATE INDEX ..
-
--- a part, where the next token passes a test
-abbrev pub begun_by : {A : Type 0} → (Lexeme → Bool) → Part A → Part A
-begun_by test p = record {
-  Spells = λ v ts. (starts test ts ≡ true) × p.Spells v ts;
-  read = λ ts. choose_at (starts test ts) (p.read ts) (stop ts);
-  goes_on = p.goes_on;
-}
 
 -- the text of a run with balanced brackets, from an opening bracket on
 unfoldable pub bracketed : Part (List ℕ)

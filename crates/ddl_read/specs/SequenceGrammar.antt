@@ -1,162 +1,122 @@
--- The grammar of CREATE SEQUENCE: its clauses in any order, each at most once, taken token by token.
-use Rattle.std.specs.Prelude.{ℕ, ◌+◌, ◌^◌, ◌&&◌, ◌||◌, ℤ, pos, Bool, true, false, not, List, [], ◌∷◌, Option, Some, None, Result, Ok, Err, is_some, option_map, if◌then◌else◌, codes}
+-- The grammar of CREATE SEQUENCE: its clauses are items in any order, each at most once.
+use Rattle.std.specs.Prelude.{◌&&◌, ◌||◌, ℤ, pos, Bool, true, false, not, List, [], ◌∷◌, Option, Some, None, is_some, if◌then◌else◌, codes}
+use Rattle.std.specs.Option.{unwrap_or}
 use Rattle.cat_model.specs.declared.object.QName.{QName}
 use Rattle.cat_model.specs.declared.constraint.SequenceKind.{SequenceKind}
 use Rattle.cat_model.specs.declared.constraint.SequenceKind.TheVariants.{SmallInt, Integer, BigInt}
 use Rattle.cat_model.specs.declared.stmt.Stmt.{Stmt}
 use Rattle.cat_model.specs.declared.stmt.Stmt.TheVariants as stmt
-use Rattle.ddl_parts.specs.declared.fault.ReadError.{ReadError}
-use Rattle.ddl_parts.specs.declared.fault.ReadError.TheVariants.{Halted}
-use Rattle.ddl_parts.specs.Lexemes.{Lexeme, is_word, is_sign, starts}
-use Rattle.ddl_parts.specs.Parts.{Part, Machine, run, runs_of, seen, ◌then◌, ◌◂◌}
+use Rattle.ddl_parts.specs.Lexemes.{Lexeme, is_word, never}
+use Rattle.ddl_parts.specs.Parts.{Part, Branch, Items, mark, seen, choose, nothing, one_of, many, ◌then◌, ◌▸◌, ◌◂◌}
 use Rattle.ddl_parts.specs.Leaves.{qualified}
 use Rattle.ddl_write.specs.Sequences.{falls, usual_min, usual_max}
+use Rattle.ddl_numbers.specs.Numbers.{whole_number}
 use Rattle.ddl_read.specs.declared.sequences.Bound.{Bound}
-use Rattle.ddl_read.specs.declared.sequences.Bound.TheVariants.{Unsaid, Usual, Given}
-use Rattle.ddl_read.specs.declared.sequences.Field.{Field}
-use Rattle.ddl_read.specs.declared.sequences.Field.TheVariants.{First, Step, Least, Greatest, Cache}
-use Rattle.ddl_read.specs.declared.sequences.Open.{Open}
-use Rattle.ddl_read.specs.declared.sequences.Open.TheVariants.{Both, Lower, Upper}
-use Rattle.ddl_read.specs.declared.sequences.ClauseSpot.{ClauseSpot}
-use Rattle.ddl_read.specs.declared.sequences.ClauseSpot.TheVariants.{Between, BehindAs, BehindStart, BehindIncrement, BehindNo, Due, BehindMinus}
+use Rattle.ddl_read.specs.declared.sequences.Bound.TheVariants.{Usual, Given}
+use Rattle.ddl_read.specs.declared.sequences.Clause.{Clause}
+use Rattle.ddl_read.specs.declared.sequences.Clause.TheVariants.{Kind, Start, Step, Least, Greatest, Cache, Cycle}
 use Rattle.ddl_read.specs.declared.sequences.Clauses.{Clauses}
-use Rattle.ddl_read.specs.declared.sequences.Reached.{Reached}
-use Rattle.ddl_numbers.specs.Numbers.{count_first, opposite}
-use Rattle.ddl_read.specs.Clauses.{semicolon}
+use Rattle.ddl_read.specs.Clauses.{semicolon, begun_by}
 
--- ---- the clauses so far
+-- ---- one clause
+
+abbrev pub integer_kind : Part Clause
+integer_kind = choose (is_word (codes "smallint")) (seen (λ u. Kind SmallInt) (mark (is_word (codes "smallint")))) (seen (λ u. Kind Integer) (mark (is_word (codes "integer"))))
+
+abbrev pub kind_branch : Branch Clause
+kind_branch = record { key = codes "as"; part = integer_kind }
+
+abbrev pub more_branches : List (Branch Clause)
+more_branches =
+    record { key = codes "start"; part = is_word (codes "with") ▸ seen Start whole_number } ∷ record { key = codes "increment"; part = is_word (codes "by") ▸ seen Step whole_number }
+    ∷ record { key = codes "minvalue"; part = seen (λ n. Least (Given n)) whole_number } ∷ record { key = codes "maxvalue"; part = seen (λ n. Greatest (Given n)) whole_number }
+    ∷ record { key = codes "cache"; part = seen Cache whole_number } ∷ record { key = codes "cycle"; part = nothing never Cycle } ∷ []
+
+-- a clause but NO MINVALUE and NO MAXVALUE
+abbrev pub plain_clause : Part Clause
+plain_clause = one_of kind_branch more_branches
+
+abbrev pub usual_least : Part Clause
+usual_least = seen (λ u. Least Usual) (mark (is_word (codes "minvalue")))
+
+abbrev pub usual_greatest : Part Clause
+usual_greatest = seen (λ u. Greatest Usual) (mark (is_word (codes "maxvalue")))
+
+-- behind NO: a bound, by whether nothing was said of the least number and of the greatest
+abbrev pub usual_bound : Bool → Bool → Part Clause
+usual_bound true true = choose (is_word (codes "minvalue")) usual_least usual_greatest
+usual_bound true false = usual_least
+usual_bound false greatest = usual_greatest
+
+-- ---- clause by clause
 
 abbrev pub no_clauses : Clauses
-no_clauses = record { kind = None; start = None; step = None; least = Unsaid; greatest = Unsaid; cache = None; cycle = false }
+no_clauses = record { kind = None; start = None; step = None; least = None; greatest = None; cache = None; cycle = false }
 
-abbrev pub is_unsaid : Bound → Bool
-is_unsaid Unsaid = true
-is_unsaid _ = false
+-- the clauses so far, and one more
+abbrev pub with_clause : Clauses → Clause → Clauses
+with_clause c (Kind kind) = record c { kind = Some kind }
+with_clause c (Start n) = record c { start = Some n }
+with_clause c (Step n) = record c { step = Some n }
+with_clause c (Least bound) = record c { least = Some bound }
+with_clause c (Greatest bound) = record c { greatest = Some bound }
+with_clause c (Cache n) = record c { cache = Some n }
+with_clause c Cycle = record c { cycle = true }
 
--- a number that was given
-abbrev pub with_number : Field → ℤ → Clauses → Clauses
-with_number First n c = record c { start = Some n }
-with_number Step n c = record c { step = Some n }
-with_number Least n c = record c { least = Given n }
-with_number Greatest n c = record c { greatest = Given n }
-with_number Cache n c = record c { cache = Some n }
+abbrev pub is_unsaid : {A : Type 0} → Option A → Bool
+is_unsaid said = not (is_some said)
 
-abbrev pub reached : Clauses → ClauseSpot → Reached
-reached c spot = record { clauses = c; spot = spot }
+-- behind these clauses
+unfoldable pub clause_behind : Clauses → Part Clause
+clause_behind c = choose (is_word (codes "no")) (is_word (codes "no") ▸ usual_bound (is_unsaid c.least) (is_unsaid c.greatest)) plain_clause
 
-abbrev pub only_if : Bool → Reached → Option Reached
-only_if b r = if b then Some r else None
+-- a clause begins that was not said before
+unfoldable pub begins_clause : Clauses → Lexeme → Bool
+begins_clause c t =
+    if is_word (codes "as") t then is_unsaid c.kind
+    else (if is_word (codes "start") t then is_unsaid c.start
+    else (if is_word (codes "increment") t then is_unsaid c.step
+    else (if is_word (codes "no") t then (is_unsaid c.least || is_unsaid c.greatest)
+    else (if is_word (codes "minvalue") t then is_unsaid c.least
+    else (if is_word (codes "maxvalue") t then is_unsaid c.greatest
+    else (if is_word (codes "cache") t then is_unsaid c.cache
+    else (is_word (codes "cycle") t && not c.cycle)))))))
 
--- the bounds that may follow NO
-abbrev pub behind_no : Clauses → Bool → Bool → Option Reached
-behind_no c true true = Some (reached c (BehindNo Both))
-behind_no c true false = Some (reached c (BehindNo Lower))
-behind_no c false true = Some (reached c (BehindNo Upper))
-behind_no c false false = None
-
--- ---- token by token, by the first of some tokens
-
--- a clause begins, which none has begun before
-unfoldable pub clause_first : Clauses → List Lexeme → Option Reached
-clause_first c ts =
-    if starts (is_word (codes "as")) ts then only_if (not (is_some c.kind)) (reached c BehindAs)
-    else (if starts (is_word (codes "start")) ts then only_if (not (is_some c.start)) (reached c BehindStart)
-    else (if starts (is_word (codes "increment")) ts then only_if (not (is_some c.step)) (reached c BehindIncrement)
-    else (if starts (is_word (codes "no")) ts then behind_no c (is_unsaid c.least) (is_unsaid c.greatest)
-    else (if starts (is_word (codes "minvalue")) ts then only_if (is_unsaid c.least) (reached c (Due Least))
-    else (if starts (is_word (codes "maxvalue")) ts then only_if (is_unsaid c.greatest) (reached c (Due Greatest))
-    else (if starts (is_word (codes "cache")) ts then only_if (not (is_some c.cache)) (reached c (Due Cache))
-    else only_if (starts (is_word (codes "cycle")) ts && not c.cycle) (reached (record c { cycle = true }) Between)))))))
-
-unfoldable pub kind_first : Clauses → List Lexeme → Option Reached
-kind_first c ts =
-    if starts (is_word (codes "smallint")) ts then Some (reached (record c { kind = Some SmallInt }) Between)
-    else only_if (starts (is_word (codes "integer")) ts) (reached (record c { kind = Some Integer }) Between)
-
-abbrev pub lower : Clauses → List Lexeme → Option Reached
-lower c ts = only_if (starts (is_word (codes "minvalue")) ts) (reached (record c { least = Usual }) Between)
-
-abbrev pub upper : Clauses → List Lexeme → Option Reached
-upper c ts = only_if (starts (is_word (codes "maxvalue")) ts) (reached (record c { greatest = Usual }) Between)
-
-unfoldable pub usual_first : Open → Clauses → List Lexeme → Option Reached
-usual_first Both c ts = if starts (is_word (codes "minvalue")) ts then lower c ts else upper c ts
-usual_first Lower c ts = lower c ts
-usual_first Upper c ts = upper c ts
-
-abbrev pub numbered : Field → (ℕ → ℤ) → Clauses → Option ℕ → Option Reached
-numbered field sign c n = option_map (λ n. reached (with_number field (sign n) c) Between) n
-
-abbrev pub step_at : ClauseSpot → Clauses → List Lexeme → Option Reached
-step_at Between c ts = clause_first c ts
-step_at BehindAs c ts = kind_first c ts
-step_at BehindStart c ts = only_if (starts (is_word (codes "with")) ts) (reached c (Due First))
-step_at BehindIncrement c ts = only_if (starts (is_word (codes "by")) ts) (reached c (Due Step))
-step_at (BehindNo which) c ts = usual_first which c ts
-step_at (Due field) c ts = if starts (is_sign 45) ts then Some (reached c (BehindMinus field)) else numbered field pos c (count_first (2 ^ 63) ts)
-step_at (BehindMinus field) c ts = numbered field opposite c (count_first (2 ^ 63 + 1) ts)
-
-unfoldable pub step_first : Reached → List Lexeme → Option Reached
-step_first r ts = step_at r.spot r.clauses ts
-
-abbrev pub is_between : ClauseSpot → Bool
-is_between Between = true
-is_between _ = false
-
--- the answer at a place where no clause goes on
-abbrev pub ended_by : Reached → ℕ → Bool → Result (Clauses × ℕ) ReadError
-ended_by r at true = Ok (r.clauses, at)
-ended_by r at false = Err (Halted (record { long = false; at = at }))
-
--- the words with which a clause begins
-abbrev pub begins_clause : Lexeme → Bool
-begins_clause t =
-    is_word (codes "as") t || (is_word (codes "start") t || (is_word (codes "increment") t || (is_word (codes "no") t || (is_word (codes "minvalue") t || (is_word (codes "maxvalue") t || (is_word (codes "cache") t || is_word (codes "cycle") t))))))
-
-abbrev pub first_reached : Reached
-first_reached = reached no_clauses Between
-
-abbrev pub clausing : Machine
+abbrev pub clausing : Items Clause
 clausing = record {
-  State = Reached;
-  start = first_reached;
-  step = λ r t. step_first r (t ∷ []);
-  done = λ r. is_between r.spot;
-  long = λ r t. false;
-  goes_on = begins_clause;
+  State = Clauses;
+  start = no_clauses;
+  more = begins_clause;
+  item = λ c. begun_by (begins_clause c) (clause_behind c);
+  next = with_clause;
 }
+
+abbrev pub with_clauses : Clauses → List Clause → Clauses
+with_clauses c [] = c
+with_clauses c (v ∷ vs) = with_clauses (with_clause c v) vs
+
+unfoldable pub sequence_clauses : Part Clauses
+sequence_clauses = seen (with_clauses no_clauses) (many (begins_clause no_clauses) clausing)
 
 -- ---- CREATE SEQUENCE
 
--- the clauses of tokens that were taken
-abbrev pub clauses_of : Option Reached → Clauses
-clauses_of (Some r) = r.clauses
-clauses_of None = no_clauses
-
-unfoldable pub sequence_clauses : Part Clauses
-sequence_clauses = seen (λ ts. clauses_of (run clausing (Some first_reached) ts)) (runs_of clausing)
-
-abbrev pub given_or : {A : Type 0} → A → Option A → A
-given_or usual None = usual
-given_or usual (Some v) = v
-
-abbrev pub bound_or : ℤ → Bound → ℤ
-bound_or usual (Given n) = n
-bound_or usual _ = usual
+abbrev pub bound_or : ℤ → Option Bound → ℤ
+bound_or usual (Some (Given n)) = n
+bound_or usual said = usual
 
 -- where it starts: at the least number, or at the greatest where it falls
 abbrev pub usual_start : ℤ → ℤ → ℤ → ℤ
 usual_start step min max = if falls step then max else min
 
 abbrev pub sequence_with : QName → SequenceKind → ℤ → ℤ → ℤ → Clauses → Stmt
-sequence_with q kind step min max c = stmt.CreateSequence q kind (given_or (usual_start step min max) c.start) step min max (given_or (pos 1) c.cache) c.cycle
+sequence_with q kind step min max c = stmt.CreateSequence q kind (unwrap_or c.start (usual_start step min max)) step min max (unwrap_or c.cache (pos 1)) c.cycle
 
 abbrev pub sequence_by : QName → SequenceKind → ℤ → Clauses → Stmt
 sequence_by q kind step c = sequence_with q kind step (bound_or (usual_min kind step) c.least) (bound_or (usual_max kind step) c.greatest) c
 
 -- clauses that are missing have their usual values
 unfoldable pub sequence_of : QName → Clauses → Stmt
-sequence_of q c = sequence_by q (given_or BigInt c.kind) (given_or (pos 1) c.step) c
+sequence_of q c = sequence_by q (unwrap_or c.kind BigInt) (unwrap_or c.step (pos 1)) c
 
 -- path and clauses;
 unfoldable pub create_sequence : Part Stmt

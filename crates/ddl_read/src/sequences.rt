@@ -1,72 +1,42 @@
 //! Readers of CREATE SEQUENCE, behind these words.
-#![tactic(auto, unfolding(crate::specs::SequenceGrammar::clause_first, crate::specs::SequenceGrammar::kind_first, crate::specs::SequenceGrammar::usual_first, crate::specs::SequenceGrammar::step_first))]
-
-ghost use Rattle.std.specs.Prelude.{◌≡◌, ◌<◌, ◌^◌, ◌+◌, length, pos, drop, IfSome};
+ghost use Rattle.std.specs.Prelude.{◌≡◌, false, drop};
+ghost use Rattle.std.specs.Option.{unwrap_or};
+ghost use Rattle.ddl_parts.specs.Lexemes.{starts};
 ghost use Rattle.ddl_parts.specs.Pieces.{GivesPart};
-ghost use Rattle.cat_model.specs.declared.constraint.SequenceKind.TheVariants.{BigInt};
-ghost use Rattle.ddl_numbers.specs.Numbers.{count_first, opposite};
-ghost use Rattle.ddl_read.specs.SequenceGrammar.{is_unsaid, with_number, reached, only_if, behind_no, numbered, clause_first, kind_first, usual_first, step_first, is_between, ended_by, sequence_clauses, given_or, bound_or, usual_start, sequence_of, create_sequence};
+ghost use Rattle.ddl_read.specs.SequenceGrammar.{is_unsaid, usual_bound, with_clause, clause_behind, begins_clause, sequence_clauses, bound_or, usual_start, sequence_of, create_sequence};
 
 use cat_model::{QName, SequenceKind, Stmt};
-use ddl_numbers::{LIMIT, count_first, opposite};
-use ddl_parts::{Parsed, Pieces, halt, qualified_name, read};
+use ddl_numbers::whole_number;
+use ddl_parts::{Parsed, Pieces, by_word, qualified_name, read};
 use ddl_write::{usual_max, usual_min};
 use std::alloc::Global;
 
-/// A bound of a sequence, as far as it was said.
+/// A bound of a sequence, as it was said.
 #[derive(Clone, Copy)]
 pub enum Bound {
-    /// Nothing was said of it.
-    Unsaid,
-    /// It was said to be the usual one.
+    /// The usual one.
     Usual,
-    /// It was given.
+    /// This one.
     Given(i64),
 }
 
-/// What a number of a sequence is.
+/// A clause of a sequence.
 #[derive(Clone, Copy)]
-pub enum Field {
+pub enum Clause {
+    /// The type of its numbers.
+    Kind(SequenceKind),
     /// Where it starts.
-    First,
+    Start(i64),
     /// Its step.
-    Step,
+    Step(i64),
     /// Its least number.
-    Least,
+    Least(Bound),
     /// Its greatest number.
-    Greatest,
-    /// How many are kept ready.
-    Cache,
-}
-
-/// The bounds that may follow NO.
-#[derive(Clone, Copy)]
-pub enum Open {
-    /// Each of them.
-    Both,
-    /// MINVALUE.
-    Lower,
-    /// MAXVALUE.
-    Upper,
-}
-
-/// Where reading the clauses of a sequence stands.
-#[derive(Clone, Copy)]
-pub enum ClauseSpot {
-    /// Behind a clause, or before the first.
-    Between,
-    /// Behind AS.
-    BehindAs,
-    /// Behind START.
-    BehindStart,
-    /// Behind INCREMENT.
-    BehindIncrement,
-    /// Behind NO.
-    BehindNo(Open),
-    /// Before a number.
-    Due(Field),
-    /// Behind its minus sign.
-    BehindMinus(Field),
+    Greatest(Bound),
+    /// How many numbers are kept ready.
+    Cache(i64),
+    /// It begins again at its end.
+    Cycle,
 }
 
 /// The clauses of a sequence so far.
@@ -75,218 +45,104 @@ pub struct Clauses {
     kind: Option<SequenceKind>,
     start: Option<i64>,
     step: Option<i64>,
-    least: Bound,
-    greatest: Bound,
+    least: Option<Bound>,
+    greatest: Option<Bound>,
     cache: Option<i64>,
     cycle: bool,
 }
 
-/// The clauses so far, and where reading them stands.
-#[derive(Clone, Copy)]
-pub struct Reached {
-    clauses: Clauses,
-    spot: ClauseSpot,
-}
-
-/// What was reached where a token goes on, or None.
-fn only_if(goes: bool, clauses: Clauses, spot: ClauseSpot) -> Option<Reached>
-    ensures { result ≡ only_if goes (reached clauses spot) }
+/// The clauses with one more.
+fn with_clause(mut clauses: Clauses, clause: Clause) -> Clauses
+    ensures { result ≡ with_clause clauses clause }
 {
-    if goes {
-        Some(Reached { clauses, spot })
-    } else {
-        None
-    }
-}
-
-fn is_unsaid(bound: Bound) -> bool
-    ensures { result ≡ is_unsaid bound }
-{
-    matches!(bound, Bound::Unsaid)
-}
-
-/// The clauses with a number that was given.
-fn with_number(field: Field, number: i64, mut clauses: Clauses) -> Clauses
-    ensures { result ≡ with_number field number clauses }
-{
-    match field {
-        Field::First => clauses.start = Some(number),
-        Field::Step => clauses.step = Some(number),
-        Field::Least => clauses.least = Bound::Given(number),
-        Field::Greatest => clauses.greatest = Bound::Given(number),
-        Field::Cache => clauses.cache = Some(number),
+    match clause {
+        Clause::Kind(kind) => clauses.kind = Some(kind),
+        Clause::Start(number) => clauses.start = Some(number),
+        Clause::Step(number) => clauses.step = Some(number),
+        Clause::Least(bound) => clauses.least = Some(bound),
+        Clause::Greatest(bound) => clauses.greatest = Some(bound),
+        Clause::Cache(number) => clauses.cache = Some(number),
+        Clause::Cycle => clauses.cycle = true,
     }
     clauses
 }
 
-/// What is reached behind NO, by whether nothing was said of each bound.
-fn behind_no(clauses: Clauses, lower: bool, upper: bool) -> Option<Reached>
-    ensures { result ≡ behind_no clauses lower upper }
+/// Whether nothing was said before of the clause that begins at a place, or None where none begins.
+#[tactic(auto, unfolding(crate::specs::SequenceGrammar::begins_clause))]
+fn unsaid(pieces: &Pieces<'_>, at: usize, said: Clauses) -> Option<bool>
+    ensures { unwrap_or result false ≡ starts (begins_clause said) (drop at pieces.now) }
 {
-    let which = match (lower, upper) {
-        (true, true) => Open::Both,
-        (true, false) => Open::Lower,
-        (false, true) => Open::Upper,
-        (false, false) => return None,
-    };
-    Some(Reached {
-        clauses,
-        spot: ClauseSpot::BehindNo(which),
-    })
+    by_word!(pieces, at;
+        "as" => said.kind.is_none(), "start" => said.start.is_none(), "increment" => said.step.is_none(),
+        "no" => said.least.is_none() || said.greatest.is_none(), "minvalue" => said.least.is_none(),
+        "maxvalue" => said.greatest.is_none(), "cache" => said.cache.is_none(), "cycle" => !said.cycle)
 }
 
-/// What is reached behind the first token of a clause.
-fn clause_first(pieces: &Pieces<'_>, at: usize, mut clauses: Clauses) -> Option<Reached>
-    ensures { result ≡ clause_first clauses (drop at pieces.now) }
+/// The bound that follows NO, by whether nothing was said of the least number and of the greatest.
+fn usual_bound(pieces: &Pieces<'_>, at: usize, least: bool, greatest: bool) -> Parsed<Clause>
+    ensures { GivesPart pieces.now (λ c. c) result ((usual_bound least greatest).read (drop at pieces.now)) }
 {
-    use ClauseSpot::{BehindAs, BehindIncrement, BehindStart, Between, Due};
-
-    if pieces.is_word(at, "as") {
-        return only_if(clauses.kind.is_none(), clauses, BehindAs);
+    if !least {
+        return read!(pieces, at; "maxvalue" => Clause::Greatest(Bound::Usual));
     }
-    if pieces.is_word(at, "start") {
-        return only_if(clauses.start.is_none(), clauses, BehindStart);
+    if !greatest {
+        return read!(pieces, at; "minvalue" => Clause::Least(Bound::Usual));
     }
-    if pieces.is_word(at, "increment") {
-        return only_if(clauses.step.is_none(), clauses, BehindIncrement);
-    }
-    if pieces.is_word(at, "no") {
-        let (lower, upper) = (is_unsaid(clauses.least), is_unsaid(clauses.greatest));
-        return behind_no(clauses, lower, upper);
-    }
-    if pieces.is_word(at, "minvalue") {
-        return only_if(is_unsaid(clauses.least), clauses, Due(Field::Least));
-    }
-    if pieces.is_word(at, "maxvalue") {
-        return only_if(is_unsaid(clauses.greatest), clauses, Due(Field::Greatest));
-    }
-    if pieces.is_word(at, "cache") {
-        return only_if(clauses.cache.is_none(), clauses, Due(Field::Cache));
-    }
-    let goes = pieces.is_word(at, "cycle") && !clauses.cycle;
-    clauses.cycle = true;
-    only_if(goes, clauses, Between)
+    read!(pieces, at;
+        if "minvalue" { => Clause::Least(Bound::Usual) }
+        "maxvalue" => Clause::Greatest(Bound::Usual))
 }
 
-/// What is reached behind a type.
-fn kind_first(pieces: &Pieces<'_>, at: usize, mut clauses: Clauses) -> Option<Reached>
-    ensures { result ≡ kind_first clauses (drop at pieces.now) }
+/// The clause at a place, behind these.
+#[tactic(auto, unfolding(crate::specs::SequenceGrammar::clause_behind))]
+fn clause_behind(pieces: &Pieces<'_>, at: usize, said: Clauses) -> Parsed<Clause>
+    ensures { GivesPart pieces.now (λ c. c) result ((clause_behind said).read (drop at pieces.now)) }
 {
-    if pieces.is_word(at, "smallint") {
-        clauses.kind = Some(SequenceKind::SmallInt);
-        return only_if(true, clauses, ClauseSpot::Between);
-    }
-    clauses.kind = Some(SequenceKind::Integer);
-    only_if(pieces.is_word(at, "integer"), clauses, ClauseSpot::Between)
-}
-
-/// What is reached behind a token that follows NO.
-fn usual_first(pieces: &Pieces<'_>, at: usize, which: Open, mut clauses: Clauses) -> Option<Reached>
-    ensures { result ≡ usual_first which clauses (drop at pieces.now) }
-{
-    match which {
-        Open::Both | Open::Lower if pieces.is_word(at, "minvalue") => clauses.least = Bound::Usual,
-        Open::Both | Open::Upper if pieces.is_word(at, "maxvalue") => clauses.greatest =
-            Bound::Usual,
-        _ => return None,
-    }
-    only_if(true, clauses, ClauseSpot::Between)
-}
-
-/// What is reached behind a number without a sign.
-fn behind_number(pieces: &Pieces<'_>, at: usize, field: Field, clauses: Clauses) -> Option<Reached>
-    ensures { result ≡ numbered field pos clauses (count_first (2 ^ 63) (drop at pieces.now)) }
-{
-    let number = count_first(pieces, at, LIMIT)? as i64;
-    let clauses = with_number(field, number, clauses);
-    only_if(true, clauses, ClauseSpot::Between)
-}
-
-/// What is reached behind a number with a minus sign.
-fn behind_minus(pieces: &Pieces<'_>, at: usize, field: Field, clauses: Clauses) -> Option<Reached>
-    ensures { result ≡ numbered field opposite clauses (count_first (2 ^ 63 + 1) (drop at pieces.now)) }
-{
-    let number = opposite(count_first(pieces, at, LIMIT + 1)?);
-    let clauses = with_number(field, number, clauses);
-    only_if(true, clauses, ClauseSpot::Between)
-}
-
-/// What is reached behind the token at a place, or None where nothing goes on there.
-fn step(pieces: &Pieces<'_>, at: usize, so_far: Reached) -> Option<Reached>
-    ensures { result ≡ step_first so_far (drop at pieces.now) }
-{
-    use ClauseSpot::{BehindAs, BehindIncrement, BehindMinus, BehindNo, BehindStart, Between, Due};
-
-    let Reached { clauses, spot } = so_far;
-    match spot {
-        Between => clause_first(pieces, at, clauses),
-        BehindAs => kind_first(pieces, at, clauses),
-        BehindStart => only_if(pieces.is_word(at, "with"), clauses, Due(Field::First)),
-        BehindIncrement => only_if(pieces.is_word(at, "by"), clauses, Due(Field::Step)),
-        BehindNo(which) => usual_first(pieces, at, which, clauses),
-        Due(field) if pieces.is_sign(at, b'-') => only_if(true, clauses, BehindMinus(field)),
-        Due(field) => behind_number(pieces, at, field, clauses),
-        BehindMinus(field) => behind_minus(pieces, at, field, clauses),
-    }
-}
-
-/// The clauses, where they may end.
-fn clauses_end(so_far: Reached, at: usize) -> Parsed<Clauses>
-    ensures { result ≡ ended_by so_far at (is_between so_far.spot) }
-{
-    match so_far.spot {
-        ClauseSpot::Between => Ok((so_far.clauses, at)),
-        _ => halt(at),
-    }
+    read!(pieces, at;
+        if "no" { -> usual_bound[pieces, at, said.least.is_none(), said.greatest.is_none()] }
+        if "as" {
+            if "smallint" { => Clause::Kind(SequenceKind::SmallInt) }
+            "integer" => Clause::Kind(SequenceKind::Integer)
+        }
+        if "start" { "with" number: whole_number => Clause::Start(number) }
+        if "increment" { "by" number: whole_number => Clause::Step(number) }
+        if "minvalue" { number: whole_number => Clause::Least(Bound::Given(number)) }
+        if "maxvalue" { number: whole_number => Clause::Greatest(Bound::Given(number)) }
+        if "cache" { number: whole_number => Clause::Cache(number) }
+        "cycle" => Clause::Cycle)
 }
 
 /// The clauses at a place, and the place behind them.
-#[tactic(auto)]
 fn sequence_clauses(pieces: &Pieces<'_>, from: usize) -> Parsed<Clauses>
     ensures { GivesPart pieces.now (λ c. c) result (sequence_clauses.read (drop from pieces.now)) }
 {
-    let mut so_far = Reached {
-        clauses: Clauses {
-            kind: None,
-            start: None,
-            step: None,
-            least: Bound::Unsaid,
-            greatest: Bound::Unsaid,
-            cache: None,
-            cycle: false,
-        },
-        spot: ClauseSpot::Between,
+    let mut said = Clauses {
+        kind: None,
+        start: None,
+        step: None,
+        least: None,
+        greatest: None,
+        cache: None,
+        cycle: false,
     };
     let mut at = from;
-    'tokens: loop {
-        if at >= pieces.len() {
-            return clauses_end(so_far, at);
+    'clauses: loop {
+        if !unsaid(pieces, at, said).unwrap_or(false) {
+            return Ok((said, at));
         }
-        let Some(next) = step(pieces, at, so_far) else {
-            return clauses_end(so_far, at);
-        };
-        so_far = next;
-        at += 1;
-    }
-}
-
-/// The number that was given, or the usual one.
-fn given_or(usual: i64, given: Option<i64>) -> i64
-    ensures { result ≡ given_or usual given }
-{
-    match given {
-        Some(number) => number,
-        None => usual,
+        let (clause, next) = clause_behind(pieces, at, said)?;
+        said = with_clause(said, clause);
+        at = next;
     }
 }
 
 /// The bound that was given, or the usual one.
-fn bound_or(usual: i64, bound: Bound) -> i64
+fn bound_or(usual: i64, bound: Option<Bound>) -> i64
     ensures { result ≡ bound_or usual bound }
 {
     match bound {
-        Bound::Given(number) => number,
-        Bound::Unsaid | Bound::Usual => usual,
+        Some(Bound::Given(number)) => number,
+        _ => usual,
     }
 }
 
@@ -303,17 +159,17 @@ fn sequence_of(q: QName, clauses: Clauses) -> Stmt
     ensures { result ≡ sequence_of q clauses }
 {
     let kind = clauses.kind.unwrap_or(SequenceKind::BigInt);
-    let step = given_or(1, clauses.step);
+    let step = clauses.step.unwrap_or(1);
     let min = bound_or(usual_min(kind, step), clauses.least);
     let max = bound_or(usual_max(kind, step), clauses.greatest);
     Stmt::CreateSequence {
         q,
         kind,
-        start: given_or(usual_start(step, min, max), clauses.start),
+        start: clauses.start.unwrap_or(usual_start(step, min, max)),
         step,
         min,
         max,
-        cache: given_or(1, clauses.cache),
+        cache: clauses.cache.unwrap_or(1),
         cycle: clauses.cycle,
     }
 }

@@ -1,29 +1,30 @@
-use Rattle.ddl_read.proofs.Common.{drop, sym, refl, ◌∙◌, arith, is_between, sequence_clauses, token_at, none_behind}
-use Rattle.ddl_read.proofs.SequenceScans.{whole, goes, stops, stops_at_end, answers}
+use Rattle.ddl_read.proofs.Common.{◌≡◌, ◌∙◌, sym, drop, true, false, err_from_is_err_and, starts, begins_clause}
+use Rattle.ddl_read.proofs.SequenceLaws.{whole, goes, stops, fails, fewer}
 use Rattle.ddl_read.proofs.sequences.sequence_clauses.Goals as goal
 
-pub tokens-init : goal.tokens-init
-tokens-init c = whole (drop c.args.from c.args.pieces.now)
+pub clauses-init : goal.clauses-init
+clauses-init c = whole (drop c.args.from c.args.pieces.now)
 
-pub returns-then-at-len : goal.returns-then-at-len
-returns-then-at-len c =
-    let ts = c.args.pieces.now in
-    let r = c.tokens.so_far in
-    let b = is_between r.spot in
-    let stop = stops_at_end r ts c.tokens.at b (none_behind ts c.tokens.at (omega (arith, c.if-at-len.true, c.len.ensures))) refl in
-    rw c.clauses_end.ensures (answers r ts c.tokens.at (sequence_clauses.read (drop c.args.from ts)) b (c.tokens.invariant ∙ stop))
+pub returns-then-not-unwrap_or : goal.returns-then-not-unwrap_or
+returns-then-not-unwrap_or c =
+    let ts = drop c.clauses.at c.args.pieces.now in
+    let none : starts (begins_clause c.clauses.said) ts ≡ false = sym c.unsaid.ensures ∙ sym c.unwrap_or.ensures ∙ c.if-not-unwrap_or.true in
+    c.clauses.invariant ∙ stops c.clauses.said ts none
 
-pub returns-in_default : goal.returns-in_default
-returns-in_default c =
+pub returns-in_err-clause : goal.returns-in_err-clause
+returns-in_err-clause c =
     let ts = c.args.pieces.now in
-    let r = c.tokens.so_far in
-    let b = is_between r.spot in
-    let h = token_at ts c.tokens.at (omega (arith, c.if-at-len.false, c.len.ensures)) in
-    let stop = stops r ts c.tokens.at h b (sym c.in_default.ensures) refl in
-    rw c.clauses_end-in_default.ensures (answers r ts c.tokens.at (sequence_clauses.read (drop c.args.from ts)) b (c.tokens.invariant ∙ stop))
+    let p = err_from_is_err_and c.from_residual.result c.from_residual.ensures.1 in
+    let begins : starts (begins_clause c.clauses.said) (drop c.clauses.at ts) ≡ true = sym c.unsaid.ensures ∙ sym c.unwrap_or.ensures ∙ c.if-not-unwrap_or.false in
+    rw (p.1, p.2, c.clauses.invariant) (fails c.clauses.said ts c.clauses.at _ begins c.in_err-clause.ensures)
 
-pub tokens-preserved : goal.tokens-preserved
-tokens-preserved c =
+pub clauses-smaller : goal.clauses-smaller
+clauses-smaller c =
+    let begins : starts (begins_clause c.clauses.said) (drop c.clauses.at c.args.pieces.now) ≡ true = sym c.unsaid.ensures ∙ sym c.unwrap_or.ensures ∙ c.if-not-unwrap_or.false in
+    fewer c.clauses.said c.args.pieces.now c.clauses.at c.in_ok-clause.next c.in_ok-clause.clause begins c.in_ok-clause.ensures
+
+pub clauses-preserved : goal.clauses-preserved
+clauses-preserved c =
     let ts = c.args.pieces.now in
-    let h = token_at ts c.tokens.at (omega (arith, c.if-at-len.false, c.len.ensures)) in
-    c.tokens.invariant ∙ goes c.tokens.so_far c.in-Some.next ts c.tokens.at h (sym c.in-Some.ensures)
+    let begins : starts (begins_clause c.clauses.said) (drop c.clauses.at ts) ≡ true = sym c.unsaid.ensures ∙ sym c.unwrap_or.ensures ∙ c.if-not-unwrap_or.false in
+    rw c.with_clause-said.ensures (c.clauses.invariant ∙ goes c.clauses.said (drop c.clauses.at ts) (drop c.in_ok-clause.next ts) c.in_ok-clause.clause begins c.in_ok-clause.ensures)

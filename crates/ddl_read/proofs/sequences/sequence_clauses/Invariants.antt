@@ -1,10 +1,10 @@
 use Rattle.ddl_read.proofs.Common.{◌≡◌, ◌-◌, length, drop, sequence_clauses}
-use Rattle.ddl_read.proofs.SequenceScans.{left}
+use Rattle.ddl_read.proofs.SequenceLaws.{left}
 use Rattle.ddl_read.proofs.sequences.sequence_clauses.Given as goal
 
 -- what is read from the place on is what is read from the first
-abbrev pub invariant-tokens : goal.invariant-tokens
-invariant-tokens l = sequence_clauses.read (drop l.from l.pieces) ≡ left l.so_far (drop l.at l.pieces)
+abbrev pub invariant-clauses : goal.invariant-clauses
+invariant-clauses l = sequence_clauses.read (drop l.from l.pieces) ≡ left l.said (drop l.at l.pieces)
 
-abbrev pub decreases-tokens : goal.decreases-tokens
-decreases-tokens l = length l.pieces - l.at
+abbrev pub decreases-clauses : goal.decreases-clauses
+decreases-clauses l = length l.pieces - l.at
