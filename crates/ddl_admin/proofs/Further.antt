@@ -48,7 +48,7 @@ furthers_apart =
 
 pub furthers_laws : Lawful furthers
 unfolding furthers
-furthers_laws = seen_laws (λ options. tt) (many is_option furthering) (many_laws is_option furthering furthers_apart)
+furthers_laws = seen_laws (λ options. tt) (many is_option furthering) (many_laws furthers_apart)
 
 -- ---- a loop over further options
 

@@ -1,14 +1,12 @@
 -- The grammar of statements has the laws of a part: what is read is spelled so, what is spelled so is read, and where
 -- reading stops nothing goes on.
 use Rattle.ddl_laws.proofs.Common.{grammar, ◌≡◌, Bool, true, false, ◌||◌, List, [], ◌∷◌, Some, None, refl, ap, codes, ℕ, arith, ◌++◌, append-nil, append_assoc, Ok, Err, sym, ◌∙◌, inl, not, Option, subst, not-true, not-false, is_utf8, chars, encode, ◌==◌, is_some, is_keyword_of, name_of, literal_of, Lexeme, is_word, is_sign, source, starts, run, Part, Reading, Stop, stop, choose_at, ◌then◌, Many, no_more, many, passes, ◌◂◌, Like, Lawful, Apart, Avoids, comma, name_in, name_value, is_name, qualified, literal, is_literal, text_in, literal_value, many_laws, CanEnd, machine_laws, a_word, a_sign, name_laws, qualified_laws, sign_is, words_apart, qualified_begins, literal_laws, literal_begins, word_no_sign, sign_no_word, signs_apart, free, stop_no_type, sign_no_name, sign_no_literal, Headed, lawful_seen, lawful_ended, lawful_next, headed_sign, headed_seen, lawful_unless, lawful_word, lawful_sign, headed_word, lawful_either, headed_next, lawful_choose, lawful_then, one_word, lawful_worded, one_sign, ◌also◌, sign_kind, more_names, names_of, columns, rest_goes_on, deferral, action, on_delete, reactions, key_rest, foreign_rest, TokenKind, Literal, whole_number, Clauses, clausing, sequence_clauses, sequence_of, create_sequence, expression, nest_step, nest_done, ends_run, default_text, Inside, shortened, short_word, whole_path, path_in, path_of, path_value, word_agrees, sign_agrees, name_agrees, literal_agrees, name_shortens, guarded_shortens, refused_shortens, word_no_text, Agrees, passes_like, starts-append, starts_kept, starts_again, Tells, Fits, left_of, long_of, told, lawful, named_by, expression_laws, expression_ends, expression_ends_bracket, default_text_laws, run_ends, one_of_laws, one_of_avoids, one_of_avoids_others, new_owner, owned_by, its_role, its_column, sequence_changed, sequence_change, altered_sequence, view_and_body, create_view, replace_view, begun_by, bracketed, index_made, index_body, index_parts, index_of, unique_index_of, create_index, create_unique_index, view_branch, more_relations, one_laws, one_begins, seen_avoids, mark_begins, Check, Owner, check_body, primary_of, primary_body, unique_of, unique_body, foreign_of, foreign_body, constraint_body, added, new_default, own_change, table_change, table_changed, only_value, only_name, other_value, other_name, other_path, in_schema, key_word, behind_only, only_changed, altered_table, listed_laws, CheckDef, create_enum, enum_of, attributes, typed, checking, domain_of, create_domain, more_elements, elements, parted, table_elements, table_of, create_table, named_check_is, checks_apart, typed_laws, attributes_end, sign_end, column_ends, elements_apart, named_check_free, LexFault, QName, lexemes, collected, whole_number_laws, literal_path, truth, set_value, some_columns, copy_from, create_role, alter_role, create_database, create_schema, created, new_check, its_owner, one_more_check, domain_changed, domain_change, altered_domain, name_and_owner, path_and_owner, owned_name, owned_path, altered, set_config, catalog_calls, selected, equals_or_to, setting, more_commands, command, statement, word_like, sign_like, ◌&&◌, inr, cond, no_clauses, with_clauses, clause_behind}
-use Rattle.ddl_parts.proofs.{Common.or_cases, Lemmas.listed, Lemmas.lawful_maybe, Lemmas.avoids_maybe, Lemmas.or_parts, Lemmas.word_no_sign, Lemmas.never, Simple.nothing_laws, Simple.passes_by, Tables.AllLawful}
-use Rattle.ddl_parts.specs.Parts.{Branch, one_more, mark, one_of, ◌▸◌}
-use Rattle.ddl_parts.proofs.Simple.{nothing_laws}
+use Rattle.ddl_parts.proofs.{Lemmas.listed, Lemmas.lawful_maybe, Lemmas.avoids_maybe, Lemmas.or_parts, Lemmas.word_no_sign, Lemmas.never, Simple.nothing_laws}
+use Rattle.ddl_parts.specs.Parts.{one_more, mark, one_of, ◌▸◌}
 use Rattle.ddl_admin.proofs.{CommentLaws.comment_on_laws, RoleLaws.create_role_laws, RoleLaws.alter_role_laws, DatabaseLaws.create_database_laws}
 use Rattle.ddl_laws.proofs.Computing.{reads}
-use Rattle.ddl_laws.proofs.Once.{AreOnce, once_laws}
-use Rattle.ddl_read.proofs.{ColumnLaws.names_apart, RestLaws.kept_laws, SequenceLaws.clause_laws, SequenceLaws.clauses_take, SequenceLaws.plain_laws, SequenceLaws.some_clause, SequenceLaws.usual_laws}
-use Rattle.ddl_read.specs.{SequenceGrammar.is_unsaid, SequenceGrammar.kind_branch, SequenceGrammar.more_branches, SequenceGrammar.usual_bound, declared.sequences.Clause.Clause, Clauses.semicolon, AlterGrammar.path_of as its_path}
+use Rattle.ddl_read.proofs.{ColumnLaws.names_apart, RestLaws.begun_by_laws, RestLaws.kept_laws, SequenceLaws.clauses_apart}
+use Rattle.ddl_read.specs.{AlterGrammar.path_of as its_path, Clauses.semicolon, Rests.behind_on, Rests.maybe, Rests.nothing_more, Rests.set_columns, SequenceGrammar.begins_clause}
 use Rattle.ddl_rights.proofs.GrantLaws.{granted_laws, revoked_laws}
 use Rattle.cat_model.specs.declared.stmt.Stmt.TheVariants as stmt
 use Rattle.cat_model.specs.declared.grant.Owned.TheVariants as owned
@@ -17,7 +15,7 @@ use Rattle.cat_model.specs.declared.grant.Owned.TheVariants as owned
 
 columns_are : Headed (is_sign 40) columns
 unfolding columns
-columns_are = headed_sign 40 (lawful_ended 41 (lawful_seen names_of (lawful_next name_laws (many_laws comma more_names names_apart) (λ t. refl))) (signs_apart 41 44 refl))
+columns_are = headed_sign 40 (lawful_ended 41 (lawful_seen names_of (lawful_next name_laws (many_laws names_apart) (λ t. refl))) (signs_apart 41 44 refl))
 
 -- ---- what follows
 
@@ -51,7 +49,7 @@ on_delete_is = headed_word (codes "delete") refl (lawful_seen (λ x. tt) (lawful
 
 behind_on_laws : {p : Part (Unit {0})} → Lawful p → Lawful (behind_on p)
 unfolding rest_goes_on
-behind_on_laws lp = lawful_choose (headed_word (codes "on") refl lp) deferral_laws (deferral_avoids (is_word (codes "on")) (words_apart (codes "deferrable") (codes "on") refl) (λ t e. (or_parts (is_word (codes "on") t) (is_word (codes "deferrable") t || is_sign 40 t) e).0))
+behind_on_laws lp = lawful_choose (headed_word (codes "on") refl lp) deferral_laws (deferral_avoids (is_word (codes "on")) (words_apart (codes "deferrable") (codes "on") refl) (λ t e. grind (arith, or_parts)))
 
 pub reactions_laws : Lawful reactions
 unfolding reactions action
@@ -64,49 +62,6 @@ rests_end t e = rw (sign_no_word 59 (codes "initially") t e, sign_no_word 59 (co
 
 -- ---- an index's brackets
 
--- A part has the laws where the next token passes a test, if it takes a token at least, and some of its spellings begin
--- with each token that passes.
-begun_by_laws : {A : Type 0} (test : Lexeme → Bool) → Agrees test → (p : Part A) → Lawful p → ((v : A) → p.Spells v [] → ⊥) → ((t : Lexeme) → test t ≡ true → (v : A) × (more : List Lexeme) × p.Spells v (t ∷ more)) → (t : Lexeme) → test t ≡ true → Lawful (begun_by test p)
-begun_by_laws {A} test agrees p lp some goes x passes =
-    lawful (λ ts. tells ts (starts test ts) refl) (λ v front rest spells free. chosen (front ++ rest) true (starts-append test front rest spells.0) ∙ lp.only v front rest spells.1 free)
-    (record { value = w.0; tokens = x ∷ w.1; spells = (passes, w.2) })
-  where
-    w : (v : A) × (more : List Lexeme) × p.Spells v (x ∷ more)
-    w = goes x passes
-
-    chosen : (ts : List Lexeme) (b : Bool) → starts test ts ≡ b → (begun_by test p).read ts ≡ choose_at b (p.read ts) (stop ts)
-    chosen ts b e = ap (λ b. choose_at b (p.read ts) (stop ts)) e
-
-    begun : (v : A) (ts front rest : List Lexeme) → starts test ts ≡ true → ts ≡ front ++ rest → p.Spells v front → starts test front ≡ true
-    begun v ts [] rest is parts spells = absurd (some v spells)
-    begun v ts (t ∷ front) rest is parts spells = ap (starts test) (sym parts) ∙ is
-
-    not_both : (r : Reading A) (v : A) (rest : List Lexeme) (s : Stop) → r ≡ Ok (v, rest) → r ≡ Err s → ⊥
-    not_both r v rest s e f = absurd (cc (e, f))
-
-    -- where reading stops something was read before
-    moved : (s : Stop) (ts front : List Lexeme) → starts test ts ≡ true → ts ≡ front ++ s.rest
-        → ((t : Lexeme) (behind : List Lexeme) → s.rest ≡ t ∷ behind → (u : Lexeme) → Like s.long t u → (other : List Lexeme) → p.read (front ++ u ∷ other) ≡ Err (record { long = s.long; rest = u ∷ other })) → starts test front ≡ true
-    moved s [] [] is parts local = absurd cc
-    moved s (t ∷ ts) [] is parts local =
-        let w = goes t is in
-        absurd (not_both (p.read (t ∷ w.1)) w.0 [] (record { long = s.long; rest = t ∷ w.1 }) (ap p.read (sym (append-nil (t ∷ w.1))) ∙ lp.only w.0 (t ∷ w.1) [] w.2 refl) (local t ts (sym parts) t (inl refl) w.1))
-    moved s ts (t ∷ front) is parts local = ap (starts test) (sym parts) ∙ is
-
-    fits : (ts : List Lexeme) (r : Reading A) → starts test ts ≡ true → (f : Tells p ts r) → Fits (begun_by test p).Spells f.front r
-    fits ts (Ok v) e f = (begun v.0 ts f.front v.1 e f.parts f.fits, f.fits)
-    fits ts (Err s) e f = (f.fits.0, f.fits.1, (starts-append test f.front f.fits.1 (moved s ts f.front e f.parts f.local), f.fits.2))
-
-    tells : (ts : List Lexeme) (b : Bool) → starts test ts ≡ b → Tells (begun_by test p) ts (choose_at b (p.read ts) (stop ts))
-    tells ts false e = record { front = []; parts = refl; fits = (w.0, x ∷ w.1, (passes, w.2)); local = λ t behind is u like other. chosen (u ∷ other) false (passes_like test agrees false t u like ∙ ap (starts test) (sym is) ∙ e); named = λ e. absurd cc }
-    tells ts true e = let f = told lp ts (p.read ts) refl in record {
-      front = f.front;
-      parts = f.parts;
-      fits = fits ts (p.read ts) e f;
-      local = λ t behind is u like other. chosen (f.front ++ u ∷ other) true (starts_again test agrees true ts f.front (left_of (p.read ts)) t behind e f.parts is (long_of (p.read ts)) u like other) ∙ f.local t behind is u like other;
-      named = λ l. (let n = f.named l in named_by n n.value n.more (starts_kept test f.front n.token (shortened n.token) n.behind n.more (agrees n.token n.long) ∙ ap (starts test) (sym (f.parts ∙ ap (λ (r : List Lexeme). f.front ++ r) n.is)) ∙ e, n.spells));
-    }
-
 -- what a bracket opens is closed again
 opened : (t : Lexeme) → is_sign 40 t ≡ true → (v : List ℕ) × (more : List Lexeme) × expression.Spells v (t ∷ more)
 unfolding expression is_sign nest_step nest_done ends_run
@@ -115,79 +70,15 @@ opened t e = (source (t ∷ a_sign 41 ∷ []), a_sign 41 ∷ [], ((t ∷ a_sign 
 pub index_body_laws : Lawful index_body
 unfolding index_body bracketed expression nest_done
 index_body_laws =
-    let method = lawful_next name_laws (begun_by_laws (is_sign 40) (sign_agrees 40) expression expression_laws (λ v spells. cc) opened (a_sign 40) (sign_is 40)) (λ t. refl) in
+    let method = lawful_next name_laws (begun_by_laws (is_sign 40) (sign_agrees 40) expression expression_laws (λ v spells. cc) opened (a_sign 40 ∷ []) (sign_is 40)) (λ t. refl) in
     lawful_seen index_made (lawful_next name_laws (lawful_word (codes "on") refl (lawful_next qualified_laws (lawful_word (codes "using") refl method) (λ t. refl))) (λ t. refl))
 
 -- ---- sequences
 
--- a part behind its word, where that stands
-led : {A : Type 0} (key : List ℕ) (p : Part A) → Lawful p → (t : Lexeme) → is_word key t ≡ true → (v : A) × (more : List Lexeme) × (is_word key ▸ p).Spells v (t ∷ more)
-led key p lp t e = let x = lp.example in (x.value, x.tokens, ((tt, x.value), refl, (t ∷ [], x.tokens, refl, (t, refl, ap passes_by e), x.spells)))
-
--- a clause begins with each token with which one may begin
-clause_at : (c : Clauses) (t : Lexeme) → begins_clause c t ≡ true → (v : Clause) × (more : List Lexeme) × (clause_behind c).Spells v (t ∷ more)
-unfolding clause_behind begins_clause
-clause_at c t e = by (is_word (codes "no") t) refl
-  where
-    word : List (Branch Clause) → Bool
-    word [] = false
-    word (b ∷ rest) = is_word b.key t || word rest
-
-    plain : (b : Branch Clause) (rest : List (Branch Clause)) → AllLawful b rest → word (b ∷ rest) ≡ true → (v : Clause) × (more : List Lexeme) × (one_of b rest).Spells v (t ∷ more)
-    plain b [] laws is = led b.key b.part laws t (grind arith)
-    plain b (c ∷ rest) laws is =
-        elim (or_cases (is_word b.key t) (word (c ∷ rest)) is) [ inl e ↦ (let x = led b.key b.part laws.0 t e in (x.0, x.1, inl x.2)) | inr e ↦ (let x = plain c rest laws.1 e in (x.0, x.1, inr x.2)) ]
-
-    by : (b : Bool) → is_word (codes "no") t ≡ b → (v : Clause) × (more : List Lexeme) × (clause_behind c).Spells v (t ∷ more)
-    by true is = let x = led (codes "no") (usual_bound (is_unsaid c.least) (is_unsaid c.greatest)) (usual_laws (is_unsaid c.least) (is_unsaid c.greatest)) t is in (x.0, x.1, inl x.2)
-    by false is = let x = plain kind_branch more_branches plain_laws (grind arith) in (x.0, x.1, inr x.2)
-
-clauses_once : AreOnce (begins_clause no_clauses) clausing
-unfolding begins_clause clause_behind whole_number
-clauses_once = record {
-  laws = λ c. begun_by_laws (begins_clause c) (agrees c) (clause_behind c) (clause_laws c) (some_clause c) (clause_at c);
-  agrees = agrees;
-  begins = λ c v ts spells. spells.0;
-  takes = clauses_take;
-  ends = λ c t. ends (is_unsaid c.least) (is_unsaid c.greatest) t;
-  covers = covers;
-}
-  where
-    agrees : (c : Clauses) → Agrees (begins_clause c)
-    agrees c t long =
-        rw (
-          word_agrees (codes "as") refl t long,
-          word_agrees (codes "start") refl t long,
-          word_agrees (codes "increment") refl t long,
-          word_agrees (codes "no") refl t long,
-          word_agrees (codes "minvalue") refl t long,
-          word_agrees (codes "maxvalue") refl t long,
-          word_agrees (codes "cache") refl t long,
-          word_agrees (codes "cycle") refl t long,
-        ) refl
-
-    other : {x y : Bool} (a w : Bool) → cond w true x ≡ false → (x ≡ false → y ≡ false) → cond w a y ≡ false
-    other a true e later = absurd cc
-    other a false e later = later e
-
-    last : (w x : Bool) → (w && true) ≡ false → (w && x) ≡ false
-    last true x e = absurd cc
-    last false x e = refl
-
-    covers : (c : Clauses) (t : Lexeme) → begins_clause no_clauses t ≡ false → begins_clause c t ≡ false
-    covers c t none =
-        other _ (is_word (codes "as") t) none (λ e. other _ (is_word (codes "start") t) e (λ e. other _ (is_word (codes "increment") t) e (λ e. other _ (is_word (codes "no") t) e (λ e. other _ (is_word (codes "minvalue") t) e
-        (λ e. other _ (is_word (codes "maxvalue") t) e (λ e. other _ (is_word (codes "cache") t) e (last (is_word (codes "cycle") t) (not c.cycle))))))))
-
-    ends : (least greatest : Bool) (t : Lexeme) → ((usual_bound least greatest).goes_on t || (one_of kind_branch more_branches).goes_on t) ≡ false
-    ends true true t = refl
-    ends true false t = refl
-    ends false x t = refl
-
 create_sequence_laws : Lawful create_sequence
 unfolding create_sequence sequence_clauses begins_clause
 create_sequence_laws =
-    let clauses = lawful_seen (with_clauses no_clauses) (once_laws (begins_clause no_clauses) clausing clauses_once) in
+    let clauses = lawful_seen (with_clauses no_clauses) (many_laws clauses_apart) in
     lawful_seen (λ x. sequence_of x.0 x.1) (lawful_next qualified_laws (lawful_ended 59 clauses (λ t e. simp (sign_no_word 59))) (λ t. refl))
 
 -- ---- ALTER TABLE
@@ -329,9 +220,9 @@ created_laws =
     λ t e. attributes_end t (grind arith) (words_apart (codes "constraint") (codes "not") refl t e) (words_apart (codes "constraint") (codes "default") refl t e) (stop_no_type (codes "constraint") refl t e) in
     let index_parts_laws : Lawful index_parts = lawful_ended 59 index_body_laws expression_ends in
     let labels = lawful_ended 59 (lawful_ended 41 (listed_laws is_literal literal_agrees literal literal_laws literal_begins (free comma)) labels_end) (free semicolon) in
-    let checked = lawful_ended 59 (many_laws (is_word (codes "constraint")) checking checks_apart) (sign_no_word 59 (codes "constraint")) in
+    let checked = lawful_ended 59 (many_laws checks_apart) (sign_no_word 59 (codes "constraint")) in
     let base = lawful_then typed_laws checked (checks_avoid attributes.goes_on constraint_no_attributes (sign_end 59 (closing_ends 59 refl) refl refl refl)) in
-    let body = lawful_ended 59 (lawful_ended 41 (lawful_seen parted (many_laws more_elements elements elements_apart)) bracket_no_elements) (free semicolon) in
+    let body = lawful_ended 59 (lawful_ended 41 (lawful_seen parted (many_laws elements_apart)) bracket_no_elements) (free semicolon) in
     let viewed : Lawful view_and_body = lawful_next qualified_laws (lawful_word (codes "as") refl (lawful_ended 59 expression_laws expression_ends)) (λ t. refl) in
     one_of_laws (record { key = codes "schema"; part = create_schema }) (record { key = codes "type"; part = create_enum } ∷ record { key = codes "domain"; part = create_domain }
     ∷ record { key = codes "table"; part = create_table } ∷ record { key = codes "role"; part = create_role } ∷ record { key = codes "database"; part = create_database } ∷ view_branch ∷ more_relations)

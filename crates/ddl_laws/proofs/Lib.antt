@@ -1,6 +1,5 @@
 pub mod Common
 pub mod Computing
-pub mod Once
 pub mod GrammarLaws
 pub mod Paths
 pub mod Relations

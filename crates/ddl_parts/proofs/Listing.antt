@@ -5,7 +5,7 @@ use Rattle.ddl_parts.proofs.{Steps.Agrees, Shorter.sign_agrees, Shorter.name_agr
 -- a comma can't go on with an item, so that items are told apart
 pub listing_apart : {A : Type 0} (first : Lexeme → Bool) → Agrees first → (p : Part A) → Lawful p → Begins first p → Apart comma p.goes_on → AreApart (λ t. first t || (comma t || p.goes_on t)) (listing first p)
 listing_apart first agrees p lp begins apart = record {
-  laws = laws;
+  laws = λ s ts e. laws s;
   agrees = agreeing;
   begins = grind (arith, lead_begins);
   apart = grind arith;
@@ -21,7 +21,7 @@ listing_apart first agrees p lp begins apart = record {
     agreeing false = agrees
 
 pub listed_laws : {A : Type 0} (first : Lexeme → Bool) → Agrees first → (p : Part A) → Lawful p → Begins first p → Apart comma p.goes_on → Lawful (listed first p)
-listed_laws first agrees p lp begins apart = many_laws (λ t. first t || (comma t || p.goes_on t)) (listing first p) (listing_apart first agrees p lp begins apart)
+listed_laws first agrees p lp begins apart = many_laws (listing_apart first agrees p lp begins apart)
 
 -- names with commas between them: a name takes no comma
 pub names_laws : Lawful (listed is_name name)

@@ -2,7 +2,6 @@ pub mod Common
 pub mod Statements
 pub mod TableLaws
 pub mod RestLaws
-pub mod ItemLaws
 pub mod SequenceLaws
 pub mod ColumnLaws
 pub mod ValueLaws

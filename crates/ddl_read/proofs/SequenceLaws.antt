@@ -1,75 +1,88 @@
--- The clauses of a sequence: each has the laws of a part, and those behind a place are read by the clauses before it.
-use Rattle.ddl_read.proofs.Common.{arith, ◌≡◌, ℕ, ◌<◌, ◌-◌, Bool, true, false, List, [], ◌∷◌, ◌++◌, length, codes, Ok, Err, refl, sym, ap, ◌∙◌, Lexeme, is_word, starts, Reading, seen_at, Fails, ReadError, Halted, Memory, drop, Lawful, words_apart, headed_seen, headed_word, lead_begins, lawful_seen, lawful_word, lawful_choose, lawful_either, items_from, Clauses, clause_behind, begins_clause, clausing, with_clause, with_clauses, no_clauses, sequence_clauses}
-use Rattle.ddl_parts.proofs.{Composing.one_word, Composing.◌also◌, Repeated.from_none, Repeated.from_stop, Repeated.with_first, Common.inl, Common.inr, Common.length-append, Common.length-drop, Simple.nothing_laws, Tables.AllLawful, Tables.one_of_avoids, Tables.one_of_laws}
-use Rattle.ddl_parts.specs.{Lexemes.never, Parts.Branch, Parts.Part, Parts.choose_at, Parts.one_of, Parts.stop, Parts.◌▸◌}
+-- The clauses of a sequence are items that can be told apart, and those behind a place are read by the clauses before it.
+use Rattle.ddl_read.proofs.Common.{arith, ◌≡◌, ℕ, ◌<◌, ◌-◌, ◌||◌, Bool, true, false, List, [], ◌∷◌, length, codes, Ok, Err, refl, ap, ◌∙◌, Lexeme, is_word, starts, Reading, seen_at, Fails, ReadError, Halted, Memory, drop, Lawful, words_apart, headed_seen, lead_begins, lawful_seen, lawful_word, lawful_either, AreApart, items_from, fewer as items_fewer, Clauses, clause_behind, begins_clause, clausing, with_clause, with_clauses, no_clauses, sequence_clauses}
+use Rattle.ddl_parts.proofs.{Common.cond, Common.inl, Common.inr, Common.or_cases, Shorter.word_like, Common.IsTooLong, Common.shortened, Composing.one_word, Composing.◌also◌, Repeated.from_none, Repeated.from_read, Repeated.from_stop, Simple.nothing_laws, Simple.passes_by, Tables.AllLawful, Tables.one_of_laws}
+use Rattle.ddl_parts.specs.{Lexemes.never, Parts.Branch, Parts.Part, Parts.one_of, Parts.◌▸◌}
 use Rattle.ddl_numbers.proofs.NumberLaws.{whole_number_laws}
-use Rattle.ddl_read.proofs.ItemLaws.{Takes, one_read}
+use Rattle.ddl_numbers.specs.Numbers.{whole_number}
+use Rattle.ddl_read.proofs.RestLaws.{begun_by_laws}
 use Rattle.ddl_read.specs.{declared.sequences.Bound.TheVariants.Usual, declared.sequences.Bound.TheVariants.Given, declared.sequences.Clause.Clause, SequenceGrammar.kind_branch, SequenceGrammar.more_branches, SequenceGrammar.is_unsaid, SequenceGrammar.usual_bound}
 use Rattle.ddl_read.specs.declared.sequences.Clause.TheVariants.{Kind, Start, Step, Least, Greatest, Cache, Cycle}
 use Rattle.cat_model.specs.declared.constraint.SequenceKind.TheVariants.{SmallInt, Integer}
 
 -- ---- the laws of a clause
 
-pub usual_laws : (least greatest : Bool) → Lawful (usual_bound least greatest)
+usual_laws : (least greatest : Bool) → Lawful (usual_bound least greatest)
 usual_laws true true = lawful_either (headed_seen (λ u. Least Usual) (one_word (codes "minvalue") refl)) (headed_seen (λ u. Greatest Usual) (one_word (codes "maxvalue") refl)) (words_apart (codes "maxvalue") (codes "minvalue") refl)
 usual_laws true false = (headed_seen (λ u. Least Usual) (one_word (codes "minvalue") refl)).laws
 usual_laws false x = (headed_seen (λ u. Greatest Usual) (one_word (codes "maxvalue") refl)).laws
 
-pub plain_laws : AllLawful kind_branch more_branches
-plain_laws =
+abbrev usual_branch : Clauses → Branch Clause
+usual_branch c = record { key = codes "no"; part = usual_bound (is_unsaid c.least) (is_unsaid c.greatest) }
+
+branches_laws : (c : Clauses) → AllLawful (usual_branch c) (kind_branch ∷ more_branches)
+branches_laws c =
     let kind = lawful_either (headed_seen (λ u. Kind SmallInt) (one_word (codes "smallint") refl)) (headed_seen (λ u. Kind Integer) (one_word (codes "integer") refl)) (words_apart (codes "integer") (codes "smallint") refl) in
-    kind also lawful_word (codes "with") refl (lawful_seen Start whole_number_laws) also lawful_word (codes "by") refl (lawful_seen Step whole_number_laws) also lawful_seen (λ n. Least (Given n)) whole_number_laws
-    also lawful_seen (λ n. Greatest (Given n)) whole_number_laws also lawful_seen Cache whole_number_laws also nothing_laws never Cycle
+    usual_laws (is_unsaid c.least) (is_unsaid c.greatest) also kind also lawful_word (codes "with") refl (lawful_seen Start whole_number_laws) also lawful_word (codes "by") refl (lawful_seen Step whole_number_laws)
+    also lawful_seen (λ n. Least (Given n)) whole_number_laws also lawful_seen (λ n. Greatest (Given n)) whole_number_laws also lawful_seen Cache whole_number_laws also nothing_laws never Cycle
 
-pub clause_laws : (c : Clauses) → Lawful (clause_behind c)
-unfolding clause_behind
-clause_laws c =
-    lawful_choose (headed_word (codes "no") refl (usual_laws (is_unsaid c.least) (is_unsaid c.greatest))) (one_of_laws kind_branch more_branches refl plain_laws) (one_of_avoids (codes "no") kind_branch more_branches refl)
+-- the words that branches begin with
+abbrev words : List (Branch Clause) → Lexeme → Bool
+words [] t = false
+words (b ∷ rest) t = is_word b.key t || words rest t
 
--- it has a token
-pub some_clause : (c : Clauses) (v : Clause) → (clause_behind c).Spells v [] → ⊥
-unfolding clause_behind
-some_clause c v spells = elim spells [ inl x ↦ absurd (no_lead (codes "no") (usual_bound (is_unsaid c.least) (is_unsaid c.greatest)) v x) | inr x ↦ absurd (no_branch kind_branch more_branches v x) ]
+some_token : (b : Branch Clause) (rest : List (Branch Clause)) (v : Clause) → (one_of b rest).Spells v [] → ⊥
+some_token b [] v spells = let e : false ≡ true = lead_begins (is_word b.key) b.part v [] spells in absurd cc
+some_token b (c ∷ rest) v spells = elim spells [ inl x ↦ (let e : false ≡ true = lead_begins (is_word b.key) b.part v [] x in absurd cc) | inr x ↦ some_token c rest v x ]
+
+led : (t : Lexeme) (b : Branch Clause) → Lawful b.part → is_word b.key t ≡ true → (v : Clause) × (more : List Lexeme) × (is_word b.key ▸ b.part).Spells v (t ∷ more)
+led t b lp e = let x = lp.example in (x.value, x.tokens, ((tt, x.value), refl, (t ∷ [], x.tokens, refl, (t, refl, ap passes_by e), x.spells)))
+
+one_led : (t : Lexeme) (b : Branch Clause) (rest : List (Branch Clause)) → AllLawful b rest → words (b ∷ rest) t ≡ true → (v : Clause) × (more : List Lexeme) × (one_of b rest).Spells v (t ∷ more)
+one_led t b [] laws is = led t b laws (grind arith)
+one_led t b (c ∷ rest) laws is = elim (or_cases (is_word b.key t) (words (c ∷ rest) t) is) [ inl e ↦ (let x = led t b laws.0 e in (x.0, x.1, inl x.2)) | inr e ↦ (let x = one_led t c rest laws.1 e in (x.0, x.1, inr x.2)) ]
+
+pub clauses_apart : AreApart (begins_clause no_clauses) clausing
+unfolding begins_clause clause_behind whole_number
+clauses_apart = record {
+  laws = λ c.
+      let goes : (t : Lexeme) → begins_clause c t ≡ true → words (usual_branch c ∷ kind_branch ∷ more_branches) t ≡ true = λ t e. grind arith in
+      let b = usual_branch c in
+      begun_by_laws (begins_clause c) (agrees c) (clause_behind c) (one_of_laws b (kind_branch ∷ more_branches) refl (branches_laws c)) (some_token b (kind_branch ∷ more_branches)) (λ t e. one_led t b (kind_branch ∷ more_branches) (branches_laws c) (goes t e));
+  agrees = agrees;
+  begins = λ c v ts spells. spells.0;
+  apart = λ c v t e. ends (is_unsaid c.least) (is_unsaid c.greatest) t;
+  covers = λ c t e. (covers c t e, ends (is_unsaid c.least) (is_unsaid c.greatest) t);
+}
   where
-    no_lead : (key : List ℕ) (p : Part Clause) (v : Clause) → (is_word key ▸ p).Spells v [] → ⊥
-    no_lead key p v spells = let e : false ≡ true = lead_begins (is_word key) p v [] spells in absurd cc
+    agrees : (c : Clauses) (t : Lexeme) → IsTooLong t → begins_clause c (shortened t) ≡ begins_clause c t
+    agrees c t long = simp (word_like t long)
 
-    no_branch : (b : Branch Clause) (rest : List (Branch Clause)) (v : Clause) → (one_of b rest).Spells v [] → ⊥
-    no_branch b [] v spells = no_lead b.key b.part v spells
-    no_branch b (c ∷ rest) v spells = elim spells [ inl x ↦ no_lead b.key b.part v x | inr x ↦ no_branch c rest v x ]
+    other : (word : List ℕ) (t : Lexeme) (a : Bool) {x y : Bool} → cond (is_word word t) true x ≡ false → (x ≡ false → y ≡ false) → cond (is_word word t) a y ≡ false
+    other word t a e later = grind arith
+
+    covers : (c : Clauses) (t : Lexeme) → begins_clause no_clauses t ≡ false → begins_clause c t ≡ false
+    covers c t none = other (codes "as") t _ none (λ e. other (codes "start") t _ e (λ e. other (codes "increment") t _ e (λ e. other (codes "no") t _ e (λ e. other (codes "minvalue") t _ e (λ e. other (codes "maxvalue") t _ e (λ e. other (codes "cache") t _ e (λ e. grind arith)))))))
+
+    ends : (least greatest : Bool) (t : Lexeme) → ((usual_bound least greatest).goes_on t || (one_of kind_branch more_branches).goes_on t) ≡ false
+    ends true true t = refl
+    ends true false t = refl
+    ends false x t = refl
 
 -- ---- clause by clause
 
 -- where a clause begins, it is read
-pub begun : (c : Clauses) (ts : List Lexeme) (r : Reading Clause) → starts (begins_clause c) ts ≡ true → (clause_behind c).read ts ≡ r → (clausing.item c).read ts ≡ r
-begun c ts r begins e = ap (λ b. choose_at b ((clause_behind c).read ts) (stop ts)) begins ∙ e
-
-pub clauses_take : Takes clausing
-clauses_take c ts v rest begins e =
-    let f = (clause_laws c).found ts v rest (sym (begun c ts ((clause_behind c).read ts) begins refl) ∙ e) in
-    by f.front f.parts f.spells
-  where
-    by : (front : List Lexeme) → ts ≡ front ++ rest → (clause_behind c).Spells v front → length rest < length ts
-    by [] parts spells = absurd (some_clause c v spells)
-    by (t ∷ front) parts spells = omega (arith, (ap (λ (x : List Lexeme). length x) parts ∙ length-append (t ∷ front) rest))
+begun : (c : Clauses) (ts : List Lexeme) (r : Reading Clause) → starts (begins_clause c) ts ≡ true → (clause_behind c).read ts ≡ r → (clausing.item c).read ts ≡ r
+begun c ts r begins e = rw begins e
 
 -- the clauses behind a place, by those before it
 abbrev pub left : Clauses → List Lexeme → Reading Clauses
 left c ts = seen_at (with_clauses c) (items_from clausing c ts)
 
-pub whole : (ts : List Lexeme) → sequence_clauses.read ts ≡ left no_clauses ts
-unfolding sequence_clauses
-whole ts = refl
-
 pub goes : (c : Clauses) (ts rest : List Lexeme) (v : Clause) → starts (begins_clause c) ts ≡ true → (clause_behind c).read ts ≡ Ok (v, rest) → left c ts ≡ left (with_clause c v) rest
-goes c ts rest v begins e = ap (seen_at (with_clauses c)) (one_read clausing clauses_take c ts (Ok (v, rest)) begins (begun c ts (Ok (v, rest)) begins e)) ∙ by (items_from clausing (with_clause c v) rest)
-  where
-    by : (r : Reading (List Clause)) → seen_at (with_clauses c) (with_first v r) ≡ seen_at (with_clauses (with_clause c v)) r
-    by (Ok x) = refl
-    by (Err s) = refl
+goes c ts rest v begins e = ap (seen_at (with_clauses c)) (from_read clauses_apart c ts (Ok (v, rest)) begins (begun c ts (Ok (v, rest)) begins e)) ∙ (grind arith)
 
 pub fewer : (c : Clauses) (ts : List Lexeme) (at next : ℕ) (v : Clause) → starts (begins_clause c) (drop at ts) ≡ true → (clause_behind c).read (drop at ts) ≡ Ok (v, drop next ts) → length ts - next < length ts - at
-fewer c ts at next v begins e = omega (arith, clauses_take c (drop at ts) v (drop next ts) begins (begun c (drop at ts) (Ok (v, drop next ts)) begins e), length-drop at ts, length-drop next ts)
+fewer c ts at next v begins e = items_fewer clauses_apart (λ v. v) ts c at (v, next) begins (begun c (drop at ts) (Ok (v, drop next ts)) begins e)
 
 -- no clause begins
 pub stops : (c : Clauses) (ts : List Lexeme) → starts (begins_clause c) ts ≡ false → left c ts ≡ Ok (c, ts)

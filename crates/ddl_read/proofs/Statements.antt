@@ -15,24 +15,14 @@ pub record IsLeft (whole : Result (List Located) DdlFault) (text : List ℕ) (so
   pub enough : length text - at < fuel
   pub same : whole ≡ behind so_far (statements_within fuel text at)
 
--- how they go on, by the line that stands next
-abbrev turn : ℕ → List ℕ → List Located → ℕ → Option Token → Result (List Located) DdlFault
-turn n text so_far at line = behind so_far (statements_at (statements_within n text) text at line)
-
-opened : (whole : Result (List Located) DdlFault) (text : List ℕ) (so_far : List Located) (at : ℕ) → IsLeft whole text so_far at → (n : ℕ) × (length text - at < suc n) × (whole ≡ turn n text so_far at (line_at text at))
+opened : {whole : Result (List Located) DdlFault} {text : List ℕ} {so_far : List Located} {at : ℕ} → IsLeft whole text so_far at → (n : ℕ) × (length text - at < suc n) × (whole ≡ behind so_far (statements_at (statements_within n text) text at (line_at text at)))
 unfolding statements_within
-opened whole text so_far at left = let k = some_left left.fuel (omega (arith, left.enough)) in (k.0, omega (arith, left.enough, k.1), left.same ∙ ap (λ n. behind so_far (statements_within n text at)) k.1)
+opened {text = text} {so_far = so_far} {at = at} left =
+    let k = some_left left.fuel (omega (arith, left.enough)) in (k.0, omega (arith, left.enough, k.1), left.same ∙ ap (λ n. behind so_far (statements_within n text at)) k.1)
 
 pub all_left : (text : List ℕ) → IsLeft (statements_of text) text [] 0
 unfolding statements_of
 all_left text = grind arith
-
--- how statements go on, by the place of the first token and what is collected
-abbrev by_start : ℕ → List ℕ → List Located → Collected → Option ℕ → Result (List Located) DdlFault
-by_start n text so_far c start = behind so_far (statements_by (statements_within n text) text c start)
-
-abbrev collecting : ℕ → List ℕ → List Located → Collected → Result (List Located) DdlFault
-collecting n text so_far c = by_start n text so_far c (first_start c.pieces)
 
 -- no line with a backslash stands next, and these tokens are collected
 pub record IsNext (text : List ℕ) (at : ℕ) (c : Collected) (start : Option ℕ) : Type 0 where
@@ -40,21 +30,16 @@ pub record IsNext (text : List ℕ) (at : ℕ) (c : Collected) (start : Option �
   pub tokens : collected text at ≡ c
   pub first : first_start c.pieces ≡ start
 
-begun : (whole : Result (List Located) DdlFault) (text : List ℕ) (so_far : List Located) (at : ℕ) (c : Collected) (start : Option ℕ) → IsLeft whole text so_far at → IsNext text at c start → (n : ℕ) × (length text - at < suc n) × (whole ≡ by_start n text so_far c start)
-begun whole text so_far at c start left next =
-    let o = opened whole text so_far at left in
-    (o.0, o.1, o.2 ∙ ap (turn o.0 text so_far at) next.no_line ∙ ap (collecting o.0 text so_far) next.tokens ∙ ap (by_start o.0 text so_far c) next.first)
+begun : {whole : Result (List Located) DdlFault} {text : List ℕ} {so_far : List Located} {at : ℕ} {c : Collected} {start : Option ℕ} → IsLeft whole text so_far at → IsNext text at c start → (n : ℕ) × (length text - at < suc n) × (whole ≡ behind so_far (statements_by (statements_within n text) text c start))
+begun left next = let o = opened left in (o.0, o.1, o.2 ∙ (rw (next.no_line, next.tokens, next.first) refl))
 
 pub at_end : (whole : Result (List Located) DdlFault) (text : List ℕ) (so_far : List Located) (at : ℕ) (c : Collected) → IsLeft whole text so_far at → IsNext text at c None → no_more c.fault ≡ Ok [] → whole ≡ Ok so_far
-at_end whole text so_far at c left next done = (begun whole text so_far at c None left next).2 ∙ (grind (arith, append-nil))
+at_end whole text so_far at c left next done = (begun left next).2 ∙ (grind (arith, append-nil))
 
 pub at_fault : (whole : Result (List Located) DdlFault) (text : List ℕ) (so_far : List Located) (at : ℕ) (c : Collected) (error : ReadStmtsError) → IsLeft whole text so_far at → IsNext text at c None → Fails error (no_more c.fault) → Fails error whole
-at_fault whole text so_far at c error left next failed = rw (begun whole text so_far at c None left next).2 (grind arith)
+at_fault whole text so_far at c error left next failed = rw (begun left next).2 (grind arith)
 
 -- ---- statements
-
-abbrev said : ℕ → List ℕ → List Located → ℕ → Result Whole DdlFault → Result (List Located) DdlFault
-said n text so_far start read = behind so_far (read >>= λ w. statements_within n text w.end >>= λ more. Ok (listed w.stmt start w.end more))
 
 abbrev pub parsed : List ℕ → Collected → Result Whole DdlFault
 parsed text c = whole_of text c.end (statement_of (length text) (lexemes text c.pieces) c.fault)
@@ -62,30 +47,27 @@ parsed text c = whole_of text c.end (statement_of (length text) (lexemes text c.
 pub at_statement : (answer : Result (List Located) DdlFault) (text : List ℕ) (so_far : List Located) (at : ℕ) (c : Collected) (start : ℕ) (s : Option Stmt) (end : ℕ) → IsLeft answer text so_far at → IsNext text at c (Some start) → parsed text c ≡ Ok (whole s end) → at < end → end ≤ length text
     → IsLeft answer text (so_far ++ listed s start end []) end
 at_statement answer text so_far at c start s end left next read past high =
-    let o = begun answer text so_far at c (Some start) left next in
-    record { fuel = o.0; enough = omega (arith, o.1); same = o.2 ∙ ap (said o.0 text so_far start) read ∙ (grind (arith, append-nil, append_assoc)) }
+    let o = begun left next in
+    record { fuel = o.0; enough = omega (arith, o.1); same = o.2 ∙ (rw read (grind (arith, append-nil, append_assoc))) }
 
 pub at_bad_statement : (answer : Result (List Located) DdlFault) (text : List ℕ) (so_far : List Located) (at : ℕ) (c : Collected) (start : ℕ) (error : ReadStmtsError) → IsLeft answer text so_far at → IsNext text at c (Some start) → Fails error (parsed text c) → Fails error answer
 at_bad_statement answer text so_far at c start errors.Memory left next failed = tt
-at_bad_statement answer text so_far at c start (errors.Fault fault) left next failed = (begun answer text so_far at c (Some start) left next).2 ∙ ap (said (begun answer text so_far at c (Some start) left next).0 text so_far start) failed
+at_bad_statement answer text so_far at c start (errors.Fault fault) left next failed = (begun left next).2 ∙ (rw failed refl)
 
 -- ---- lines with a backslash
 
 abbrev pub line_parsed : List ℕ → Token → Result (Option Stmt) DdlFault
 line_parsed text t = line_said t.start (meta_line (spelling text t))
 
-abbrev said_line : ℕ → List ℕ → List Located → Token → Result (Option Stmt) DdlFault → Result (List Located) DdlFault
-said_line n text so_far t read = behind so_far (read >>= λ s. statements_within n text t.end >>= λ more. Ok (listed s t.start t.end more))
-
 pub at_line : (answer : Result (List Located) DdlFault) (text : List ℕ) (so_far : List Located) (at : ℕ) (t : Token) (s : Option Stmt) → IsLeft answer text so_far at → line_at text at ≡ Some t → line_parsed text t ≡ Ok s → at < t.end → t.end ≤ length text
     → IsLeft answer text (so_far ++ listed s t.start t.end []) t.end
 at_line answer text so_far at t s left line read past high =
-    let o = opened answer text so_far at left in
-    record { fuel = o.0; enough = omega (arith, o.1); same = o.2 ∙ ap (turn o.0 text so_far at) line ∙ ap (said_line o.0 text so_far t) read ∙ (grind (arith, append-nil, append_assoc)) }
+    let o = opened left in
+    record { fuel = o.0; enough = omega (arith, o.1); same = o.2 ∙ (rw (line, read) (grind (arith, append-nil, append_assoc))) }
 
 pub at_bad_line : (answer : Result (List Located) DdlFault) (text : List ℕ) (so_far : List Located) (at : ℕ) (t : Token) (error : ReadStmtsError) → IsLeft answer text so_far at → line_at text at ≡ Some t → Fails error (line_parsed text t) → Fails error answer
 at_bad_line answer text so_far at t errors.Memory left line failed = tt
-at_bad_line answer text so_far at t (errors.Fault fault) left line failed = let o = opened answer text so_far at left in o.2 ∙ ap (turn o.0 text so_far at) line ∙ ap (said_line o.0 text so_far t) failed
+at_bad_line answer text so_far at t (errors.Fault fault) left line failed = (opened left).2 ∙ (rw (line, failed) refl)
 
 -- ---- a token that begins no statement
 

@@ -23,22 +23,19 @@ null_first_is : Headed (is_word (codes "not")) null_first
 unfolding null_first
 null_first_is = headed_seen not_null (headed_word (codes "not") refl (lawful_word (codes "null") refl (lawful_optional (headed_word (codes "default") refl default_text_laws))))
 
-no_not : (t : Lexeme) → more_attributes t ≡ false → is_word (codes "not") t ≡ false
-no_not t e = (or_parts (is_word (codes "not") t) (is_word (codes "default") t || type_goes_on t) e).0
-
-no_default : (t : Lexeme) → more_attributes t ≡ false → is_word (codes "default") t ≡ false
-no_default t e = let h = or_parts (is_word (codes "not") t) (is_word (codes "default") t || type_goes_on t) e in (or_parts (is_word (codes "default") t) (type_goes_on t) h.1).0
-
-no_type : (t : Lexeme) → more_attributes t ≡ false → type_goes_on t ≡ false
-no_type t e = let h = or_parts (is_word (codes "not") t) (is_word (codes "default") t || type_goes_on t) e in (or_parts (is_word (codes "default") t) (type_goes_on t) h.1).1
+no_more : (t : Lexeme) → more_attributes t ≡ false → (is_word (codes "not") t ≡ false) × (is_word (codes "default") t ≡ false) × (type_goes_on t ≡ false)
+no_more t e = grind (arith, or_parts)
 
 attributes_laws : Lawful attributes
 unfolding attributes default_first
-attributes_laws = search (lawful_choose, null_first_is, lawful_maybe, no_default, avoids_maybe, words_apart, no_not, arith, headed_seen, headed_word, default_and_null_laws)
+attributes_laws =
+    let no_not : (t : Lexeme) → more_attributes t ≡ false → is_word (codes "not") t ≡ false = λ t e. (no_more t e).0 in
+    let no_default : (t : Lexeme) → more_attributes t ≡ false → is_word (codes "default") t ≡ false = λ t e. (no_more t e).1 in
+    search (lawful_choose, null_first_is, lawful_maybe, no_default, avoids_maybe, words_apart, no_not, arith, headed_seen, headed_word, default_and_null_laws)
 
 attributes_no_type : Avoids type_goes_on attributes
 unfolding attributes default_first
-attributes_no_type = grind (arith, choose_avoids, avoids_headed, null_first_is, stop_no_type, avoids_maybe, no_type, headed_seen, headed_word, default_and_null_laws)
+attributes_no_type = grind (arith, choose_avoids, avoids_headed, null_first_is, stop_no_type, avoids_maybe, no_more, headed_seen, headed_word, default_and_null_laws)
 
 pub typed_laws : Lawful typed
 unfolding typed type_part
@@ -99,9 +96,9 @@ comma_no_element t e = let comma_no_attributes : Apart comma attributes.goes_on 
 pub elements_apart : AreApart more_elements elements
 unfolding last_element
 elements_apart = record {
-  laws = laws;
+  laws = λ s ts e. laws s;
   agrees = agrees;
-  begins = begins;
+  begins = grind (arith, element_begins_name, lead_begins);
   apart = grind (arith, comma_no_element, named_check_free);
   covers = grind (arith, or_parts, named_check_free);
 }
@@ -114,6 +111,3 @@ elements_apart = record {
     agrees : (s : Spot) → Agrees (element_begins s)
     agrees Opening = name_agrees
     agrees x = sign_agrees 44
-
-    begins : (s : Spot) → Begins (element_begins s) (element_at s)
-    begins s = grind (arith, element_begins_name, lead_begins)

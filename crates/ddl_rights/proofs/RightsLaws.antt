@@ -127,7 +127,7 @@ pub rights_and_object_laws : (w : Wanted) → CanBeOn w → Lawful (rights_and_o
 unfolding rights_and_object rights_from
 rights_and_object_laws All can = on_object_laws All tt
 rights_and_object_laws (These r) can =
-    let rights_from_laws : (r : Rights) → Lawful (rights_from r) = λ r. seen_laws (all_of r) (many comma (more_rights r)) (many_laws comma (more_rights r) (rights_apart r)) in
+    let rights_from_laws : (r : Rights) → Lawful (rights_from r) = λ r. seen_laws (all_of r) (many comma (more_rights r)) (many_laws (rights_apart r)) in
     thenby_laws (rights_from r) (λ s. on_object (These s)) (rights_from_laws r) (decided r can)
   where
     decided : (r : Rights) → some_kind_has r ≡ true → Decided (rights_from r) (λ s. on_object (These s))

@@ -1,4 +1,4 @@
-use Rattle.ddl_admin.proofs.Common.{◌≡◌, true, false, drop, sym, ◌∙◌, err_from_is_err_and, starts, fewer, is_option, furthering, furthers}
+use Rattle.ddl_admin.proofs.Common.{◌≡◌, true, false, drop, sym, ◌∙◌, err_from_is_err_and, starts, fewer, is_option, furthers}
 use Rattle.ddl_admin.proofs.Further.{furthers_apart, goes_by, ends_at, fails_by}
 use Rattle.ddl_admin.proofs.databases.furthers.Goals as goal
 
@@ -16,7 +16,8 @@ returns-in_err-at c =
     rw (p.1, p.2) (fails_by (furthers.read (drop c.args.from ts)) ts c.options.at _ c.options.invariant begins c.in_err-at.ensures)
 
 pub options-smaller : goal.options-smaller
-options-smaller c = fewer is_option furthering furthers_apart (λ (x : Unit {0}). x) c.args.pieces.now tt c.options.at (tt, c.in_ok-at.at) c.in_ok-at.ensures
+options-smaller c =
+    fewer furthers_apart (λ (x : Unit {0}). x) c.args.pieces.now tt c.options.at (tt, c.in_ok-at.at) (sym c.in_ok-named.ensures ∙ c.if-not-named.false) c.in_ok-at.ensures
 
 pub options-preserved : goal.options-preserved
 options-preserved c =

@@ -1,4 +1,4 @@
-use Rattle.ddl_rights.proofs.Common.{◌≡◌, List, [], ◌∷◌, ◌++◌, drop, true, false, Ok, refl, sym, ap, ◌∙◌, err_from_is_err_and, Rights, Lexeme, starts, comma, seen_at, many, Fails, ReadError, Halted, Memory, items_from, all_left, none_more, no_item, one_more, fewer, Right, with_right, more_rights, all_of, rights_from}
+use Rattle.ddl_rights.proofs.Common.{◌≡◌, List, [], ◌∷◌, ◌++◌, drop, true, Ok, refl, sym, ap, ◌∙◌, err_from_is_err_and, Rights, Lexeme, starts, comma, seen_at, many, Fails, ReadError, Halted, Memory, all_left, none_more, no_item, one_more, fewer, Right, with_right, more_rights, all_of, rights_from}
 use Rattle.ddl_rights.proofs.RightsLaws.{rights_apart}
 use Rattle.ddl_rights.proofs.rights.rights_from.Goals as goal
 
@@ -20,32 +20,22 @@ rights-init c = ([], all_left (more_rights c.args.first) c.args.pieces.now c.arg
 
 pub returns-then-not-is_sign : goal.returns-then-not-is_sign
 returns-then-not-is_sign c =
-    let ts = c.args.pieces.now in
-    let r = c.args.first in
     let i = c.rights.invariant in
-    let none : starts comma (drop c.rights.at ts) ≡ false = cc in
-    total_ok r c.rights.rights (drop c.args.from ts) (drop c.rights.at ts) i.0
-    (none_more (more_rights r) (items_from (more_rights r) r (drop c.args.from ts)) ts i.0 c.rights.rights c.rights.at i.1 none) i.2
+    total_ok c.args.first c.rights.rights (drop c.args.from c.args.pieces.now) (drop c.rights.at c.args.pieces.now) i.0 (none_more i.1 cc) i.2
 
 pub returns-in_err-right : goal.returns-in_err-right
 returns-in_err-right c =
     let ts = c.args.pieces.now in
-    let r = c.args.first in
-    let i = c.rights.invariant in
     let p = err_from_is_err_and c.from_residual.result c.from_residual.ensures.1 in
-    let begins : starts comma (drop c.rights.at ts) ≡ true = cc in
-    rw (p.1, p.2) (total_fails r ts (drop c.args.from ts) _ (no_item (more_rights r) (items_from (more_rights r) r (drop c.args.from ts)) ts i.0 c.rights.rights c.rights.at _ i.1 begins c.in_err-right.ensures))
+    rw (p.1, p.2) (total_fails c.args.first ts (drop c.args.from ts) _ (no_item c.rights.invariant.1 _ (cc) c.in_err-right.ensures))
 
 pub rights-smaller : goal.rights-smaller
-rights-smaller c =
-    fewer comma (more_rights c.args.first) (rights_apart c.args.first) (λ x. x) c.args.pieces.now c.rights.rights c.rights.at (c.in_ok-right.right, c.in_ok-right.next) c.in_ok-right.ensures
+rights-smaller c = fewer (rights_apart c.args.first) (λ x. x) c.args.pieces.now c.rights.rights c.rights.at (c.in_ok-right.right, c.in_ok-right.next) (cc) c.in_ok-right.ensures
 
 pub rights-preserved : goal.rights-preserved
 rights-preserved c =
-    let ts = c.args.pieces.now in
     let r = c.args.first in
     let i = c.rights.invariant in
     let x = c.in_ok-right.right in
-    let begins : starts comma (drop c.rights.at ts) ≡ true = cc in
-    let left = one_more comma (more_rights r) (rights_apart r) (λ x. x) (items_from (more_rights r) r (drop c.args.from ts)) ts i.0 c.rights.rights c.rights.at (x, c.in_ok-right.next) i.1 begins c.in_ok-right.ensures in
+    let left = one_more i.1 (rights_apart r) (λ x. x) (x, c.in_ok-right.next) (cc) c.in_ok-right.ensures in
     (i.0 ++ x ∷ [], rw c.with_right-rights.ensures left, c.with_right-rights.ensures ∙ ap (with_right x) i.2 ∙ sym (all-append r i.0 x))
