@@ -6,14 +6,6 @@ use Rattle.ddl_forms.proofs.{Closing.only_last, Standing.is_safe, Standing.Stand
 
 -- ---- machines
 
--- A machine that takes no semicolon and no line that begins with a backslash, that looks at kinds and words alone, and
--- that takes a token at least.
-pub record IsPlainMachine (m : Machine) : Type 0 where
-  pub ends : (s x : m.State) (t : Lexeme) → m.step s t ≡ Some x → semicolon t ≡ false
-  pub line : (s x : m.State) (t : Lexeme) → m.step s t ≡ Some x → t.kind ≡ MetaLine → ⊥
-  pub same : (s : m.State) (gap : List ℕ) (start : ℕ) (t : Lexeme) → m.step s (record { gap = gap; kind = t.kind; word = t.word; start = start }) ≡ m.step s t
-  pub begins : m.done m.start ≡ false
-
 pub not_some : {A : Type 0} (x : A) (o : Option A) → o ≡ Some x → o ≡ None → ⊥
 not_some x o e f = absurd (cc (e, f))
 
@@ -43,8 +35,11 @@ goes_plain step goes x t e = record { ends = ends (is_sign_kind 59 t.kind) refl;
 pub same_step : {S : Type 0} (step : Lexeme → Option S) → ((gap : List ℕ) (start : ℕ) (t : Lexeme) → step (record { gap = gap; kind = t.kind; word = t.word; start = start }) ≡ step t) → (t u : Lexeme) → u.kind ≡ t.kind → u.word ≡ t.word → step u ≡ step t
 same_step step same t u kind word = ap (λ (k : TokenKind). step (record { gap = u.gap; kind = k; word = u.word; start = u.start })) kind ∙ ap (λ (w : List ℕ). step (record { gap = u.gap; kind = t.kind; word = w; start = u.start })) word ∙ same u.gap u.start t
 
-pub plain_by : (m : Machine) → ((s : m.State) → GoesByWords (m.step s)) → m.done m.start ≡ false → IsPlainMachine m
-plain_by m goes begins = record { ends = λ s x t e. (goes_plain (m.step s) (goes s) x t e).ends; line = λ s x t e. (goes_plain (m.step s) (goes s) x t e).line; same = λ s. (goes s).0; begins = begins }
+-- A machine that takes no semicolon and no line that begins with a backslash, that looks at kinds and words alone, and
+-- that takes a token at least.
+pub record IsPlainMachine (m : Machine) : Type 0 where
+  pub goes : (s : m.State) → GoesByWords (m.step s)
+  pub begins : m.done m.start ≡ false
 
 pub run-append : (m : Machine) (s : Option m.State) (a b : List Lexeme) → run m s (a ++ b) ≡ run m (run m s a) b
 run-append m s [] b = refl
@@ -56,7 +51,7 @@ are_plain m h s last (t ∷ ts) e = by (m.step s t) refl (λ x f. are_plain m h 
   where
     by : (next : Option m.State) → m.step s t ≡ next → ((x : m.State) → run m (Some x) ts ≡ Some last → AllPlain ts) → run m next ts ≡ Some last → AllPlain (t ∷ ts)
     by None is later f = absurd (not_some last (run m None ts) f (run_none m ts))
-    by (Some x) is later f = (record { ends = h.ends s x t is; line = h.line s x t is }, later x f)
+    by (Some x) is later f = (goes_plain (m.step s) (h.goes s) x t is, later x f)
 
 pub last_more : (test : Lexeme → Bool) (t : Lexeme) (us : List Lexeme) → test t ≡ false → only_last test us ≡ true → only_last test (t ∷ us) ≡ true
 last_more test t us e last = grind arith
@@ -108,7 +103,10 @@ run_same m h s [] [] e = refl
 run_same m h s [] (u ∷ us) e = absurd cc
 run_same m h s (t ∷ ts) [] e = absurd cc
 run_same m h None (t ∷ ts) (u ∷ us) e = run_same m h None ts us (one_said t u ts us e).2
-run_same m h (Some x) (t ∷ ts) (u ∷ us) e = let w = one_said t u ts us e in ap (λ o. run m o us) (same_step (m.step x) (h.same x) t u w.0 w.1) ∙ run_same m h (m.step x t) ts us w.2
+run_same m h (Some x) (t ∷ ts) (u ∷ us) e = let w = one_said t u ts us e in ap (λ o. run m o us) (same_step (m.step x) (h.goes x).0 t u w.0 w.1) ∙ run_same m h (m.step x t) ts us w.2
+
+pub run_placed : (m : Machine) → IsPlainMachine m → (s : Option m.State) (at : ℕ) (ts : List Lexeme) → run m s (placed at ts) ≡ run m s ts
+run_placed m h s at ts = run_same m h s ts (placed at ts) (words_placed at ts)
 
 -- tokens that have something are plain, and others that say the same have it too
 pub record IsPlain (Run : List Lexeme → Type 0) : Type 0 where

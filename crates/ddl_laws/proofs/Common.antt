@@ -4,7 +4,7 @@ unfoldable pub use Rattle.ddl_parts.proofs.Lemmas.{begins_line, begins_word, beg
 pub use Rattle.ddl_write.specs.{Keys.rest_text, Paths.joined, Paths.only_if, RightsText.granted_name, RightsText.granted_words, RightsText.grantee_text, RightsText.is_all, RightsText.remark_text, Roles.flag_text, Roles.given_literal, Roles.limit_text, Sequences.max_text, Sequences.min_text, Sequences.type_words, Tables.given_default, Tables.table_lines}
 unfoldable pub use Rattle.ddl_write.specs.{Keys.added_check_text, Keys.foreign_text, Keys.index_text, Keys.key_text, Paths.path, RightsText.comment_text, RightsText.grant_text, RightsText.revoke_text, RightsText.right_list, RightsText.rights_text, RightsText.with_commas, Roles.changes_text, Roles.connect_text, Roles.database_text, Roles.member_text, Roles.role_text, Sequences.bound, Sequences.owned_by_text, Sequences.sequence_text, Sequences.usual_max, Sequences.usual_min, Sequences.value_text, Spelling.domain_check_text, Spelling.owned_object, Spelling.owner_text, Spelling.schema_text, Spelling.set_text, Spelling.setting_text, Tables.check_text, Tables.column_text, Tables.domain_text, Tables.enum_text, Tables.table_text, Views.space_before, Views.view_text}
 pub use Rattle.ddl_admin.specs.{Databases.utf8_in, Roles.changes_by}
-pub use Rattle.ddl_forms.proofs.{Behind.Anything, Behind.Behind, Behind.End, Behind.Opens, Behind.Safe, Behind.Words, Behind.admits, Behind.admitted, Behind.covers, Behind.looser, Behind.then_opens, Behind.through, Closing.Closes, Closing.ends_append, Closing.ends_with, Closing.nothing_left, Closing.only_last, Expressions.nested_plain, Kept.AllCame, Kept.came_behind, Kept.came_front, Kept.came_token, Kept.collected_has, Kept.have_come, Numbers.IsBelow, Numbers.count_below, Numbers.number_as, Numbers.opposite_is, Numbers.positive_is, Putting.Follows, Putting.IsPut, Putting.Yields, Putting.followed, Putting.joined-append, Putting.none_put, Putting.nothing_follows, Putting.one_put, Putting.put_as, Putting.same_text, Putting.then_put, RunTexts.GoesByWords, RunTexts.kinds, RunTexts.plain_by, RunTexts.run_read, RunTexts.sign_kind, Standing.NoSemicolon, Standing.Stood, Standing.collects, Standing.collects_all, Standing.is_safe_byte, Standing.placed, Tokens.Gap, Tokens.a_name, Tokens.gap_stands, Tokens.indent, Tokens.indented, Tokens.name_means, Tokens.name_no_sign, Tokens.name_token, Tokens.newline, Tokens.no_key, Tokens.none, Tokens.passed, Tokens.sign_token, Tokens.space, Tokens.spaced, Tokens.tabbed, Tokens.value_name, Written.AllFit, Written.Kinds, Written.OptionFit, Written.Says, Written.Written, Written.after_as, Written.alike_as, Written.also_as, Written.bare_word, Written.choose_as, Written.close_as, Written.closing_as, Written.comma_as, Written.dot_as, Written.either_pieces, Written.end_as, Written.ending, Written.equals_as, Written.fit_as, Written.follows_on, Written.given_or, Written.heard_as, Written.is_as, Written.items_pieces, Written.kind_as, Written.lead_as, Written.leaf_as, Written.led_as, Written.like_as, Written.literal_as, Written.literal_said, Written.lone_as, Written.many_as, Written.mark_as, Written.maybe_as, Written.meets, Written.name_as, Written.name_said, Written.not_closed, Written.nothing_as, Written.opening_as, Written.or_as, Written.or_given, Written.path_as, Written.path_same, Written.pieces_as, Written.run_as, Written.run_put, Written.seen_as, Written.shown_as, Written.then_as, Written.then_puts, Written.wider_as, Written.word_as, Written.word_said, Written.word_then}
+pub use Rattle.ddl_forms.proofs.{Behind.Anything, Behind.Behind, Behind.End, Behind.Opens, Behind.Safe, Behind.Words, Behind.admits, Behind.admitted, Behind.covers, Behind.looser, Behind.then_opens, Behind.through, Closing.Closes, Closing.ends_append, Closing.ends_with, Closing.nothing_left, Closing.only_last, Expressions.nested_plain, Kept.AllCame, Kept.came_behind, Kept.came_front, Kept.came_token, Kept.collected_has, Kept.have_come, Numbers.IsBelow, Numbers.count_below, Numbers.number_as, Numbers.opposite_is, Numbers.positive_is, Putting.Follows, Putting.IsPut, Putting.Yields, Putting.followed, Putting.joined-append, Putting.none_put, Putting.nothing_follows, Putting.one_put, Putting.put_as, Putting.same_text, Putting.then_put, RunTexts.GoesByWords, RunTexts.kinds, RunTexts.run_read, RunTexts.sign_kind, Standing.NoSemicolon, Standing.Stood, Standing.collects, Standing.collects_all, Standing.is_safe_byte, Standing.placed, Tokens.Gap, Tokens.a_name, Tokens.gap_stands, Tokens.indent, Tokens.indented, Tokens.name_means, Tokens.name_no_sign, Tokens.name_token, Tokens.newline, Tokens.no_key, Tokens.none, Tokens.passed, Tokens.sign_token, Tokens.space, Tokens.spaced, Tokens.tabbed, Tokens.value_name, Written.AllFit, Written.Kinds, Written.OptionFit, Written.Says, Written.Written, Written.after_as, Written.alike_as, Written.also_as, Written.bare_word, Written.choose_as, Written.close_as, Written.closing_as, Written.comma_as, Written.dot_as, Written.either_pieces, Written.end_as, Written.ending, Written.equals_as, Written.fit_as, Written.follows_on, Written.given_or, Written.heard_as, Written.is_as, Written.items_pieces, Written.kind_as, Written.lead_as, Written.leaf_as, Written.led_as, Written.like_as, Written.literal_as, Written.literal_said, Written.lone_as, Written.many_as, Written.mark_as, Written.maybe_as, Written.meets, Written.name_as, Written.name_said, Written.not_closed, Written.nothing_as, Written.opening_as, Written.or_as, Written.or_given, Written.path_as, Written.path_same, Written.pieces_as, Written.run_as, Written.run_put, Written.seen_as, Written.shown_as, Written.then_as, Written.then_puts, Written.wider_as, Written.word_as, Written.word_said, Written.word_then}
 pub use Rattle.ddl_forms.specs.Texts.{IsBracketText, IsDefaultText, IsExpressionText, IsPath}
 pub use Rattle.ddl_laws.specs.{Readings.FailsAt, Readings.IsLine, Readings.IsLongThere, Readings.IsStatement, Readings.IsStuck, Readings.Reads, Readings.all_read, Readings.bad_line, Readings.later, Readings.later_line, Readings.line_read, Readings.line_token, Readings.no_rows, Readings.no_token, Readings.one_read, Readings.stuck, Respelling.AllWritable, Respelling.AreChanges, Respelling.AreColumns, Respelling.IsCheck, Respelling.IsColumn, Respelling.IsDefault, Respelling.IsGivenText, Respelling.IsInt, Respelling.IsLimit, Respelling.IsRest, Respelling.IsRunText, Respelling.IsWritable, Respelling.said, Respelling.spellings}
 pub use Rattle.ddl_lines.proofs.RowTexts.{read_are_rows, rows_bounds, rows_read_back}

@@ -1,5 +1,5 @@
 -- CREATE SEQUENCE with the text that it is written in: each clause is an item behind those before it.
-use Rattle.ddl_laws.proofs.Common.{◌≡◌, ℕ, ℤ, Bool, true, false, not, cond, ◌&&◌, ◌||◌, List, [], ◌∷◌, ◌++◌, Option, Some, None, refl, sym, ap, subst, ◌∙◌, inl, inr, codes, arith, signed_decimal, AllByRecursion, QName, Lexeme, is_word, never, starts, many, Part, ◌▸◌, joined, only_if as words_if, usual_min, usual_max, type_words, bound, min_text, max_text, Clauses, no_clauses, with_clause, with_clauses, clause_behind, begins_clause, clausing, sequence_clauses, sequence_of, Words, Safe, number_as, space, indented, Written, is_key, word_as, mark_as, lead_as, word_then, nothing_as, seen_as, choose_as, after_as, OptionFit, Follows, IsPut, followed, same_text, put_as, none_put, then_put, joined-append, then_opens, Opens, admits, admitted, meets, covers, indent, not_closed, Yields, AllCame, came_front, came_behind, Many, no_more, spelled, ◌then◌, str_to_ascii_lowercase, IsInt, IsWritable}
+use Rattle.ddl_laws.proofs.Common.{◌≡◌, ℕ, ℤ, Bool, true, false, not, cond, ◌&&◌, ◌||◌, List, [], ◌∷◌, ◌++◌, Option, Some, None, refl, sym, ap, subst, ◌∙◌, inl, inr, codes, arith, signed_decimal, QName, Lexeme, is_word, never, starts, many, Part, ◌▸◌, joined, only_if as words_if, usual_min, usual_max, type_words, bound, min_text, max_text, Clauses, no_clauses, with_clause, with_clauses, clause_behind, begins_clause, clausing, sequence_clauses, sequence_of, Words, Safe, number_as, space, indented, Written, is_key, word_as, mark_as, lead_as, word_then, nothing_as, seen_as, choose_as, after_as, OptionFit, Follows, IsPut, followed, same_text, put_as, none_put, then_put, joined-append, then_opens, Opens, admits, admitted, meets, covers, indent, not_closed, Yields, AllCame, came_front, came_behind, Many, no_more, spelled, ◌then◌, str_to_ascii_lowercase, IsInt, IsWritable}
 use Rattle.std.specs.Ordering.{int_eq}
 use Rattle.std.specs.Str.{str_eq_ignore_ascii_case}
 use Rattle.cat_model.specs.declared.constraint.SequenceKind.{SequenceKind}
@@ -49,21 +49,15 @@ pub clause_is : (v : Clause) → clause_as.Is v → IsClause v
 unfolding clause_as
 clause_is v is = grind arith
 
-pub made : Yields (AllByRecursion IsClause) (many (begins_clause no_clauses) clausing)
+-- a clause behind others is one behind none
+anywhere : (c : Clauses) (v : Clause) (ts : List Lexeme) → (clause_behind c).Spells v ts → (clause_behind no_clauses).Spells v ts
 unfolding clause_behind
-made vs ts r came spells = by no_clauses vs ts r came spells
+anywhere c v ts spells = elim spells [ inl s ↦ inl (s.0, s.1, (s.2.0, s.2.1, s.2.2, s.2.3, any_bound (is_unsaid c.least) (is_unsaid c.greatest) s.0.1 s.2.1 s.2.4)) | inr s ↦ inr s ]
   where
     any_bound : (least greatest : Bool) (v : Clause) (ts : List Lexeme) → (usual_bound least greatest).Spells v ts → (usual_bound true true).Spells v ts
     any_bound true true v ts s = s
     any_bound true false v ts s = inl s
     any_bound false x v ts s = inr s
-
-    anywhere : (c : Clauses) (v : Clause) (ts : List Lexeme) → (clause_behind c).Spells v ts → (clause_behind no_clauses).Spells v ts
-    anywhere c v ts spells = elim spells [ inl s ↦ inl (s.0, s.1, (s.2.0, s.2.1, s.2.2, s.2.3, any_bound (is_unsaid c.least) (is_unsaid c.greatest) s.0.1 s.2.1 s.2.4)) | inr s ↦ inr s ]
-
-    by : (c : Clauses) (vs : List Clause) (ts : List Lexeme) (r : List ℕ) → AllCame ts r → Many clausing c vs ts → AllByRecursion IsClause vs
-    by c _ _ r came (no_more _) = tt
-    by c _ _ r came (one_more _ v vs a b spells others) = (clause_is v (clause_as.made v a (spelled b ++ r) (came_front a b r came) (anywhere c v a spells.1)), by (with_clause c v) vs b r (came_behind a b r came) others)
 
 -- ---- the numbers so far
 
@@ -73,9 +67,9 @@ AreGiven c = OptionFit IsInt c.start × (OptionFit IsInt c.step × (OptionFit Is
 pub one_given : (c : Clauses) (v : Clause) → AreGiven c → IsClause v → AreGiven (with_clause c v)
 one_given c v given is = grind arith
 
-pub all_given : (c : Clauses) (vs : List Clause) → AreGiven c → AllByRecursion IsClause vs → AreGiven (with_clauses c vs)
-all_given c [] given all = given
-all_given c (v ∷ vs) given all = all_given (with_clause c v) vs (one_given c v given all.0) all.1
+all_given : (c : Clauses) (vs : List Clause) (ts : List Lexeme) (r : List ℕ) → AllCame ts r → AreGiven c → Many clausing c vs ts → AreGiven (with_clauses c vs)
+all_given c _ _ r came given (no_more _) = given
+all_given c _ _ r came given (one_more _ v vs a b spells others) = all_given (with_clause c v) vs b r (came_behind a b r came) (one_given c v given (clause_is v (clause_as.made v a (spelled b ++ r) (came_front a b r came) (anywhere c v a spells.1)))) others
 
 pub writable : (q : QName) (c : Clauses) → IsPath q → AreGiven c → IsWritable (sequence_of q c)
 unfolding sequence_of usual_min usual_max
@@ -173,10 +167,13 @@ with_kind kind vs = Kind kind ∷ vs
 abbrev pub clauses_written : Values → List Clause
 clauses_written v = with_kind v.kind (numbers_written v)
 
-abbrev pub clause_pieces : Values → List (List ℕ)
-clause_pieces v =
-    type_words v.kind ∷ codes "\n    START WITH " ∷ signed_decimal v.start ∷ codes "\n    INCREMENT BY " ∷ signed_decimal v.step ∷ min_text v.kind v.step v.min ∷ max_text v.kind v.step v.max
+abbrev number_pieces : Values → List (List ℕ)
+number_pieces v =
+    codes "\n    START WITH " ∷ signed_decimal v.start ∷ codes "\n    INCREMENT BY " ∷ signed_decimal v.step ∷ min_text v.kind v.step v.min ∷ max_text v.kind v.step v.max
     ∷ codes "\n    CACHE " ∷ signed_decimal v.cache ∷ words_if v.cycle (codes "\n    CYCLE") ∷ []
+
+abbrev pub clause_pieces : Values → List (List ℕ)
+clause_pieces v = type_words v.kind ∷ number_pieces v
 
 pub min_put : (d : Clauses) {vs : List Clause} {more : List (List ℕ)} (usual : Bool) (n : ℤ) → IsInt n → Put (record d { least = Some (bound_of usual n); greatest = None }) vs more
     → Put (record d { least = None; greatest = None }) (Least (bound_of usual n) ∷ vs) (bound usual (codes "\n    NO MINVALUE") (codes "\n    MINVALUE ") n ∷ more)
@@ -200,11 +197,6 @@ pub clauses_put : (v : Values) → AreInts v → Put no_clauses (clauses_written
 unfolding clause_behind is_key
 clauses_put v is = by v.kind
   where
-    numbers : List (List ℕ)
-    numbers =
-        codes "\n    START WITH " ∷ signed_decimal v.start ∷ codes "\n    INCREMENT BY " ∷ signed_decimal v.step ∷ min_text v.kind v.step v.min ∷ max_text v.kind v.step v.max
-        ∷ codes "\n    CACHE " ∷ signed_decimal v.cache ∷ words_if v.cycle (codes "\n    CYCLE") ∷ []
-
     none : (c : Clauses) (pieces : List (List ℕ)) → joined pieces ≡ [] → Put c [] pieces
     none c pieces e = record { put = λ others follows h. same_text [] (joined pieces) (sym e) (none_put (items_from clausing c) [] others (no_more c) follows); begins = λ m k rest h. ap (λ (x : List ℕ). admits m (x ++ rest)) e ∙ h }
 
@@ -212,7 +204,7 @@ clauses_put v is = by v.kind
     cycles c false e = none c ([] ∷ []) refl
     cycles c true e = one c Cycle (codes "CYCLE") refl (after_as (nothing_as {test = never} Cycle) Words refl) refl (codes "\n    CYCLE" ∷ []) refl refl refl (ap not e) (λ ts s. inr (inr (inr (inr (inr (inr (inr s))))))) (none (with_clause c Cycle) [] refl)
 
-    behind : (kind : Option SequenceKind) → Put (record no_clauses { kind = kind }) (numbers_written v) numbers
+    behind : (kind : Option SequenceKind) → Put (record no_clauses { kind = kind }) (numbers_written v) (number_pieces v)
     behind kind =
         let c = record no_clauses { kind = kind; start = Some v.start; step = Some v.step } in
         let least = bound_of (int_eq v.min (usual_min v.kind v.step)) v.min in
@@ -222,7 +214,7 @@ clauses_put v is = by v.kind
         let step = one (record no_clauses { kind = kind; start = Some v.start }) (Step v.step) (codes "INCREMENT") refl (word_then (codes "BY") refl (seen_as Step (number_as space)) refl) (v.step, is.1, refl) (codes "\n    INCREMENT BY " ∷ signed_decimal v.step ∷ []) refl refl refl refl (λ ts s. inr (inr (inr (inl s)))) bounds in
         one (record no_clauses { kind = kind }) (Start v.start) (codes "START") refl (word_then (codes "WITH") refl (seen_as Start (number_as space)) refl) (v.start, is.0, refl) (codes "\n    START WITH " ∷ signed_decimal v.start ∷ []) refl refl refl refl (λ ts s. inr (inr (inl s))) step
 
-    by : (kind : SequenceKind) → Put no_clauses (with_kind kind (numbers_written v)) (type_words kind ∷ numbers)
+    by : (kind : SequenceKind) → Put no_clauses (with_kind kind (numbers_written v)) (type_words kind ∷ number_pieces v)
     by SmallInt = one no_clauses (Kind SmallInt) (codes "AS") refl (seen_as (λ u. Kind SmallInt) (mark_as (word_as space (codes "smallint") refl))) (tt, tt, refl) (codes "\n    AS smallint" ∷ []) refl refl refl refl (λ ts s. inr (inl (s.0, s.1, (s.2.0, s.2.1, s.2.2, s.2.3, inl s.2.4)))) (behind (Some SmallInt))
     by Integer = one no_clauses (Kind Integer) (codes "AS") refl (seen_as (λ u. Kind Integer) (mark_as (word_as space (codes "integer") refl))) (tt, tt, refl) (codes "\n    AS integer" ∷ []) refl refl refl refl (λ ts s. inr (inl (s.0, s.1, (s.2.0, s.2.1, s.2.2, s.2.3, inr s.2.4)))) (behind (Some Integer))
     by BigInt = let m = behind None in record { put = m.put; begins = m.begins }
@@ -231,12 +223,7 @@ pub said_so : (v : Values) → with_clauses no_clauses (clauses_written v) ≡ w
 said_so v = by v.kind v.cycle
   where
     by : (kind : SequenceKind) (cycle : Bool) → with_clauses no_clauses (with_kind kind (numbers_written (record v { cycle = cycle }))) ≡ record (written v) { kind = said kind; cycle = cycle }
-    by SmallInt true = refl
-    by SmallInt false = refl
-    by Integer true = refl
-    by Integer false = refl
-    by BigInt true = refl
-    by BigInt false = refl
+    by kind cycle = grind arith
 
 -- what spells the clauses that are written spells them
 pub clauses_as_put : (c : Clauses) (v : Values) → AreInts v → written v ≡ c → (others : List Lexeme) → Follows others → admits Safe (spelled others) ≡ true → IsPut sequence_clauses c (joined (clause_pieces v)) others
@@ -246,7 +233,7 @@ clauses_as_put c v is e others follows h =
 
 pub clauses_made : Yields AreGiven sequence_clauses
 unfolding sequence_clauses
-clauses_made c ts r came s = subst AreGiven (sym s.1) (all_given no_clauses s.0 (tt, (tt, (tt, (tt, tt)))) (made s.0 ts r came s.2))
+clauses_made c ts r came s = subst AreGiven (sym s.1) (all_given no_clauses s.0 ts r came (tt, (tt, (tt, (tt, tt)))) s.2)
 
 abbrev pub clauses_as : Written sequence_clauses
 clauses_as = record {
