@@ -10,9 +10,7 @@ ends_with test (t ∷ u ∷ ts) = ends_with test (u ∷ ts)
 
 pub ends_append : (test : Lexeme → Bool) (a b : List Lexeme) → ends_with test b ≡ true → ends_with test (a ++ b) ≡ true
 ends_append test [] b e = e
-ends_append test (t ∷ a) b e =
-    let ends_cons : (test : Lexeme → Bool) (t : Lexeme) (ts : List Lexeme) → ends_with test ts ≡ true → ends_with test (t ∷ ts) ≡ true = λ test t v e. grind arith in
-    ends_cons test t (a ++ b) (ends_append test a b e)
+ends_append test (t ∷ a) b e = grind (arith, (ends_append test a b e))
 
 abbrev pub Closes : {A : Type 0} → (Lexeme → Bool) → Part A → Type 0
 Closes {A} test p = (v : A) (ts : List Lexeme) → p.Spells v ts → ends_with test ts ≡ true

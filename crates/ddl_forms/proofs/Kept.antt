@@ -1,7 +1,8 @@
 -- Tokens of a text are read as the same tokens in another text, where they are kept with what stands between them.
-use Rattle.ddl_forms.proofs.Common.{◌≡◌, ℕ, zero, suc, ◌+◌, ◌-◌, ◌<◌, ◌≤◌, Bool, true, false, cond, List, [], ◌∷◌, ◌++◌, length, length-append, append_assoc, take, drop, Option, Some, None, Result, Ok, Err, refl, sym, ap, subst, ◌∙◌, arith, inl, inr, slice_range, is_utf8, and_parts, or_parts, nat_tests, drop_at, drop_split, TokenKind, Word, QuotedName, Literal, Number, Sign, MetaLine, Token, LexFault, is_blank, is_digit, begins_word, in_word, marks_escapes, next_is, next_token_of, LiesBehind, spelling, Spells, AreDigits, IsGap, goes_on, goes_on_behind_dot, Between, gap, IsNext, next_found, piece_word, quoted_is, word_free, digit_free, lies_behind, spelling_is_read, gap_is_passed, Lexeme, spelled, is_sign_kind, lexeme_of, lexemes, Collected, collected, collected_within, collected_by, nothing_more, preceded, and_false, drop_twice, seam, between_low, semicolon}
+use Rattle.ddl_forms.proofs.Common.{◌≡◌, ℕ, zero, suc, ◌+◌, ◌-◌, ◌<◌, ◌≤◌, true, false, List, [], ◌∷◌, ◌++◌, length, length-append, append_assoc, take, drop, Option, Some, None, Result, Ok, Err, refl, sym, ap, subst, ◌∙◌, arith, inl, inr, slice_range, is_utf8, and_parts, or_parts, nat_tests, cases_Bool, drop_at, drop_split, TokenKind, Word, QuotedName, Literal, Number, Sign, MetaLine, Token, LexFault, is_blank, is_digit, begins_word, in_word, marks_escapes, next_is, next_token_of, LiesBehind, spelling, Spells, AreDigits, IsGap, goes_on, goes_on_behind_dot, Between, gap, IsNext, next_found, piece_word, quoted_is, word_free, digit_free, lies_behind, spelling_is_read, gap_is_passed, Lexeme, spelled, is_sign_kind, lexeme_of, lexemes, Collected, collected, collected_within, collected_by, nothing_more, preceded, and_false, drop_twice, seam, between_low, semicolon}
 use Rattle.sql_lex.specs.{Bytes.is_sign as is_sign_byte, Answers.nothing}
 use Rattle.ddl_forms.proofs.Standing.{is_safe, Stands, Stood}
+use Rattle.std.proofs.Math.Nat.{add_assoc}
 
 -- ---- tokens as they came
 
@@ -51,9 +52,6 @@ record HasCome (text : List ℕ) (at : ℕ) (c : Collected) : Type 0 where
   came : AllCame (lexemes text c.pieces) (drop c.end text)
   whole : drop at text ≡ spelled (lexemes text c.pieces) ++ drop c.end text
 
-one_whole : (text : List ℕ) (at : ℕ) (t : Token) → at ≤ t.start → t.start < t.end → drop at text ≡ slice_range text at t.start ++ (slice_range text t.start t.end ++ drop t.end text)
-one_whole text at t low long = drop_split text at t.start low ∙ ap (λ (x : List ℕ). slice_range text at t.start ++ x) (drop_split text t.start t.end (omega (arith, long)))
-
 -- what holds where nothing is collected, and is handed on by each token, holds of what is collected from a place on
 pub collected_has : (text : List ℕ) (P : ℕ → Collected → Type 0) → ((at : ℕ) (fault : Option LexFault) → at ≤ length text → P at (nothing_more at fault))
     → ((at : ℕ) (t : Token) (c : Collected) → at ≤ length text → next_token_of text at ≡ Ok (Some t) → LiesBehind text at (Ok (Some t)) → (is_sign_kind 59 t.kind ≡ true → c.pieces ≡ []) → P t.end c → P at (preceded (record { from = at; token = t }) c))
@@ -62,27 +60,22 @@ unfolding collected_within
 collected_has text P none one zero at le = none at None le
 collected_has text P none one (suc n) at le = by (next_token_of text at) refl (λ end high. collected_has text P none one n end high)
   where
-    by_sign : (end : ℕ) → end ≤ length text → P end (collected_within n text end) → (b : Bool) → (b ≡ true → (cond b (nothing_more end None) (collected_within n text end)).pieces ≡ []) × P end (cond b (nothing_more end None) (collected_within n text end))
-    by_sign end high later true = ((λ e. refl), none end None high)
-    by_sign end high later false = ((λ e. absurd cc), later)
-
     by : (r : Result (Option Token) LexFault) → next_token_of text at ≡ r → ((end : ℕ) → end ≤ length text → P end (collected_within n text end)) → P at (collected_by (collected_within n text) at r)
     by (Err fault) e later = none at (Some fault) le
     by (Ok None) e later = none at None le
     by (Ok (Some t)) e later =
         let lies = lies_behind text at (Ok (Some t)) le (sym e) in
-        let s = by_sign t.end lies.2 (later t.end lies.2) (is_sign_kind 59 t.kind) in
-        one at t (cond (is_sign_kind 59 t.kind) (nothing_more t.end None) (collected_within n text t.end)) le e lies s.0 s.1
+        elim (cases_Bool (is_sign_kind 59 t.kind)) [
+          | inl is ↦ rw is (one at t (nothing_more t.end None) le e lies (λ h. refl) (none t.end None lies.2))
+          | inr isnt ↦ rw isnt (one at t (collected_within n text t.end) le e lies (λ h. absurd cc) (later t.end lies.2))
+        ]
 
 one_comes : (text : List ℕ) (at : ℕ) (t : Token) (c : Collected) → at ≤ length text → next_token_of text at ≡ Ok (Some t) → LiesBehind text at (Ok (Some t)) → HasCome text t.end c → HasCome text at (preceded (record { from = at; token = t }) c)
 unfolding spelling
-one_comes text at t c le e lies later =
-    record {
-      came = (subst (Came (lexeme_of text (record { from = at; token = t }))) later.whole (came_token text at t le e), later.came);
-      whole = one_whole text at t lies.0 lies.1 ∙ ap (λ (x : List ℕ). slice_range text at t.start ++ (slice_range text t.start t.end ++ x)) later.whole
-          ∙ ap (λ (x : List ℕ). slice_range text at t.start ++ x) (sym (append_assoc (slice_range text t.start t.end) (spelled (lexemes text c.pieces)) (drop c.end text)))
-          ∙ sym (append_assoc (slice_range text at t.start) (slice_range text t.start t.end ++ spelled (lexemes text c.pieces)) (drop c.end text));
-    }
+one_comes text at t c le e lies later = record {
+  came = (subst (Came (lexeme_of text (record { from = at; token = t }))) later.whole (came_token text at t le e), later.came);
+  whole = drop_split text at t.start lies.0 ∙ ap (λ (x : List ℕ). slice_range text at t.start ++ x) (drop_split text t.start t.end (omega (arith, lies.1)) ∙ ap (λ (x : List ℕ). slice_range text t.start t.end ++ x) later.whole) ∙ simp append_assoc;
+}
 
 come_within : (n : ℕ) (text : List ℕ) (at : ℕ) → at ≤ length text → HasCome text at (collected_within n text at)
 come_within n text = collected_has text (HasCome text) (λ at fault le. record { came = tt; whole = refl }) (λ at t c le e lies last. one_comes text at t c le e lies) n
@@ -99,8 +92,7 @@ have_come text at le = (come_within (length text + 1) text at le).came
 
 pub spelled-append : (a b : List Lexeme) → spelled (a ++ b) ≡ spelled a ++ spelled b
 spelled-append [] b = refl
-spelled-append (t ∷ a) b =
-    ap (λ (x : List ℕ). t.gap ++ (t.word ++ x)) (spelled-append a b) ∙ ap (λ (x : List ℕ). t.gap ++ x) (sym (append_assoc t.word (spelled a) (spelled b))) ∙ sym (append_assoc t.gap (t.word ++ spelled a) (spelled b))
+spelled-append (t ∷ a) b = rw (spelled-append a b) (simp append_assoc)
 
 pub came_front : (a b : List Lexeme) (r : List ℕ) → AllCame (a ++ b) r → AllCame a (spelled b ++ r)
 came_front [] b r h = tt
@@ -125,13 +117,11 @@ solid b word rest e f = subst Begun (sym e) f
 
 pub token_begun : (kind : TokenKind) (word : List ℕ) → (kind ≡ MetaLine → ⊥) → Spells kind word → Begun word
 unfolding is_blank marks_escapes is_sign_byte
-token_begun Word [] line h = absurd h
-token_begun Word (b ∷ word) line h = solid b (b ∷ word) word refl (word_free b h.0)
+token_begun Word word line h = grind (arith, word_free)
 token_begun QuotedName word line h = solid 34 word _ (h.1 ∙ quoted_is 34 h.0) refl
 token_begun Literal word line (inl h) = solid 39 word _ (h.1 ∙ quoted_is 39 h.0) refl
 token_begun Literal word line (inr h) = solid h.0 word _ h.4 (grind (arith, nat_tests))
-token_begun Number [] line (inl h) = absurd (let e = h.0 in omega arith)
-token_begun Number (b ∷ word) line (inl h) = solid b (b ∷ word) word refl (digit_free b (and_parts _ _ h.1).0).0
+token_begun Number word line (inl h) = grind (arith, and_parts, digit_free)
 token_begun Number word line (inr h) = by h.0 h.2 h.4
   where
     by : (whole : List ℕ) → AreDigits whole → word ≡ whole ++ 46 ∷ h.1 → Begun word
@@ -153,35 +143,23 @@ still_ends kind word [] r after line e safe = safe_ends kind word after line saf
 still_ends kind word (x ∷ []) r after line e safe = grind (arith, or_parts, and_false, nat_tests)
 still_ends kind word (x ∷ y ∷ m) r after line e safe = grind arith
 
--- a gap before a word of a byte at least, whatever comes behind the word
-gap_again : (g more word r other : List ℕ) → 0 < length word → IsGap g (more ++ (word ++ r)) → IsGap g (more ++ (word ++ other))
+-- a gap before a byte at least, whatever comes behind that
+gap_again : (g m r other : List ℕ) → 0 < length m → IsGap g (m ++ r) → IsGap g (m ++ other)
 unfolding next_is
-gap_again g [] [] r other some h = absurd (omega arith)
-gap_again g [] (x ∷ word) r other some h = grind arith
-gap_again g (x ∷ more) word r other some h = grind arith
+gap_again g [] r other some h = absurd (omega arith)
+gap_again g (x ∷ m) r other some h = grind arith
 
 gaps_pass : (gap word r other : List ℕ) → 0 < length word → (behind : List ℕ) → behind ≡ word ++ r → Gaps gap behind → (front : List ℕ) → next_token_of (front ++ (gap ++ (word ++ other))) (length front) ≡ next_token_of (front ++ (gap ++ (word ++ other))) (length front + length gap)
 gaps_pass _ word r other some behind e (no_gap _) front = ap (next_token_of (front ++ (word ++ other))) (let p : length front ≡ length front + 0 = omega arith in p)
 gaps_pass _ word r other some behind e (one_gap g more _ is utf8 gaps) front =
-    let rest = more ++ (word ++ other) in
-    let here : IsGap g rest = gap_again g more word r other some (subst (λ (x : List ℕ). IsGap g (more ++ x)) e is) in
-    let passed = gap_is_passed front g rest here utf8 in
-    let text : (front ++ g) ++ rest ≡ front ++ (g ++ rest) = append_assoc front g rest in
-    let later = gaps_pass more word r other some behind e gaps (front ++ g) in
-    let later' : next_token_of (front ++ (g ++ rest)) (length (front ++ g)) ≡ next_token_of (front ++ (g ++ rest)) (length (front ++ g) + length more) =
-    subst (λ (x : List ℕ). next_token_of x (length (front ++ g)) ≡ next_token_of x (length (front ++ g) + length more)) text later in
-    let place = length-append front g in
-    let sizes = length-append g more in
-    ap (λ (x : List ℕ). next_token_of (front ++ x) (length front)) (append_assoc g more (word ++ other))
-    ∙ passed ∙ ap (next_token_of (front ++ (g ++ rest))) (sym place) ∙ later'
-    ∙ ap (next_token_of (front ++ (g ++ rest))) (let p : length (front ++ g) + length more ≡ length front + length (g ++ more) = omega arith in p)
-    ∙ ap (λ (x : List ℕ). next_token_of (front ++ x) (length front + length (g ++ more))) (sym (append_assoc g more (word ++ other)))
+    let passed = gap_is_passed front g (more ++ (word ++ other)) (rw append_assoc at (gap_again g (more ++ word) r other (omega (arith, length-append more word)) (rw (e, ← append_assoc more word r) at is))) utf8 in
+    simp (append_assoc, length-append) (passed ∙ simp (append_assoc, length-append, add_assoc) at (gaps_pass more word r other some behind e gaps (front ++ g)))
 
 -- a token that came before some bytes stands before a front of them that is followed by what is safe
 pub stands_again : (t : Lexeme) (m r s : List ℕ) → (t.kind ≡ MetaLine → ⊥) → 0 < length t.word → Came t (m ++ r) → ((after : List ℕ) → is_safe after ≡ true → is_safe (s ++ after) ≡ true) → Stands t (m ++ s)
 stands_again t m r s line some came safe = record {
   gap = λ front after e.
-      subst (λ (x : List ℕ). next_token_of (front ++ (t.gap ++ x)) (length front) ≡ next_token_of (front ++ (t.gap ++ x)) (length front + length t.gap)) (sym (append_assoc t.word (m ++ s) after))
+      rw (append_assoc t.word (m ++ s) after)
       (gaps_pass t.gap t.word (m ++ r) ((m ++ s) ++ after) some (t.word ++ (m ++ r)) refl came.gap front);
   token = λ front after e.
       spelling_is_read front t.word ((m ++ s) ++ after) t.kind came.spells

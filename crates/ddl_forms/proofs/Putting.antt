@@ -42,11 +42,8 @@ one_put p v t others stands plain says follows = record {
   bytes = ap (λ (x : List ℕ). t.gap ++ x) (append-nil t.word);
   stood = (stands, follows.stood);
   spells = says;
-  last = by others plain follows.last;
+  last = grind (arith, last_more);
 }
-  where
-    by : (us : List Lexeme) → semicolon t ≡ false ⊎ (us ≡ []) → only_last semicolon us ≡ true → only_last semicolon (t ∷ us) ≡ true
-    by us e f = grind (arith, last_more)
 
 pub joined-append : (a b : List (List ℕ)) → joined (a ++ b) ≡ joined a ++ joined b
 joined-append [] b = refl

@@ -1,5 +1,5 @@
 -- The tokens of which written statements are made, and that each stands wherever it is put.
-use Rattle.ddl_forms.proofs.Common.{name_in_is, ◌≡◌, ◌≢◌, ℕ, ◌+◌, Bool, true, false, not, cond, ◌&&◌, List, [], ◌∷◌, ◌++◌, length, Some, Ok, Err, ◌||◌, refl, sym, ap, ◌∙◌, arith, inl, inr, ◌==◌, nat_lt, list_any, AllByRecursion as ByRecursion, is_utf8, IsUtf8, chars, str_to_ascii_lowercase, str_eq_ignore_ascii_case, bytes_eq-Decides, encode, cases_Bool, and_parts, or_parts, not-true, ne_eqb, nat_tests, recursion_from_All, is_utf8-from_IsUtf8, IsUtf8-from_is_utf8, TokenKind, Word, QuotedName, Literal, Sign, is_blank, is_digit, begins_word, in_word, next_is, IsWord, goes_on, name_of, literal_of, is_keyword_of, is_reserved, begins_bare, is_bare, quoted, written_name, written_literal, IsTokenAt, written_kind, word_free, spelling_is_read, name_is_read, literal_is_read, IsName, Lexeme, is_word, is_sign_kind, name_in, name_value, text_in, literal_value, and_false}
+use Rattle.ddl_forms.proofs.Common.{name_in_is, ◌≡◌, ◌≢◌, ℕ, Bool, true, false, not, ◌&&◌, List, [], ◌∷◌, ◌++◌, length, Some, Ok, ◌||◌, refl, sym, ap, ◌∙◌, arith, inl, inr, ◌==◌, nat_lt, list_any, AllByRecursion as ByRecursion, is_utf8, IsUtf8, chars, str_to_ascii_lowercase, str_eq_ignore_ascii_case, bytes_eq-Decides, encode, cases_Bool, and_parts, or_parts, ne_eqb, nat_tests, recursion_from_All, is_utf8-from_IsUtf8, IsUtf8-from_is_utf8, TokenKind, Word, QuotedName, Literal, Sign, is_blank, is_digit, begins_word, in_word, next_is, IsWord, goes_on, name_of, is_keyword_of, is_reserved, begins_bare, is_bare, quoted, written_name, written_literal, IsTokenAt, written_kind, word_free, spelling_is_read, name_is_read, literal_is_read, IsName, Lexeme, is_word, is_sign_kind, name_in, name_value, text_in, literal_value, and_false}
 use Rattle.sql_lex.specs.Bytes.{is_sign}
 use Rattle.ddl_forms.proofs.{Standing.GapStands, Standing.Stands, Behind.Words, Behind.admits, Kept.Begun, Kept.begun_some, Kept.safe_ends, Passed.Passed, Passed.blanks_passed}
 
@@ -75,16 +75,11 @@ is_single b = is_sign b && (is_utf8 (b ∷ []) && not (is_blank b || (b == 45 ||
 
 pub a_sign : {g : List ℕ} (b : ℕ) (rest : List ℕ) → Gap g → is_single b ≡ true → Stands (sign_token g b) rest
 unfolding is_single goes_on
-a_sign {g} b rest gap e =
-    let sign = and_parts (is_sign b) (is_utf8 (b ∷ []) && not (is_blank b || (b == 45 || b == 47))) e in
-    let utf8 = and_parts (is_utf8 (b ∷ [])) (not (is_blank b || (b == 45 || b == 47))) sign.1 in
-    let solid = or_parts (is_blank b) (b == 45 || b == 47) (not-true (is_blank b || (b == 45 || b == 47)) utf8.1) in
-    let dashes = or_parts (b == 45) (b == 47) solid.1 in
-    record {
-      gap = gap_stands g (b ∷ []) rest gap solid.0;
-      token = λ front after safe. spelling_is_read front (b ∷ []) (rest ++ after) (Sign b) (sign.0, refl) (rw (dashes.0, dashes.1) refl) utf8.0 (λ f. absurd cc);
-      some = omega arith;
-    }
+a_sign {g} b rest gap e = record {
+  gap = gap_stands g (b ∷ []) rest gap (grind (arith, and_parts, or_parts));
+  token = λ front after safe. spelling_is_read front (b ∷ []) (rest ++ after) (Sign b) (grind (arith, and_parts), refl) (grind (arith, and_parts, or_parts)) (grind (arith, and_parts)) (λ f. absurd cc);
+  some = omega arith;
+}
 
 -- ---- what names and literals mean
 
@@ -102,15 +97,11 @@ named bytes h =
 -- what the written name means, whatever stands before it
 pub name_means : (n : List ℕ) → IsName n → (t : Lexeme) → t.kind ≡ written_kind n → t.word ≡ written_name n → name_value t ≡ Ok n
 unfolding name_value goes_on next_is in_word begins_word is_digit
-name_means n h t kind word =
-    let r = name_is_read [] n [] h.utf8 (grind (arith, nat_tests, safe_ends, and_false)) in
-    ap (λ (k : TokenKind). name_in (name_of k t.word)) kind ∙ ap (λ (w : List ℕ). name_in (name_of (written_kind n) w)) word ∙ ap name_in r.1 ∙ named n h
+name_means n h t kind word = rw (kind, word, (name_is_read [] n [] h.utf8 (grind (arith, nat_tests, safe_ends, and_false))).1) (named n h)
 
 pub literal_means : (x : List ℕ) → IsUtf8 x → (t : Lexeme) → t.kind ≡ Literal → t.word ≡ written_literal x → literal_value t ≡ Ok x
 unfolding literal_value goes_on next_is text_in
-literal_means x utf8 t kind word =
-    let kept : (bytes : List ℕ) → IsUtf8 bytes → text_in (Some bytes) ≡ Ok bytes = λ bytes utf8. ap (λ (b : Bool). cond b (Ok bytes) (Err false)) (is_utf8-from_IsUtf8 bytes utf8) in
-    ap (λ (k : TokenKind). text_in (literal_of k t.word)) kind ∙ ap (λ (w : List ℕ). text_in (literal_of Literal w)) word ∙ ap text_in (literal_is_read [] x [] utf8 refl).1 ∙ kept x utf8
+literal_means x utf8 t kind word = rw (kind, word, (literal_is_read [] x [] utf8 refl).1, is_utf8-from_IsUtf8 x utf8) refl
 
 -- a written name is no sign
 pub name_no_sign : (b : ℕ) (n : List ℕ) → is_sign_kind b (written_kind n) ≡ false
@@ -134,7 +125,7 @@ name_no_word key n utf8 reserved = elim (cases_Bool (is_bare n && not (is_reserv
 
 pub no_key : (key n : List ℕ) → IsUtf8 n → is_reserved (str_to_ascii_lowercase key) ≡ true → (t : Lexeme) → t.kind ≡ written_kind n → t.word ≡ written_name n → is_word key t ≡ false
 unfolding is_word
-no_key key n utf8 reserved t kind word = ap (λ (k : TokenKind). is_keyword_of k t.word key) kind ∙ ap (λ (w : List ℕ). is_keyword_of (written_kind n) w key) word ∙ name_no_word key n utf8 reserved
+no_key key n utf8 reserved t kind word = rw (kind, word) (name_no_word key n utf8 reserved)
 
 -- ---- what was read
 
