@@ -1,7 +1,7 @@
 -- A part of the grammar with the texts of its values: what can be written lies in tokens that spell it, wherever they
 -- are put, and what tokens of a text spell has a property. A law for each way to put parts together.
-use Rattle.ddl_forms.proofs.Common.{◌≡◌, ℕ, zero, suc, ◌<◌, Bool, true, false, not, cond, ◌&&◌, ◌||◌, List, [], ◌∷◌, ◌++◌, length, append_assoc, append-nil, Option, Some, None, Result, Ok, Err, refl, sym, ap, subst, ◌∙◌, ◌⊎◌, inl, inr, arith, ◌==◌, and_parts, and_from, not-true, nat_tests, list_all, AllByRecursion, IsUtf8, is_utf8, chars, str_to_ascii_lowercase, encode, TokenKind, Word, Literal, Sign, is_digit, begins_word, in_word, is_keyword_of, IsWord, written_name, written_literal, written_kind, IsName, QName, path, joined, Lexeme, never, is_word, is_sign, is_sign_kind, spelled, source, Part, Items, Many, no_more, Machine, runs_of, one, many, mark, stop, seen, choose, nothing, wider, ◌then◌, ◌▸◌, ◌◂◌, name, name_value, literal, literal_value, qualified, lexemes, collected, semicolon, IsPath, IsRunText, passes_true}
-use Rattle.ddl_parts.specs.Parts.{one_more}
+use Rattle.ddl_forms.proofs.Common.{◌≡◌, ℕ, zero, suc, Bool, true, false, not, cond, ◌&&◌, ◌||◌, List, [], ◌∷◌, ◌++◌, length, length-append, append_assoc, append-nil, Option, Some, None, Result, Ok, refl, sym, ap, subst, ◌∙◌, ◌⊎◌, inl, inr, arith, ◌==◌, and_parts, not-true, nat_tests, list_all, AllByRecursion, IsUtf8, is_utf8, chars, str_to_ascii_lowercase, encode, TokenKind, Word, Literal, Sign, is_digit, begins_word, in_word, is_keyword_of, IsWord, written_name, written_literal, written_kind, IsName, QName, path, joined, Lexeme, never, is_word, is_sign, is_sign_kind, spelled, source, Part, Items, Many, no_more, Machine, runs_of, one, many, mark, stop, seen, choose, nothing, wider, ◌then◌, ◌▸◌, ◌◂◌, name, name_value, literal, literal_value, qualified, lexemes, collected, semicolon, IsPath, IsRunText, passes_true}
+use Rattle.ddl_parts.specs.Parts.{one_more, passes}
 use Rattle.ddl_forms.specs.Texts.{IsTextOf}
 use Rattle.ddl_forms.proofs.{Behind.Behind, Behind.Anything, Behind.Words, Behind.Safe, Behind.End, Behind.admits, Behind.covers, Behind.through, Behind.admitted, Behind.looser, Behind.tighter, Behind.tight, Behind.Opens, Behind.opens_of, Behind.opened, Behind.then_opens, Behind.one_opens, Behind.other_opens, Closing.ends_with, Closing.ends_append, Closing.Closes, Kept.AllCame, Kept.came_front, Kept.came_behind, RunTexts.IsPlain, RunTexts.plain_runs, RunTexts.IsPlainMachine, RunTexts.kinds, RunTexts.run_kept, RunTexts.run_read, RunTexts.plain_last, Standing.Stands, Standing.Stood, Standing.placed, Tokens.Gap, Tokens.none, Tokens.space, Tokens.a_word, Tokens.a_name, Tokens.a_literal, Tokens.is_single, Tokens.a_sign, Tokens.name_means, Tokens.literal_means, Tokens.name_no_sign, Tokens.value_name, Tokens.text_value, Putting.Follows, Putting.IsPut, Putting.followed, Putting.begun, Putting.same_text, Putting.put_as, Putting.none_put, Putting.one_put, Putting.then_put, Putting.joined-append, Putting.Yields}
 
@@ -38,6 +38,14 @@ leaf_as {p = p} Fit Is g text after put made = record {
   begins = λ v fit. opened g (text v fit ++ []);
   made = made;
   closes = not_closed p;
+}
+
+-- the same text in other pieces
+abbrev pub pieces_as : {A : Type 0} → {p : Part A} → (w : Written p) → (pieces : (v : A) → w.Fit v → List (List ℕ)) → ((v : A) (fit : w.Fit v) → joined (w.pieces v fit) ≡ joined (pieces v fit)) → Written p
+pieces_as w pieces same = record w {
+  pieces = pieces;
+  put = λ v fit others follows e. same_text (joined (w.pieces v fit)) (joined (pieces v fit)) (same v fit) (w.put v fit others follows e);
+  begins = λ v fit. subst (Opens w.lacks w.opens) (same v fit) (w.begins v fit);
 }
 
 -- ---- one token
@@ -90,131 +98,75 @@ literal_as gap = literal_said gap IsUtf8 (λ t. t) (λ t is. is) (λ v is t e. e
 
 -- ---- key words and signs
 
--- a token that says no more
-pub record Mark (test : Lexeme → Bool) : Type 0 where
-  pub pieces : List (List ℕ)
-  pub after : Behind
-  pub opens : Behind
-  pub closed : Bool
-  pub put : (others : List Lexeme) → Follows others → admits after (spelled others) ≡ true → IsPut (mark test) tt (joined pieces) others
-  pub begins : Opens false opens (joined pieces)
-  pub closes : closed ≡ true → Closes semicolon (mark test)
+-- a token that says no more, and that it can be written
+pub record Mark (test : Lexeme → Bool) : Type 1 where
+  pub written : Written (mark test)
+  pub fit : written.Fit tt
 
 -- the word that is written is the key word
 unfoldable pub is_key : List ℕ → List ℕ → Bool
 unfolding is_bare_word is_keyword_of
 is_key key w = is_bare_word w && is_keyword_of Word w key
 
-pub key_put : {g : List ℕ} → Gap g → (key w : List ℕ) → is_key key w ≡ true → (others : List Lexeme) → Follows others → admits Words (spelled others) ≡ true → IsPut (mark (is_word key)) tt (g ++ (w ++ [])) others
+pub key_says : (key w : List ℕ) → is_key key w ≡ true → Says (passes (is_word key)) w tt
 unfolding is_key is_word
-key_put {g} gap key w e others follows h =
-    let is = and_parts (is_bare_word w) (is_keyword_of Word w key) e in
-    let k : IsPut (mark (is_word key)) tt (g ++ w) others = one_puts Word w tt others (a_word w (spelled others) gap (bare_word w is.0).0 (bare_word w is.0).1 h) refl (λ t kind word. rw (kind, word, is.1) refl) follows in
-    same_text (g ++ w) (g ++ (w ++ [])) (ap (λ (x : List ℕ). g ++ x) (sym (append-nil w))) k
+key_says key w e = let is = and_parts (is_bare_word w) (is_keyword_of Word w key) e in (is.0, λ t kind word. rw (kind, word, is.1) refl)
 
 -- a key word, as it is written
 abbrev pub word_as : {g : List ℕ} → Gap g → (w : List ℕ) → is_key (str_to_ascii_lowercase w) w ≡ true → Mark (is_word (str_to_ascii_lowercase w))
-word_as {g} gap w is = record {
-  pieces = g ∷ w ∷ [];
-  after = Words;
-  opens = opens_of g;
-  closed = false;
-  put = key_put gap (str_to_ascii_lowercase w) w is;
-  begins = opened g (w ++ []);
-  closes = not_closed (mark (is_word (str_to_ascii_lowercase w)));
-}
+word_as gap w is = record { written = word_said gap (λ u. Unit {0}) (λ u. Unit {0}) (λ u fit. w) (λ u fit. key_says (str_to_ascii_lowercase w) w is) (λ t u e. tt); fit = tt }
 
-sign_put : {g : List ℕ} → Gap g → (b : ℕ) → is_single b ≡ true → (others : List Lexeme) → (59 == b) ≡ false ⊎ (others ≡ []) → Follows others → IsPut (mark (is_sign b)) tt ((g ++ b ∷ []) ++ []) others
+pub sign_put : {g : List ℕ} → Gap g → (b : ℕ) → is_single b ≡ true → (others : List Lexeme) → (59 == b) ≡ false ⊎ (others ≡ []) → Follows others → IsPut (mark (is_sign b)) tt ((g ++ b ∷ []) ++ []) others
 unfolding is_sign
 sign_put {g} gap b e others plain follows =
-    let same_byte : (b : ℕ) → (b == b) ≡ true = λ b. grind (arith, nat_tests) in
-    same_text (g ++ b ∷ []) ((g ++ b ∷ []) ++ []) (sym (append-nil (g ++ b ∷ [])))
-    (one_put (mark (is_sign b)) tt (record { gap = g; kind = Sign b; word = b ∷ []; start = 0 }) others (a_sign b (spelled others) gap e) plain (λ at. (_, refl, ap if_passed (same_byte b))) follows)
-  where
-    if_passed : Bool → Result (Unit {0}) Bool
-    if_passed c = cond c (Ok tt) (Err false)
+    rw append-nil (one_put (mark (is_sign b)) tt (record { gap = g; kind = Sign b; word = b ∷ []; start = 0 }) others (a_sign b (spelled others) gap e) plain (λ at. (_, refl, grind (arith, nat_tests))) follows)
 
--- a sign that is no semicolon
-unfoldable pub is_plain : ℕ → Bool
+-- a sign, by what may stand behind it: anything, where it is no semicolon
+abbrev pub sign_as : {g : List ℕ} → Gap g → (b : ℕ) → is_single b ≡ true → (after : Behind) → ((others : List Lexeme) → Stood others → admits after (spelled others) ≡ true → (59 == b) ≡ false ⊎ (others ≡ [])) → Written (mark (is_sign b))
+sign_as {g} gap b is after plain =
+    pieces_as (leaf_as (λ u. Unit {0}) (λ u. Unit {0}) (g ++ b ∷ []) (λ u fit. []) after (λ u fit others follows e. sign_put gap b is others (plain others follows.stood e) follows) (λ u ts r came spells. tt))
+    (λ u fit. (g ++ b ∷ []) ∷ []) (λ u fit. refl)
+
+abbrev pub plain_as : {g : List ℕ} → Gap g → (b : ℕ) → is_single b ≡ true → (59 == b) ≡ false → Mark (is_sign b)
+plain_as gap b is other = record { written = sign_as gap b is Anything (λ others stood e. inl other); fit = tt }
+
+pub signs : (is_single 40 ≡ true) × (is_single 41 ≡ true) × (is_single 44 ≡ true) × (is_single 46 ≡ true) × (is_single 59 ≡ true) × (is_single 61 ≡ true)
 unfolding is_single
-is_plain b = is_single b && not (59 == b)
-
-pub plain_put : {g : List ℕ} → Gap g → (b : ℕ) → is_plain b ≡ true → (others : List Lexeme) → Follows others → IsPut (mark (is_sign b)) tt ((g ++ b ∷ []) ++ []) others
-unfolding is_plain
-plain_put gap b e others follows = let is = and_parts (is_single b) (not (59 == b)) e in sign_put gap b is.0 others (inl (not-true _ is.1)) follows
-
-abbrev pub sign_as : {g : List ℕ} → Gap g → (b : ℕ) → is_plain b ≡ true → Mark (is_sign b)
-sign_as {g} gap b is = record {
-  pieces = (g ++ b ∷ []) ∷ [];
-  after = Anything;
-  opens = opens_of (g ++ b ∷ []);
-  closed = false;
-  put = λ others follows e. plain_put gap b is others follows;
-  begins = opened (g ++ b ∷ []) [];
-  closes = not_closed (mark (is_sign b));
-}
-
-pub signs : (is_plain 40 ≡ true) × (is_plain 41 ≡ true) × (is_plain 44 ≡ true) × (is_plain 46 ≡ true) × (is_plain 61 ≡ true)
-unfolding is_plain
-signs = (refl, refl, refl, refl, refl)
+signs = (refl, refl, refl, refl, refl, refl)
 
 abbrev pub opening_as : {g : List ℕ} → Gap g → Mark (is_sign 40)
-opening_as gap = sign_as gap 40 signs.0
+opening_as gap = plain_as gap 40 signs.0 refl
 
 abbrev pub closing_as : {g : List ℕ} → Gap g → Mark (is_sign 41)
-closing_as gap = sign_as gap 41 signs.1
+closing_as gap = plain_as gap 41 signs.1 refl
 
 abbrev pub comma_as : Mark (is_sign 44)
-comma_as = sign_as none 44 signs.2
+comma_as = plain_as none 44 signs.2 refl
 
 abbrev pub dot_as : Mark (is_sign 46)
-dot_as = sign_as none 46 signs.3
+dot_as = plain_as none 46 signs.3 refl
 
 abbrev pub equals_as : Mark (is_sign 61)
-equals_as = sign_as space 61 signs.4
-
-none_behind : (others : List Lexeme) → Stood others → admits End (spelled others) ≡ true → others ≡ []
-none_behind [] stood e = refl
-none_behind (t ∷ ts) stood e = by t.gap t.word stood.0.some e
-  where
-    by : (gap word : List ℕ) → 0 < length word → admits End (gap ++ (word ++ spelled ts)) ≡ true → t ∷ ts ≡ []
-    by [] [] some e = absurd (omega arith)
-    by [] (b ∷ word) some e = absurd cc
-    by (b ∷ gap) word some e = absurd cc
-
-pub end_put : (others : List Lexeme) → Follows others → admits End (spelled others) ≡ true → IsPut (mark semicolon) tt (59 ∷ []) others
-unfolding is_single
-end_put others follows e = sign_put none 59 refl others (inr (none_behind others follows.stood e)) follows
+equals_as = plain_as space 61 signs.5 refl
 
 pub mark_closes : (test : Lexeme → Bool) → Closes test (mark test)
 mark_closes test v ts spells = ap (ends_with test) spells.1 ∙ passes_true v (test spells.0) spells.2
 
+pub none_behind : (others : List Lexeme) → Stood others → admits End (spelled others) ≡ true → others ≡ []
+none_behind [] stood e = refl
+none_behind (t ∷ ts) stood e =
+    let none : (text : List ℕ) → admits End text ≡ true → length text ≡ 0 = λ text e. grind arith in
+    absurd (omega (arith, none (spelled (t ∷ ts)) e, length-append t.gap (t.word ++ spelled ts), length-append t.word (spelled ts), stood.0.some))
+
 -- the semicolon that ends a statement
+abbrev pub ending_as : {g : List ℕ} → Gap g → Mark semicolon
+ending_as gap = record { written = record (sign_as gap 59 signs.4 End (λ others stood e. inr (none_behind others stood e))) { closed = true; closes = λ e. mark_closes semicolon }; fit = tt }
+
 abbrev pub ending : Mark semicolon
-ending = record {
-  pieces = (59 ∷ []) ∷ [];
-  after = End;
-  opens = Safe;
-  closed = true;
-  put = end_put;
-  begins = opened (59 ∷ []) [];
-  closes = λ e. mark_closes semicolon;
-}
+ending = ending_as none
 
 abbrev pub mark_as : {test : Lexeme → Bool} → Mark test → Written (mark test)
-mark_as m = record {
-  Fit = λ u. Unit {0};
-  Is = λ u. Unit {0};
-  pieces = λ u fit. m.pieces;
-  after = m.after;
-  opens = m.opens;
-  lacks = false;
-  closed = m.closed;
-  put = λ u fit. m.put;
-  begins = λ u fit. m.begins;
-  made = λ u ts r came spells. tt;
-  closes = m.closes;
-}
+mark_as m = m.written
 
 -- ---- one after another
 
@@ -231,16 +183,8 @@ then_puts {p = p} {q = q} a b e v w fit other others follows h =
     let k = b.put w other others follows h in
     then_put p q v w (a.pieces v fit) (b.pieces w other) others k (a.put v fit (k.tokens ++ others) (followed k) (begun a.after k (met b a.after e w other (spelled others) h)))
 
-pub then_begins : {A B : Type 0} {p : Part A} {q : Part B} (a : Written p) (b : Written q) (v : A) (w : B) (fit : a.Fit v) (other : b.Fit w) → Opens (cond a.lacks b.lacks false) (cond a.lacks (looser a.opens b.opens) a.opens) (joined (a.pieces v fit ++ b.pieces w other))
-then_begins a b v w fit other =
-    subst (Opens (cond a.lacks b.lacks false) (cond a.lacks (looser a.opens b.opens) a.opens)) (sym (joined-append (a.pieces v fit) (b.pieces w other)))
-    (then_opens a.lacks b.lacks a.opens b.opens (joined (a.pieces v fit)) (joined (b.pieces w other)) (a.begins v fit) (b.begins w other))
-
 pub then_made : {A B : Type 0} (p : Part A) (q : Part B) (P : A → Type 0) (Q : B → Type 0) → Yields P p → Yields Q q → Yields (λ v. P v.0 × Q v.1) (p then q)
 then_made p q P Q f g = grind (arith, came_front, came_behind)
-
-pub then_closes : {A B : Type 0} (p : Part A) (q : Part B) → Closes semicolon q → Closes semicolon (p then q)
-then_closes p q closes v ts spells = ap (ends_with semicolon) spells.2 ∙ ends_append semicolon spells.0 spells.1 (closes v.1 spells.1 spells.4)
 
 abbrev pub then_as : {A B : Type 0} → {p : Part A} → {q : Part B} → (a : Written p) → (b : Written q) → meets a.after b ≡ true → Written (p then q)
 then_as {p = p} {q = q} a b e = record {
@@ -252,9 +196,9 @@ then_as {p = p} {q = q} a b e = record {
   lacks = cond a.lacks b.lacks false;
   closed = b.closed;
   put = λ v fit. then_puts a b e v.0 v.1 fit.0 fit.1;
-  begins = λ v fit. then_begins a b v.0 v.1 fit.0 fit.1;
+  begins = λ v fit. rw (joined-append (a.pieces v.0 fit.0) (b.pieces v.1 fit.1)) (then_opens a.lacks b.lacks a.opens b.opens (joined (a.pieces v.0 fit.0)) (joined (b.pieces v.1 fit.1)) (a.begins v.0 fit.0) (b.begins v.1 fit.1));
   made = then_made p q a.Is b.Is a.made b.made;
-  closes = λ e. then_closes p q (b.closes e);
+  closes = λ e v ts spells. ap (ends_with semicolon) spells.2 ∙ ends_append semicolon spells.0 spells.1 (b.closes e v.1 spells.1 spells.4);
 }
 
 -- a value written as one of another part, which the same tokens spell
@@ -275,22 +219,17 @@ carry_as {p = p} w q Fit Is value says heard = record {
 }
 
 -- a token that says no more, before a part or behind it
-abbrev pub lead_as : {A : Type 0} → {test : Lexeme → Bool} → {p : Part A} → (m : Mark test) → (w : Written p) → meets m.after w ≡ true → Written (test ▸ p)
-lead_as {test = test} {p = p} m w e =
-    carry_as (then_as (mark_as m) w e) (test ▸ p) w.Fit w.Is (λ v fit. ((tt, v), (tt, fit))) (λ v fit ts s. ((tt, v), refl, s)) (λ v ts s. (s.0, s.2, λ is. subst w.Is (sym s.1) is.1))
+abbrev pub lead_as : {A : Type 0} → {test : Lexeme → Bool} → {p : Part A} → (m : Mark test) → (w : Written p) → meets m.written.after w ≡ true → Written (test ▸ p)
+lead_as {test = test} {p = p} m w e = carry_as (then_as m.written w e) (test ▸ p) w.Fit w.Is (λ v fit. ((tt, v), (m.fit, fit))) (λ v fit ts s. ((tt, v), refl, s)) (λ v ts s. (s.0, s.2, λ is. subst w.Is (sym s.1) is.1))
 
-pub meets_mark : {test : Lexeme → Bool} (b : Behind) (m : Mark test) → covers b m.opens ≡ true → meets b (mark_as m) ≡ true
-meets_mark b m e = and_from (covers b m.opens) (covers Anything m.after) e (grind arith)
-
-abbrev pub close_as : {A : Type 0} → {test : Lexeme → Bool} → {p : Part A} → (w : Written p) → (m : Mark test) → covers w.after m.opens ≡ true → Written (p ◂ test)
-close_as {test = test} {p = p} w m e =
-    carry_as (then_as w (mark_as m) (meets_mark w.after m e)) (p ◂ test) w.Fit w.Is (λ v fit. ((v, tt), (fit, tt))) (λ v fit ts s. ((v, tt), refl, s)) (λ v ts s. (s.0, s.2, λ is. subst w.Is (sym s.1) is.0))
+abbrev pub close_as : {A : Type 0} → {test : Lexeme → Bool} → {p : Part A} → (w : Written p) → (m : Mark test) → meets w.after m.written ≡ true → Written (p ◂ test)
+close_as {test = test} {p = p} w m e = carry_as (then_as w m.written e) (p ◂ test) w.Fit w.Is (λ v fit. ((v, tt), (fit, m.fit))) (λ v fit ts s. ((v, tt), refl, s)) (λ v ts s. (s.0, s.2, λ is. subst w.Is (sym s.1) is.0))
 
 -- a key word behind a space, and the semicolon
 abbrev pub word_then : {A : Type 0} → {p : Part A} → (w : List ℕ) → (is : is_key (str_to_ascii_lowercase w) w ≡ true) → (x : Written p) → meets Words x ≡ true → Written (is_word (str_to_ascii_lowercase w) ▸ p)
 word_then w is x e = lead_as (word_as space w is) x e
 
-abbrev pub end_as : {A : Type 0} → {p : Part A} → (w : Written p) → covers w.after Safe ≡ true → Written (p ◂ semicolon)
+abbrev pub end_as : {A : Type 0} → {p : Part A} → (w : Written p) → meets w.after ending.written ≡ true → Written (p ◂ semicolon)
 end_as w e = close_as w ending e
 
 -- ---- values seen through others, and the same part in other words
@@ -315,14 +254,6 @@ like_as w P to from = is_as (fit_as w P to) P from
 abbrev pub shown_as : {A B : Type 0} → {p : Part A} → (f : A → B) → (w : Written p) → (P : B → Type 0) → ((x : B) → P x → (y : A) × w.Fit y × (f y ≡ x)) → ((y : A) → w.Is y → P (f y)) → Written (seen f p)
 shown_as f w P to from = like_as (seen_as f w) P to (λ x is. subst P is.2 (from is.0 is.1))
 
--- the same text in other pieces
-abbrev pub pieces_as : {A : Type 0} → {p : Part A} → (w : Written p) → (pieces : (v : A) → w.Fit v → List (List ℕ)) → ((v : A) (fit : w.Fit v) → joined (w.pieces v fit) ≡ joined (pieces v fit)) → Written p
-pieces_as w pieces same = record w {
-  pieces = pieces;
-  put = λ v fit others follows e. same_text (joined (w.pieces v fit)) (joined (pieces v fit)) (same v fit) (w.put v fit others follows e);
-  begins = λ v fit. subst (Opens w.lacks w.opens) (same v fit) (w.begins v fit);
-}
-
 -- where less may stand behind
 abbrev pub after_as : {A : Type 0} → {p : Part A} → (w : Written p) → (b : Behind) → covers w.after b ≡ true → Written p
 after_as w b e = record w { after = b; put = λ v fit others follows h. w.put v fit others follows (admitted w.after b (spelled others) e h) }
@@ -333,19 +264,7 @@ wider_as {p = p} more w = carry_as w (wider more p) w.Fit w.Is (λ v fit. (v, fi
 
 -- a part that is read, and never written
 abbrev pub heard_as : {A : Type 0} → {p : Part A} → (Is : A → Type 0) → Yields Is p → Written p
-heard_as {p = p} Is made = record {
-  Fit = λ v. ⊥;
-  Is = Is;
-  pieces = λ v fit. [];
-  after = Anything;
-  opens = End;
-  lacks = false;
-  closed = false;
-  put = λ v fit. absurd fit;
-  begins = λ v fit. absurd fit;
-  made = made;
-  closes = not_closed p;
-}
+heard_as Is made = record (leaf_as (λ v. ⊥) Is [] (λ v fit. []) Anything (λ v fit. absurd fit) made) { opens = End; begins = λ v fit. absurd fit }
 
 -- ---- one of two, and no token
 
@@ -365,9 +284,6 @@ choose_begins a b v (inr y) = other_opens a.lacks b.lacks a.opens b.opens (joine
 pub choose_made : {A : Type 0} (p q : Part A) (test : Lexeme → Bool) (P Q : A → Type 0) → Yields P p → Yields Q q → Yields (λ v. P v ⊎ Q v) (choose test p q)
 choose_made p q test P Q f g v ts r came spells = elim spells [ inl s ↦ inl (f v ts r came s) | inr s ↦ inr (g v ts r came s) ]
 
-pub choose_closes : {A : Type 0} (p q : Part A) (test : Lexeme → Bool) (a b : Bool) → (a ≡ true → Closes semicolon p) → (b ≡ true → Closes semicolon q) → (a && b) ≡ true → Closes semicolon (choose test p q)
-choose_closes p q test a b f g e v ts spells = let both = and_parts a b e in elim spells [ inl s ↦ f both.0 v ts s | inr s ↦ g both.1 v ts s ]
-
 abbrev pub choose_as : {A : Type 0} → {p q : Part A} → {test : Lexeme → Bool} → (a : Written p) → (b : Written q) → Written (choose test p q)
 choose_as {p = p} {q = q} {test = test} a b = record {
   Fit = λ v. a.Fit v ⊎ b.Fit v;
@@ -380,7 +296,7 @@ choose_as {p = p} {q = q} {test = test} a b = record {
   put = λ v fit others follows e. choose_puts test a b v others follows e fit;
   begins = λ v fit. choose_begins a b v fit;
   made = choose_made p q test a.Is b.Is a.made b.made;
-  closes = choose_closes p q test a.closed b.closed a.closes b.closes;
+  closes = λ e v ts spells. let both = and_parts a.closed b.closed e in elim spells [ inl s ↦ a.closes both.0 v ts s | inr s ↦ b.closes both.1 v ts s ];
 }
 
 -- a part that is written in two ways
@@ -535,7 +451,7 @@ lone_as w is = record { written = w; At = λ n. w.Fit; pick = λ n v fit. fit; i
 abbrev pub kind_as : {A B : Type 0} → {P : B → Type 0} → {p : Part A} → (f : A → B) → (w : Written p) → ((v : A) → w.Is v → P (f v)) → Kinds P (seen f p)
 kind_as {P = P} f w is = lone_as (seen_as f w) (λ v h. subst P h.2 (is h.0 h.1))
 
-abbrev pub led_as : {A : Type 0} → {P : A → Type 0} → {test : Lexeme → Bool} → {p : Part A} → (m : Mark test) → (k : Kinds P p) → meets m.after k.written ≡ true → Kinds P (test ▸ p)
+abbrev pub led_as : {A : Type 0} → {P : A → Type 0} → {test : Lexeme → Bool} → {p : Part A} → (m : Mark test) → (k : Kinds P p) → meets m.written.after k.written ≡ true → Kinds P (test ▸ p)
 led_as m k e = record { written = lead_as m k.written e; At = k.At; pick = k.pick; is = k.is }
 
 abbrev pub AtOne : {A : Type 0} → (A → Type 0) → (ℕ → A → Type 0) → ℕ → A → Type 0

@@ -1,12 +1,11 @@
 -- A constraint's text is read whole, as the statement that adds it.
-use Rattle.std.proofs.Common.{◌≡◌, ℕ, ◌+◌, ◌<◌, Bool, true, false, cond, List, [], ◌∷◌, ◌++◌, length, append-nil, Option, Some, None, Result, Ok, refl, sym, ap, subst, ◌∙◌, arith, inl, inr, codes}
+use Rattle.std.proofs.Common.{◌≡◌, ℕ, ◌+◌, Bool, true, false, cond, List, [], ◌∷◌, ◌++◌, length, append-nil, Option, Some, None, Result, Ok, refl, sym, ap, subst, ◌∙◌, arith, inl, inr, codes}
 use Rattle.std.proofs.lemmas.Bool.{and_parts, eq-eqb}
 use Rattle.std.specs.Str.{is_utf8, chars}
 use Rattle.std.proofs.Math.Utf8.{encode}
 use Rattle.sql_lex.specs.Bytes.{is_digit, begins_word, in_word}
 use Rattle.sql_lex.specs.Reserved.{is_reserved}
 use Rattle.sql_lex.specs.Written.{begins_bare, is_bare, written_name}
-use Rattle.sql_lex.specs.declared.token.TokenKind.TheVariants.{Sign}
 use Rattle.sql_lex.proofs.Passing.{next_at_end}
 use Rattle.copy_text.specs.Texts.{IsName}
 use Rattle.copy_text.proofs.TextLemmas.{name_from_test}
@@ -21,18 +20,17 @@ use Rattle.cat_sound.specs.Itself.{check_of, IsConstraint, IsOfKind}
 use Rattle.cat_model.specs.Values.{Bytes}
 use Rattle.ddl_parts.specs.Collecting.{Collected, collected, collected_within, collected_by}
 use Rattle.ddl_parts.specs.Expressions.{nested}
-use Rattle.ddl_parts.specs.Lexemes.{Lexeme, start_of, is_sign, is_word, spelled}
+use Rattle.ddl_parts.specs.Lexemes.{Lexeme, start_of, is_word}
 use Rattle.ddl_parts.specs.Parts.{Part, mark, seen, branch, one_of, ◌▸◌}
 use Rattle.ddl_parts.specs.Pieces.{lexemes}
 use Rattle.ddl_parts.specs.declared.pieces.Piece.{Piece}
 use Rattle.ddl_forms.specs.Texts.{semicolon}
-use Rattle.ddl_forms.proofs.Behind.{admits, Safe, End, opened}
 use Rattle.ddl_forms.proofs.Closing.{ends_with, only_last}
 use Rattle.ddl_forms.proofs.Expressions.{expression_as}
-use Rattle.ddl_forms.proofs.Putting.{Follows, IsPut, nothing_follows, one_put, joined-append}
+use Rattle.ddl_forms.proofs.Putting.{IsPut, nothing_follows, joined-append}
 use Rattle.ddl_forms.proofs.Standing.{Stood, placed}
-use Rattle.ddl_forms.proofs.Tokens.{none, space, newline, a_sign, is_single}
-use Rattle.ddl_forms.proofs.Written.{Written, Mark, heard_as, is_key, name_as, path_as, then_as, lead_as, close_as, word_as, word_then, choose_as, seen_as, mark_closes}
+use Rattle.ddl_forms.proofs.Tokens.{none, space, newline}
+use Rattle.ddl_forms.proofs.Written.{Written, heard_as, is_key, name_as, path_as, then_as, lead_as, close_as, word_as, word_then, choose_as, seen_as, ending_as}
 use Rattle.ddl_read.specs.declared.alters.Constraint.{Constraint}
 use Rattle.ddl_read.specs.declared.alters.Constraint.TheVariants.{Check, Primary, Unique, Foreign as ForeignKey}
 use Rattle.ddl_read.specs.declared.alters.TableChange.TheVariants.{Added}
@@ -60,32 +58,6 @@ use Rattle.sound_texts.proofs.Tested.{run_from, columns_from, rest_from, path_fr
 use Rattle.good_texts.specs.Rows.{key_said, foreign_said, check_said, some_table, constraint_text}
 use Rattle.good_texts.proofs.Wholes.{are_collected, ends_well}
 
--- ---- a semicolon on a line of its own
-
-none_behind : (others : List Lexeme) → Stood others → admits End (spelled others) ≡ true → others ≡ []
-none_behind [] stood e = refl
-none_behind (t ∷ ts) stood e = by t.gap t.word stood.0.some e
-  where
-    by : (gap word : Bytes) → 0 < length word → admits End (gap ++ (word ++ spelled ts)) ≡ true → t ∷ ts ≡ []
-    by [] [] some e = absurd (omega arith)
-    by [] (b ∷ word) some e = absurd cc
-    by (b ∷ gap) word some e = absurd cc
-
-line_put : (others : List Lexeme) → Follows others → admits End (spelled others) ≡ true → IsPut (mark semicolon) tt (10 ∷ 59 ∷ []) others
-unfolding is_single is_sign
-line_put others follows e = one_put (mark semicolon) tt (record { gap = 10 ∷ []; kind = Sign 59; word = 59 ∷ []; start = 0 }) others (a_sign 59 (spelled others) newline refl) (inr (none_behind others follows.stood e)) (λ at. (_, refl, refl)) follows
-
-abbrev line_ending : Mark semicolon
-line_ending = record {
-  pieces = (10 ∷ 59 ∷ []) ∷ [];
-  after = End;
-  opens = Safe;
-  closed = true;
-  put = line_put;
-  begins = opened (10 ∷ 59 ∷ []) [];
-  closes = λ e. mark_closes semicolon;
-}
-
 -- ---- the statement around a constraint's text
 
 abbrev unwritten : {A : Type 0} → {p : Part A} → Written p
@@ -93,7 +65,7 @@ unwritten = heard_as (λ v. Unit {0}) (λ v ts r came spells. tt)
 
 unfoldable added_as : Written added
 unfolding added is_key constraint_body_as
-added_as = seen_as added_of (word_then (codes "CONSTRAINT") refl (then_as (name_as space) (close_as constraint_body_as.written line_ending refl) refl) refl)
+added_as = seen_as added_of (word_then (codes "CONSTRAINT") refl (then_as (name_as space) (close_as constraint_body_as.written (ending_as newline) refl) refl) refl)
 
 unfoldable own_as : Written own_change
 unfolding own_change is_key added_as
