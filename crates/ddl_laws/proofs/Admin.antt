@@ -1,5 +1,5 @@
 -- Comments, roles and databases: each part of their grammar with the text that it is written in.
-use Rattle.ddl_laws.proofs.Common.{◌≡◌, ℕ, Bool, true, false, List, [], ◌∷◌, ◌++◌, Option, Some, None, Ok, refl, ap, ◌⊎◌, inl, inr, codes, IsUtf8, is_utf8, chars, str_to_ascii_lowercase, encode, IsUtf8-from_is_utf8, Encoding, Utf8, Lexeme, is_word, literal_value, Part, joined, flag_text, limit_text, given_literal, remark_text, remark, remark_end, name_remarked, path_remarked, column_remarked, constraint_remarked, commented_object, comment_on, later_flags, role_flags, role_settings, changes_by, role_changes, alter_role, furthers, utf8_in, utf8_value, encoded, maybe_encoded, create_database, Words, Safe, number_as, none, space, Written, Kinds, given_or, or_given, literal_said, is_key, dot_as, equals_as, word_as, mark_as, meets, name_as, literal_as, path_as, then_as, lead_as, word_then, end_as, seen_as, fit_as, like_as, shown_as, pieces_as, after_as, wider_as, choose_as, heard_as, nothing_as, OptionFit, maybe_as, many_as, kind_as, led_as, or_as, IsGivenText, IsLimit, AreChanges, IsWritable}
+use Rattle.ddl_laws.proofs.Common.{◌≡◌, ℕ, Bool, true, false, List, [], ◌∷◌, ◌++◌, Option, Some, None, Ok, refl, ap, ◌⊎◌, inl, inr, codes, IsUtf8, is_utf8, chars, str_to_ascii_lowercase, encode, IsUtf8-from_is_utf8, Encoding, Utf8, Lexeme, is_word, literal_value, Part, joined, flag_text, limit_text, given_literal, remark_text, remark, remark_end, name_remarked, path_remarked, column_remarked, constraint_remarked, commented_object, later_flags, role_flags, role_settings, changes_by, role_changes, alter_role, furthers, utf8_in, utf8_value, encoded, maybe_encoded, create_database, Words, Safe, number_as, none, space, Written, Kinds, given_or, or_given, literal_said, is_key, dot_as, equals_as, word_as, mark_as, meets, name_as, literal_as, path_as, then_as, lead_as, word_then, end_as, seen_as, fit_as, like_as, shown_as, pieces_as, after_as, wider_as, choose_as, heard_as, nothing_as, OptionFit, maybe_as, many_as, kind_as, led_as, or_as, IsGivenText, IsLimit, AreChanges, IsWritable}
 use Rattle.ddl_admin.specs.{Choices.any_word, Choices.clause, Choices.flag, Choices.said, Choices.◌before◌, Databases.goes_on, Databases.options}
 use Rattle.cat_model.specs.declared.grant.Commented.TheVariants as commented
 use Rattle.cat_model.specs.declared.stmt.Stmt.TheVariants as stmt

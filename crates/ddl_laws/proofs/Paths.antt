@@ -1,5 +1,5 @@
 -- A path in a literal: it is UTF-8, and read back where it is a whole text.
-use Rattle.ddl_laws.proofs.Common.{◌≡◌, ℕ, Bool, true, List, [], ◌∷◌, ◌++◌, append-nil, Result, Ok, Err, refl, sym, ap, subst, ◌∙◌, arith, IsUtf8, is_utf8, chars, encode, and_parts, IsUtf8-append, IsUtf8-from_is_utf8, spelling, written_name, token_at, written_kind, IsName, QName, Lexeme, is_sign, spelled, literal_value, qualified, lexemes, is_sound, collected, token_sound, path, path_in, path_of, path_value, literal_path, IsPath, have_come, Stood, placed, NoSemicolon, collects_all, name_token, sign_token, Gap, none, a_name, is_single, name_means, name_no_sign, Written, literal_said, path_as}
+use Rattle.ddl_laws.proofs.Common.{◌≡◌, ℕ, Bool, List, [], ◌∷◌, ◌++◌, append-nil, Result, Ok, Err, refl, sym, ap, subst, ◌∙◌, arith, IsUtf8, is_utf8, chars, encode, and_parts, IsUtf8-append, IsUtf8-from_is_utf8, written_name, token_at, written_kind, IsName, QName, Lexeme, is_sign, literal_value, qualified, lexemes, is_sound, collected, token_sound, path, path_in, path_of, path_value, literal_path, IsPath, have_come, Stood, placed, NoSemicolon, collects_all, name_token, sign_token, Gap, none, a_name, is_single, name_means, name_no_sign, Written, literal_said, path_as}
 use Rattle.ddl_forms.proofs.Tokens.{a_sign}
 use Rattle.ddl_laws.proofs.GrammarLaws.{path_found, path_only}
 

@@ -1,10 +1,10 @@
 -- Written statements, joined, read as the same statements; and what is read of a text can be written.
-use Rattle.ddl_laws.proofs.Common.{cases_Bool, and_parts, and_from, or_right, drop_all, list_all-append, IsUtf8-append, IsUtf8-from_is_utf8, is_utf8-from_IsUtf8, ◌≡◌, ℕ, suc, ◌+◌, Bool, true, cond, ◌&&◌, ◌-◌, List, [], ◌∷◌, ◌++◌, length, length-append, append_assoc, append-nil, Option, Some, None, Result, Ok, Err, refl, sym, ap, subst, ◌∙◌, arith, ◌⊎◌, inl, inr, codes, ◌≤◌, ◌==◌, slice_index, list_all, AllByRecursion, is_utf8, IsUtf8, chars, encode, Token, LexFault, next_token_of, spelling as token_text, IsMetaLine, goes_on, token_at, written_kind, next_at_end, spelling_is_read, Piece, is_sign_kind, Lexeme, spelled, is_sign, start_of, name_value, is_name, is_name_kind, lexeme_of, lexemes, Collected, collected, collected_within, collected_by, nothing_more, preceded, name_begins, IsLine, IsStatement, Reads, all_read, one_read, line_read, line_token, a_name, Gap, passed, space, gap_stands, name_no_sign, name_means, none, newline, IsName, is_blank, in_line, next_is, begins_line, doubled, quoted, written_name, MetaLine, connect_text, unknown, named, stands_alone, one_name, name_alone, connected, command_len, said_by, meta_line, IsSaid, Stmt, Located, semicolon, statement, Whole, whole, with_rows, completed, first_start, listed, statements_of, listed as listed_before, DdlFault, AreRows, Copied, rows_behind, rows_read_back, read_are_rows, end_mark, QName, nothing_follows, joined-append, IsWritable, AllWritable, spellings, said, ends_with, only_last, Stood, placed, collects, columns, AllCame, have_come, came_token}
+use Rattle.ddl_laws.proofs.Common.{cases_Bool, and_parts, and_from, or_right, drop_all, list_all-append, IsUtf8-append, IsUtf8-from_is_utf8, is_utf8-from_IsUtf8, ◌≡◌, ℕ, suc, ◌+◌, Bool, true, cond, ◌&&◌, ◌-◌, List, [], ◌∷◌, ◌++◌, length, length-append, append_assoc, append-nil, Option, Some, None, Result, Ok, Err, refl, sym, ap, subst, ◌∙◌, arith, ◌⊎◌, inl, inr, codes, ◌≤◌, ◌==◌, slice_index, list_all, is_utf8, IsUtf8, chars, encode, Token, LexFault, next_token_of, spelling as token_text, IsMetaLine, goes_on, token_at, written_kind, next_at_end, spelling_is_read, Piece, Lexeme, spelled, is_sign, start_of, name_value, is_name, is_name_kind, lexeme_of, lexemes, Collected, collected, collected_within, collected_by, nothing_more, preceded, name_begins, IsLine, IsStatement, Reads, all_read, one_read, line_read, line_token, a_name, Gap, passed, space, gap_stands, name_no_sign, name_means, none, newline, IsName, is_blank, in_line, next_is, begins_line, doubled, quoted, written_name, MetaLine, connect_text, unknown, named, stands_alone, one_name, name_alone, connected, command_len, said_by, meta_line, IsSaid, Stmt, Located, semicolon, statement, Whole, whole, with_rows, completed, first_start, listed, statements_of, listed as listed_before, DdlFault, AreRows, rows_behind, rows_read_back, read_are_rows, end_mark, QName, nothing_follows, joined-append, IsWritable, AllWritable, spellings, said, ends_with, only_last, Stood, placed, collects, columns, AllCame, have_come, came_token}
 use Rattle.ddl_parts.proofs.Lemmas.{newline as line_feed}
 use Rattle.ddl_write.specs.Spelling.{spelling}
 use Rattle.ddl_forms.proofs.{Passed.both_passed, Passed.feed_passed, Passed.comment_passed, Tokens.passes}
-use Rattle.ddl_laws.proofs.{ReadingLaws.collected_first, ReadingLaws.statement_closes, ReadingLaws.only, ReadingLaws.found, ReadingLaws.ends_past, ReadingLaws.line_past, Paths.name_utf8, Whole.command_as, Whole.statement_as, Whole.IsSpelled, Whole.spelled_so, Whole.copy_head, Whole.copy_is, Whole.copy_spelled, Whole.both_behind}
-use Rattle.ddl_laws.specs.{Respelling.IsPath, Laying.Lays, Laying.no_more, Laying.empty_line, Laying.comment_line, Laying.statement_text, Laying.comment}
+use Rattle.ddl_laws.proofs.{ReadingLaws.collected_first, ReadingLaws.statement_closes, ReadingLaws.exact, ReadingLaws.ends_past, ReadingLaws.line_past, Paths.name_utf8, Whole.command_as, Whole.statement_as, Whole.IsSpelled, Whole.spelled_so, Whole.copy_head, Whole.copy_is, Whole.copy_spelled, Whole.both_behind}
+use Rattle.ddl_laws.specs.{Laying.Lays, Laying.no_more, Laying.empty_line, Laying.comment_line, Laying.statement_text, Laying.comment}
 use Rattle.ddl_lines.proofs.LineNames.{said_is_a_name}
 use Rattle.cat_model.specs.declared.stmt.Stmt.TheVariants as stmt
 
@@ -257,7 +257,7 @@ laid_read text front g _ _ gap fresh (statement_text s rest statements can lays)
 -- ---- whole texts
 
 pub laid_out_read : (text : List ℕ) (statements : List Stmt) → Lays text statements → (found : List Located) × (statements_of text ≡ Ok found) × (said found ≡ statements)
-laid_out_read text statements lays = let r = laid_read text [] [] text statements none (inl refl) lays refl in (r.found, only text r.found r.reads, r.same)
+laid_out_read text statements lays = let r = laid_read text [] [] text statements none (inl refl) lays refl in (r.found, (exact text (Ok r.found)).1 r.reads, r.same)
 
 -- spellings that are joined lie one behind another
 all_lay : (statements : List Stmt) → AllWritable statements → Lays (spellings statements) statements
@@ -323,7 +323,7 @@ all_writable text _ _ le (line_read at s start end more is others) = grind (arit
 
 -- what was read of a text can be written
 pub read_is_writable : (text : List ℕ) (statements : List Located) → statements_of text ≡ Ok statements → AllWritable (said statements)
-read_is_writable text statements e = all_writable text 0 statements (omega arith) (found text statements e)
+read_is_writable text statements e = all_writable text 0 statements (omega arith) ((exact text (Ok statements)).0 e)
 
 pub read_again : (text : List ℕ) (statements : List Located) → statements_of text ≡ Ok statements → (same : List Located) × (statements_of (spellings (said statements)) ≡ Ok same) × (said same ≡ said statements)
 read_again text statements e = joined_read (said statements) (read_is_writable text statements e)

@@ -1,6 +1,6 @@
 -- GRANT and REVOKE: each part of their grammar with the text that it is written in.
-use Rattle.ddl_laws.proofs.Common.{arith, ◌≡◌, ℕ, Bool, true, false, not, cond, ◌&&◌, List, [], ◌∷◌, ◌++◌, map, append_assoc, append-nil, Option, Some, None, Result, Ok, Err, refl, sym, ap, subst, ◌∙◌, ◌⊎◌, inl, inr, codes, flat_map, is_utf8, chars, encode, and_parts, not-true, Word, is_keyword_of, name_of, written_kind, written_name, IsName, Rights, Granted, Stmt, no_rights, has_rights, Lexeme, is_word, is_sign, spelled, comma, Part, ◌then◌, ◌▸◌, name, name_value, name_in, joined, only_if, is_all, with_commas, right_list, rights_text, granted_words, granted_name, grantee_text, with_right, only, within, kind_rights, goes_with, right_first, wanted_first, wanted, joining, right_behind, more_rights, all_of, rights_from, kind_has, having, kind_with, rights_on, object, on_object, rights_and_object, grantee_of, grantee, truth_first, set_behind, inherit_and_set, others_behind, options, with_options, granted_by, member, member_of, membership, grant_option, to_grantee, from_grantee, grant_rights, revoke_rights, first, behind_first, granted, revoked, Behind, Anything, Words, Safe, End, admits, covers, through, admitted, looser, Opens, then_opens, Closes, ends_with, ends_append, AllCame, came_front, came_behind, Follows, IsPut, put_as, joined-append, none, space, name_token, value_name, Written, Kinds, given_or, or_given, meets, is_bare_word, Says, word_said, name_said, is_key, comma_as, ending, mark_as, name_as, path_as, then_as, then_puts, lead_as, word_then, end_as, seen_as, is_as, like_as, pieces_as, choose_as, heard_as, also_as, AllFit, items_pieces, many_as, lone_as, IsWritable}
-use Rattle.cat_model.specs.{declared.grant.Grantee.Grantee, Lexemes.same_text}
+use Rattle.ddl_laws.proofs.Common.{arith, ◌≡◌, ◌||◌, OptionFit, after_as, ℕ, Bool, true, false, not, cond, ◌&&◌, List, [], ◌∷◌, ◌++◌, map, append_assoc, append-nil, Option, Some, None, Ok, refl, sym, ap, subst, ◌∙◌, inl, inr, codes, flat_map, is_utf8, chars, encode, and_parts, not-true, Word, is_keyword_of, name_of, written_kind, written_name, IsName, Rights, Granted, Stmt, no_rights, has_rights, Lexeme, is_word, comma, Part, ◌then◌, ◌▸◌, name, name_value, name_in, joined, only_if, is_all, with_commas, right_list, rights_text, granted_words, granted_name, grantee_text, with_right, only, within, kind_rights, goes_with, right_first, wanted_first, wanted, joining, right_behind, more_rights, all_of, rights_from, kind_has, having, kind_with, rights_on, object, on_object, rights_and_object, grantee_of, grantee, truth_first, set_behind, inherit_and_set, others_behind, options, with_options, granted_by, member, member_of, membership, grant_option, to_grantee, from_grantee, grant_rights, revoke_rights, first, behind_first, granted, revoked, Behind, Anything, Words, Safe, End, admits, covers, through, looser, put_as, joined-append, none, space, name_token, value_name, Written, Kinds, given_or, or_given, is_bare_word, Says, word_said, name_said, is_key, comma_as, ending, mark_as, name_as, path_as, then_as, lead_as, word_then, end_as, seen_as, is_as, like_as, pieces_as, choose_as, heard_as, also_as, AllFit, items_pieces, many_as, lone_as, IsWritable}
+use Rattle.cat_model.specs.{declared.grant.Grantee.Grantee}
 use Rattle.ddl_write.specs.Roles.{truth as truth_word}
 use Rattle.ddl_rights.proofs.{RightsLaws.object_on, RightsLaws.right_word, RightsLaws.wanted_is, RightSets.has_some, RightSets.has_it, RightSets.kind_some, RightSets.kind_whole, RightSets.all_is, RightSets.listed_is, RightSets.some_listed, RightSets.written_word, RightSets.words_are, RightSets.AllGo, RightSets.all_go}
 use Rattle.ddl_rights.specs.{declared.rights.Right.Right, declared.rights.Right.TheVariants.Select, declared.rights.Kind.Kind, declared.rights.Kind.TheVariants.Tables, declared.rights.Kind.TheVariants.Sequences, declared.rights.Kind.TheVariants.Schemas, declared.rights.Kind.TheVariants.Types, declared.rights.Wanted.Wanted, declared.rights.Wanted.TheVariants.All, declared.rights.Wanted.TheVariants.These, Depending.◌thenby◌, Values.told, RightsGrammar.kind_first, Memberships.truth, Grants.First, Grants.named_by, Writable.kind_of, Writable.IsObject, Writable.AreRights, Writable.IsGrantee, Writable.IsGrantor}
@@ -10,45 +10,40 @@ use Rattle.cat_model.specs.declared.stmt.Stmt.TheVariants as stmt
 
 -- ---- a part whose value decides what stands behind it
 
--- What was decided begins with what may stand behind the first part, and with what this opens; and before what may stand
--- behind it all.
-abbrev pub decides : {A B : Type 0} → {p : Part A} → {q : Part B} → Behind → Behind → Written p → Written q → Bool
-decides opens m a b = meets a.after b && (covers b.after m && (covers opens b.opens && not b.lacks))
+-- it begins with what this opens, before what may stand behind it, and closes where that is asked
+abbrev pub lies_within : {A : Type 0} → {p : Part A} → Behind → Behind → Bool → Written p → Bool
+lies_within opens m closed w = covers w.after m && (covers opens w.opens && (not w.lacks && (not closed || w.closed)))
 
-pub thenby_puts : {A B : Type 0} {p : Part A} {f : A → Part B} (a : Written p) (b : (v : A) → Written (f v)) (opens m : Behind) (v : A) → decides opens m a (b v) ≡ true → (w : B) (fit : a.Fit v) (other : (b v).Fit w) (others : List Lexeme) → Follows others → admits m (spelled others) ≡ true
-    → IsPut (p thenby f) w (joined (a.pieces v fit ++ (b v).pieces w other)) others
-thenby_puts {p = p} {f = f} a b opens m v e w fit other others follows h =
-    let x = b v in
-    let both = and_parts (meets a.after x) (covers x.after m && (covers opens x.opens && not x.lacks)) e in
-    put_as (p then f v) (p thenby f) (v, w) w (joined (a.pieces v fit ++ x.pieces w other)) others
-    (then_puts a x both.0 v w fit other others follows (admitted x.after m (spelled others) (and_parts (covers x.after m) (covers opens x.opens && not x.lacks) both.1).0 h)) (λ ts s. (v, s.0, s.1, s.2, s.3, s.4))
+-- the same part, where this alone is known of it
+abbrev pub within_as : {A : Type 0} → {p : Part A} → (opens m : Behind) → (closed : Bool) → (w : Written p) → lies_within opens m closed w ≡ true → Written p
+within_as opens m closed w e =
+    let ends = and_parts (covers w.after m) (covers opens w.opens && (not w.lacks && (not closed || w.closed))) e in
+    let begins = and_parts (covers opens w.opens) (not w.lacks && (not closed || w.closed)) ends.1 in
+    let some = and_parts (not w.lacks) (not closed || w.closed) begins.1 in
+    record (after_as w m ends.0) {
+      opens = opens;
+      lacks = false;
+      closed = closed;
+      begins = λ v fit n c rest h. w.begins v fit n (through n opens w.opens c begins.0) rest (ap (λ (l : Bool). admits (cond l n Anything) rest) (not-true w.lacks some.0));
+      closes = λ is. w.closes (ap (λ (b : Bool). not b || w.closed) (sym is) ∙ some.1);
+    }
 
-pub thenby_begins : {A B : Type 0} {p : Part A} {f : A → Part B} (a : Written p) (b : (v : A) → Written (f v)) (opens m : Behind) (v : A) → decides opens m a (b v) ≡ true → (w : B) (fit : a.Fit v) (other : (b v).Fit w)
-    → Opens (cond a.lacks false false) (cond a.lacks (looser a.opens opens) a.opens) (joined (a.pieces v fit ++ (b v).pieces w other))
-thenby_begins a b opens m v e w fit other =
-    let x = b v in
-    let both = and_parts (meets a.after x) (covers x.after m && (covers opens x.opens && not x.lacks)) e in
-    let opening = and_parts (covers opens x.opens) (not x.lacks) (and_parts (covers x.after m) (covers opens x.opens && not x.lacks) both.1).1 in
-    subst (Opens (cond a.lacks false false) (cond a.lacks (looser a.opens opens) a.opens)) (sym (joined-append (a.pieces v fit) (x.pieces w other)))
-    (then_opens a.lacks false a.opens opens (joined (a.pieces v fit)) (joined (x.pieces w other)) (a.begins v fit)
-    (λ n c rest h. x.begins w other n (through n opens x.opens c opening.0) rest (ap (λ (l : Bool). admits (cond l n Anything) rest) (not-true x.lacks opening.1))))
-
-abbrev pub thenby_as : {A B : Type 0} → {p : Part A} → {f : A → Part B} → (a : Written p) → (b : (v : A) → Written (f v)) → (opens m : Behind) → ((v : A) → decides opens m a (b v) ≡ true) → (closed : Bool) → ((v : A) → closed ≡ true → Closes (is_sign 59) (f v)) → Written (p thenby f)
-thenby_as {A} {p = p} {f = f} a b opens m e closed closes = record {
-  Fit = λ w. (v : A) × a.Fit v × (b v).Fit w;
-  Is = λ w. (v : A) × a.Is v × (b v).Is w;
-  pieces = λ w fit. a.pieces fit.0 fit.1 ++ (b fit.0).pieces w fit.2;
-  after = m;
-  opens = cond a.lacks (looser a.opens opens) a.opens;
-  lacks = cond a.lacks false false;
-  closed = closed;
-  put = λ w fit. thenby_puts a b opens m fit.0 (e fit.0) w fit.1 fit.2;
-  begins = λ w fit. thenby_begins a b opens m fit.0 (e fit.0) w fit.1 fit.2;
-  made = λ w ts r came s.
-      let parts : AllCame (s.1 ++ s.2) r = subst (λ (us : List Lexeme). AllCame us r) s.3 came in
-      (s.0, a.made s.0 s.1 _ (came_front s.1 s.2 r parts) s.4, (b s.0).made w s.2 r (came_behind s.1 s.2 r parts) s.5);
-  closes = λ is w ts s. ap (ends_with (is_sign 59)) s.3 ∙ ends_append (is_sign 59) s.1 s.2 (closes s.0 is w s.2 s.5);
-}
+abbrev pub thenby_as : {A B : Type 0} → {p : Part A} → {f : A → Part B} → (a : Written p) → (b : (v : A) → Written (f v)) → (opens m : Behind) → (closed : Bool) → ((v : A) → lies_within opens m closed (b v) ≡ true) → (covers a.after opens && covers Anything m) ≡ true → Written (p thenby f)
+thenby_as {A} {p = p} {f = f} a b opens m closed e meet =
+    let whole : (v : A) → Written (p then f v) = λ v. then_as a (within_as opens m closed (b v) (e v)) meet in
+    record {
+      Fit = λ w. (v : A) × a.Fit v × (b v).Fit w;
+      Is = λ w. (v : A) × a.Is v × (b v).Is w;
+      pieces = λ w fit. a.pieces fit.0 fit.1 ++ (b fit.0).pieces w fit.2;
+      after = m;
+      opens = cond a.lacks (looser a.opens opens) a.opens;
+      lacks = cond a.lacks false false;
+      closed = closed;
+      put = λ w fit others follows h. put_as (p then f fit.0) (p thenby f) (fit.0, w) w (joined (a.pieces fit.0 fit.1 ++ (b fit.0).pieces w fit.2)) others ((whole fit.0).put (fit.0, w) (fit.1, fit.2) others follows h) (λ ts s. (fit.0, s.0, s.1, s.2, s.3, s.4));
+      begins = λ w fit. (whole fit.0).begins (fit.0, w) (fit.1, fit.2);
+      made = λ w ts r came s. let m = (whole s.0).made (s.0, w) ts r came (s.1, s.2, s.3, s.4, s.5) in (s.0, m.0, m.1);
+      closes = λ is w ts s. (whole s.0).closes is (s.0, w) ts (s.1, s.2, s.3, s.4, s.5);
+    }
 
 -- ---- memberships
 
@@ -63,22 +58,14 @@ truth_as = word_said space (λ b. Unit {0}) (λ b. Unit {0}) (λ b u. truth_word
 abbrev pub Anyhow : {A : Type 0} → A → Type 0
 Anyhow v = Unit {0}
 
-abbrev pub with_inherit : Bool × Bool → Option Bool × Bool
-with_inherit y = (Some y.0, y.1)
-
-abbrev pub without_inherit : Bool → Option Bool × Bool
-without_inherit b = (None, b)
-
-abbrev pub inherited : (o : Option Bool) → (z : Bool) → ((y : Bool × Bool) × (Unit {0} × Unit {0}) × (with_inherit y ≡ (o, z))) ⊎ ((b : Bool) × Unit {0} × (without_inherit b ≡ (o, z)))
-inherited None z = inr (z, tt, refl)
-inherited (Some b) z = inl ((b, z), (tt, tt), refl)
-
 unfoldable pub with_options_as : Written with_options
 unfolding with_options options others_behind inherit_and_set set_behind is_key
 with_options_as =
     let set : Written set_behind = like_as (choose_as (lead_as comma_as (word_then (codes "SET") refl truth_as refl) refl) (heard_as Anyhow (λ b ts r came h. tt))) Anyhow (λ b u. inl tt) (λ b h. tt) in
     let inherit = seen_as (λ x. (Some x.0, x.1)) (then_as truth_as set refl) in
-    let both : Written inherit_and_set = like_as (choose_as (word_then (codes "INHERIT") refl inherit refl) (word_then (codes "SET") refl (seen_as (λ b. (None, b)) truth_as) refl)) Anyhow (λ x u. inherited x.0 x.1) (λ x h. tt) in
+    let either : Written inherit_and_set = choose_as (word_then (codes "INHERIT") refl inherit refl) (word_then (codes "SET") refl (seen_as (λ b. (None, b)) truth_as) refl) in
+    let inherited : (o : Option Bool) → (z : Bool) → either.Fit (o, z) = elim [ None ↦ λ z. inr (z, tt, refl) | Some b ↦ λ z. inl ((b, z), (tt, tt), refl) ] in
+    let both = like_as either Anyhow (λ x u. inherited x.0 x.1) (λ x h. tt) in
     let others : Written others_behind = like_as (choose_as (lead_as comma_as both refl) (heard_as Anyhow (λ x ts r came h. tt))) Anyhow (λ x u. inl tt) (λ x h. tt) in
     let admin : Written options = like_as (choose_as (word_then (codes "ADMIN") refl (then_as truth_as others refl) refl) (heard_as Anyhow (λ x ts r came h. tt))) Anyhow (λ x u. inl (tt, tt)) (λ x h. tt) in
     like_as (choose_as (word_then (codes "WITH") refl admin refl) (heard_as Anyhow (λ x ts r came h. tt))) Anyhow (λ x u. inl tt) (λ x h. tt)
@@ -108,20 +95,11 @@ abbrev pub opening_name : Option Right → List ℕ
 opening_name None = codes "all"
 opening_name (Some x) = right_word x
 
-pub opening_bare : (o : Option Right) → is_bare_word (opening_word o) ≡ true
-unfolding is_bare_word
-opening_bare (Some Select) = refl
-opening_bare x = refl
-
-pub wanted_says : (o : Option Right) (t : Lexeme) → t.kind ≡ Word → t.word ≡ opening_word o → wanted_first (t ∷ []) ≡ Some (wanting o)
-unfolding wanted_first right_first is_word is_keyword_of
-wanted_says (Some Select) t k w = rw (k, w) refl
-wanted_says x t k w = rw (k, w) refl
-
-pub wanted_named : (o : Option Right) (t : Lexeme) → t.kind ≡ Word → t.word ≡ opening_word o → name_value t ≡ Ok (opening_name o)
-unfolding name_value name_in name_of is_utf8 chars encode
-wanted_named (Some Select) t k w = rw (k, w) refl
-wanted_named x t k w = rw (k, w) refl
+-- what the words say with which rights begin
+pub opening_says : (o : Option Right) → (is_bare_word (opening_word o) ≡ true) × ((t : Lexeme) → t.kind ≡ Word → t.word ≡ opening_word o → (wanted_first (t ∷ []) ≡ Some (wanting o)) × (right_first (t ∷ []) ≡ o) × (name_value t ≡ Ok (opening_name o)))
+unfolding is_bare_word wanted_first right_first is_word is_keyword_of name_value name_in name_of is_utf8 chars encode
+opening_says (Some Select) = (refl, λ t k w. rw (k, w) (refl, refl, refl))
+opening_says x = (refl, λ t k w. rw (k, w) (refl, refl, refl))
 
 -- all of a kind, or one at least
 abbrev pub AreSome : Wanted → Type 0
@@ -132,24 +110,17 @@ pub wanted_some : (ts : List Lexeme) (w : Wanted) → wanted_first ts ≡ Some w
 wanted_some = wanted_is AreSome tt (λ x. has_some (only x) x (has_it x no_rights))
 
 pub told_is : {A : Type 0} (o : Option A) (v : A) → told o ≡ Ok v → o ≡ Some v
-told_is None v e = absurd cc
-told_is (Some u) v e = let same : u ≡ v = cc in ap Some same
+told_is o v e = grind arith
 
 unfoldable pub wanted_as : Written wanted
 wanted_as =
-    word_said space (λ w. (o : Option Right) × (wanting o ≡ w)) AreSome (λ w fit. opening_word fit.0)
-    (λ w fit. (opening_bare fit.0, λ t k word. ap told (wanted_says fit.0 t k word ∙ ap Some fit.1))) (λ t w e. wanted_some (t ∷ []) w (told_is (wanted_first (t ∷ [])) w e))
-
-pub right_says : (x : Right) (t : Lexeme) → t.kind ≡ Word → t.word ≡ written_word x → right_first (t ∷ []) ≡ Some x
-unfolding right_first is_word is_keyword_of
-right_says Select t k w = rw (k, w) refl
-right_says x t k w = rw (k, w) refl
-
-pub right_means : (s : Rights) (x : Right) → goes_with s x ≡ true → (t : Lexeme) → t.kind ≡ Word → t.word ≡ written_word x → told (joining s (right_first (t ∷ []))) ≡ Ok x
-right_means s x goes t k w = ap (λ o. told (joining s o)) (right_says x t k w) ∙ ap (λ (b : Bool). told (cond b (Some x) None)) goes
+    word_said space (λ w. (o : Option Right) × (wanting o ≡ w)) AreSome (λ w fit. opening_word fit.0) (λ w fit. let h = opening_says fit.0 in (h.0, λ t k word. ap told ((h.1 t k word).0 ∙ ap Some fit.1)))
+    (λ t w e. wanted_some (t ∷ []) w (told_is (wanted_first (t ∷ [])) w e))
 
 unfoldable pub more_as : (s : Rights) → Written (comma ▸ right_behind s)
-more_as s = lead_as comma_as (word_said none (λ x. goes_with s x ≡ true) Anyhow (λ x goes. written_word x) (λ x goes. (opening_bare (Some x), right_means s x goes)) (λ t x e. tt)) refl
+more_as s =
+    lead_as comma_as (word_said none (λ x. goes_with s x ≡ true) Anyhow (λ x goes. written_word x)
+    (λ x goes. let h = opening_says (Some x) in (h.0, λ t k w. ap (λ o. told (joining s o)) (h.1 t k w).1 ∙ ap (λ (b : Bool). told (cond b (Some x) None)) goes)) (λ t x e. tt)) refl
 
 pub still_some : (r : Rights) (xs : List Right) → has_rights r ≡ true → has_rights (all_of r xs) ≡ true
 still_some r [] e = e
@@ -205,38 +176,24 @@ object_is Types o h = subst (λ (x : Granted). IsObject x × (kind_of x ≡ Type
 abbrev pub object_on_as : (w : Wanted) → (k : Kind) → Written (object_on w k)
 object_on_as w k = seen_as (λ o. (o, rights_on w k)) (object_as k)
 
-pub object_decided : (w : Wanted) (k : Kind) → decides Safe Words (kind_with_as w) (object_on_as w k) ≡ true
-unfolding kind_with_as object_as
-object_decided w Tables = refl
-object_decided w x = refl
-
 abbrev pub AreOn : Granted × Rights → Type 0
 AreOn x = IsObject x.0 × AreRights x.0 x.1
 
-pub rights_are : (w : Wanted) (k : Kind) → AreSome w → kind_has w k ≡ true → (has_rights (rights_on w k) ≡ true) × (within (rights_on w k) (kind_rights k) ≡ true)
-rights_are All k some has = (kind_some k, kind_whole k)
-rights_are (These r) k some has = (some, has)
-
 pub are_on : (w : Wanted) (k : Kind) (o : Granted) → AreSome w → kind_has w k ≡ true → IsObject o × (kind_of o ≡ k) → AreOn (o, rights_on w k)
-are_on w k o some has is = let are = rights_are w k some has in (is.0, (are.0, subst (λ (j : Kind). within (rights_on w k) (kind_rights j) ≡ true) (sym is.1) are.1))
+are_on w k o some has is = grind (arith, kind_some, kind_whole)
 
 unfoldable pub on_object_as : (w : Wanted) → Written (on_object w)
-unfolding on_object kind_with_as is_key
+unfolding on_object kind_with_as object_as is_key
 on_object_as w =
-    let whole = thenby_as (kind_with_as w) (object_on_as w) Safe Words (object_decided w) false (λ k e. absurd cc) in
+    let whole = thenby_as (kind_with_as w) (object_on_as w) Safe Words false (elim [ Tables ↦ refl | x ↦ refl ]) refl in
     is_as (word_then (codes "ON") refl whole refl) (λ x. AreSome w → AreOn x) (λ x h some. subst AreOn h.2.2 (are_on w h.0 h.2.0 some h.1 (object_is h.0 h.2.0 h.2.1)))
 
 unfoldable pub rights_and_object_as : (w : Wanted) → Written (rights_and_object w)
 unfolding rights_and_object rights_from_as on_object_as
-rights_and_object_as All = on_object_as All
-rights_and_object_as (These r) =
-    is_as (thenby_as (rights_from_as r) (λ s. on_object_as (These s)) Safe Words (λ s. refl) false (λ s e. absurd cc)) (λ x. AreSome (These r) → AreOn x)
-    (λ x h some. h.2 (ap has_rights (sym h.1.2) ∙ still_some r h.1.0 some))
-
-pub rights_is : (w : Wanted) (x : Granted × Rights) → (rights_and_object_as w).Is x → AreSome w → AreOn x
-unfolding rights_and_object_as on_object_as
-rights_is All x h = h
-rights_is (These r) x h = h
+rights_and_object_as w =
+    let each : (w : Wanted) → Written (rights_and_object w) = elim [ All ↦ on_object_as All | These r ↦ thenby_as (rights_from_as r) (λ s. on_object_as (These s)) Safe Words false (λ s. refl) refl ] in
+    let are : (w : Wanted) (x : Granted × Rights) → (each w).Is x → AreSome w → AreOn x = elim [ All ↦ λ x h. h | These r ↦ λ x h some. h.2 (ap has_rights (sym h.1.2) ∙ still_some r h.1.0 some) ] in
+    within_as Safe Words false (is_as (each w) (λ x. AreSome w → AreOn x) (are w)) (elim w as (λ w. lies_within Safe Words false (each w) ≡ true) [ All ↦ refl | These r ↦ refl ])
 
 -- ---- grantees
 
@@ -246,10 +203,7 @@ public_says n is = (refl, λ t k w. rw (k, w) (ap (λ n. Ok n) (sym is)))
 
 pub grantee_is : (n : List ℕ) → IsName n → IsGrantee (grantee_of n)
 unfolding grantee_of
-grantee_is n is = by (same_text n (codes "public")) refl
-  where
-    by : (b : Bool) → same_text n (codes "public") ≡ b → IsGrantee (cond b grantees.Public (grantees.Role n))
-    by b e = grind arith
+grantee_is n is = grind arith
 
 -- a role by its name, and all roles by a word
 abbrev pub either_name : Written name
@@ -268,23 +222,13 @@ grantee_same (grantees.Role n) is = refl
 abbrev pub grantee_as : Written grantee
 grantee_as = pieces_as (like_as (seen_as grantee_of either_name) IsGrantee grantee_fit (λ who h. subst IsGrantee h.2 (grantee_is h.0 h.1))) (λ who is. (32 ∷ []) ∷ grantee_text who ∷ []) grantee_same
 
-abbrev pub optioned : (b : Bool) → Unit {0} → ((u : Unit {0}) × Unit {0} × (true ≡ b)) ⊎ ((u : Unit {0}) × Unit {0} × (false ≡ b))
-optioned true u = inl (tt, tt, refl)
-optioned false u = inr (tt, tt, refl)
-
-unfoldable pub either_option_as : Written grant_option
-unfolding grant_option is_key
-either_option_as =
-    let words = word_then (codes "WITH") refl (word_then (codes "GRANT") refl (word_then (codes "OPTION") refl (mark_as ending) refl) refl) refl in
-    like_as (choose_as (seen_as (λ x. true) words) (seen_as (λ x. false) (mark_as ending))) Anyhow optioned (λ b h. tt)
-
 unfoldable pub option_as : Written grant_option
-unfolding either_option_as
-option_as = pieces_as either_option_as (λ b u. only_if b (codes " WITH GRANT OPTION") ∷ (59 ∷ []) ∷ []) by
-  where
-    by : (b : Bool) (u : either_option_as.Fit b) → joined (either_option_as.pieces b u) ≡ joined (only_if b (codes " WITH GRANT OPTION") ∷ (59 ∷ []) ∷ [])
-    by true u = refl
-    by false u = refl
+unfolding grant_option is_key
+option_as =
+    let words = word_then (codes "WITH") refl (word_then (codes "GRANT") refl (word_then (codes "OPTION") refl (mark_as ending) refl) refl) refl in
+    let either : Written grant_option = choose_as (seen_as (λ x. true) words) (seen_as (λ x. false) (mark_as ending)) in
+    let fits : (b : Bool) → either.Fit b = elim [ true ↦ inl (tt, tt, refl) | false ↦ inr (tt, tt, refl) ] in
+    pieces_as (like_as either Anyhow (λ b u. fits b) (λ b h. tt)) (λ b u. only_if b (codes " WITH GRANT OPTION") ∷ (59 ∷ []) ∷ []) (elim [ true ↦ λ u. refl | false ↦ λ u. refl ])
 
 unfoldable pub to_as : Written to_grantee
 unfolding to_grantee option_as is_key
@@ -296,51 +240,30 @@ from_as = word_then (codes "FROM") refl (end_as grantee_as refl) refl
 
 -- ---- REVOKE
 
-pub rights_meet : (w : Wanted) → (meets (rights_and_object_as w).after to_as ≡ true) × (meets (rights_and_object_as w).after from_as ≡ true)
-unfolding rights_and_object_as on_object_as to_as from_as
-rights_meet All = (refl, refl)
-rights_meet (These r) = (refl, refl)
-
 unfoldable pub revoke_rights_as : (w : Wanted) → Written (revoke_rights w)
-unfolding revoke_rights
-revoke_rights_as w = seen_as (λ x. stmt.Revoke x.0.0 x.0.1 x.1) (then_as (rights_and_object_as w) from_as (rights_meet w).1)
-
-pub revoke_decided : (w : Wanted) → decides Safe End wanted_as (revoke_rights_as w) ≡ true
-unfolding revoke_rights_as rights_and_object_as on_object_as from_as wanted_as
-revoke_decided All = refl
-revoke_decided (These r) = refl
+unfolding revoke_rights rights_and_object_as from_as
+revoke_rights_as w = seen_as (λ x. stmt.Revoke x.0.0 x.0.1 x.1) (then_as (rights_and_object_as w) from_as refl)
 
 unfoldable pub revoked_as : Kinds IsWritable revoked
-unfolding revoked revoke_rights_as wanted_as from_as
+unfolding revoked revoke_rights_as rights_and_object_as wanted_as from_as
 revoked_as =
-    lone_as (thenby_as wanted_as revoke_rights_as Safe End revoke_decided true (λ w e. (revoke_rights_as w).closes refl))
-    (λ s h. let on = rights_is h.0 h.2.0.0 h.2.1.0 h.1 in subst IsWritable h.2.2 (on.0, on.1, h.2.1.1))
+    lone_as (thenby_as wanted_as revoke_rights_as Safe End true (λ w. refl) refl) (λ s h. let on = h.2.1.0 h.1 in subst IsWritable h.2.2 (on.0, on.1, h.2.1.1))
 
 -- ---- GRANT
 
-abbrev pub CanFollow : Option Wanted → Type 0
-CanFollow None = Unit {0}
-CanFollow (Some w) = AreSome w
-
 abbrev pub IsFirst : First → Type 0
-IsFirst x = IsName x.0 × CanFollow x.1
+IsFirst x = IsName x.0 × OptionFit AreSome x.1
 
 unfoldable pub behind_as : (n : List ℕ) → (o : Option Wanted) → Written (behind_first n o)
-unfolding membership_as to_as grant_rights
-behind_as n None = is_as (membership_as n) (λ s. IsFirst (n, None) → IsWritable s) (λ s h is. subst IsWritable h.2 (is.0, h.1.0, h.1.1.1))
-behind_as n (Some w) =
-    is_as (choose_as (membership_as n) (seen_as (λ x. stmt.Grant x.0.0 x.0.1 x.1.0 x.1.1) (then_as (rights_and_object_as w) to_as (rights_meet w).0))) (λ s. IsFirst (n, Some w) → IsWritable s)
-    (λ s h is. elim h [ inl x ↦ subst IsWritable x.2 (is.0, x.1.0, x.1.1.1) | inr y ↦ (let on = rights_is w y.0.0 y.1.0 is.1 in subst IsWritable y.2 (on.0, on.1, y.1.1.0)) ])
-
-pub behind_is : (n : List ℕ) (o : Option Wanted) (s : Stmt) → (behind_as n o).Is s → IsFirst (n, o) → IsWritable s
-unfolding behind_as
-behind_is n None s h = h
-behind_is n (Some w) s h = h
-
-pub behind_closes : (n : List ℕ) (o : Option Wanted) → Closes (is_sign 59) (behind_first n o)
-unfolding behind_as to_as
-behind_closes n None = (behind_as n None).closes refl
-behind_closes n (Some w) = (behind_as n (Some w)).closes refl
+unfolding membership_as to_as grant_rights rights_and_object_as
+behind_as n o =
+    let grant = λ (w : Wanted). seen_as (λ x. stmt.Grant x.0.0 x.0.1 x.1.0 x.1.1) (then_as (rights_and_object_as w) to_as refl) in
+    let each : (o : Option Wanted) → Written (behind_first n o) = elim [ None ↦ membership_as n | Some w ↦ choose_as (membership_as n) (grant w) ] in
+    let are : (o : Option Wanted) (s : Stmt) → (each o).Is s → IsFirst (n, o) → IsWritable s = elim [
+      | None ↦ λ s h is. subst IsWritable h.2 (is.0, h.1.0, h.1.1.1)
+      | Some w ↦ λ s h is. elim h [ inl x ↦ subst IsWritable x.2 (is.0, x.1.0, x.1.1.1) | inr y ↦ (let on = y.1.0 is.1 in subst IsWritable y.2 (on.0, on.1, y.1.1.0)) ]
+    ] in
+    within_as Safe End true (is_as (each o) (λ s. IsFirst (n, o) → IsWritable s) (are o)) (elim o as (λ o. lies_within Safe End true (each o) ≡ true) [ None ↦ refl | Some w ↦ refl ])
 
 -- behind what may be a right, TO tells that it is a role
 unfoldable pub role_fit : (n : List ℕ) → (o : Option Wanted) → (s : Stmt) → (membership_as n).Fit s → (behind_as n o).Fit s
@@ -364,30 +287,20 @@ role_means x fit t kind word e =
     ap (λ o. named_by o (name_value t)) (same_wanted t (name_token (32 ∷ []) x.0) kind word ∙ fit.1) ∙ ap (named_by x.1) e
 
 pub first_made : (t : Lexeme) (x : First) → named_by (wanted_first (t ∷ [])) (name_value t) ≡ Ok x → IsFirst x
-first_made t x e = by (name_value t) refl e
-  where
-    follows : (o : Option Wanted) → wanted_first (t ∷ []) ≡ o → CanFollow o
-    follows o e = grind (arith, wanted_some)
-
-    by : (v : Result (List ℕ) Bool) → name_value t ≡ v → named_by (wanted_first (t ∷ [])) v ≡ Ok x → IsFirst x
-    by (Ok n) is e = let same : (n, wanted_first (t ∷ [])) ≡ x = cc in subst IsFirst same (value_name t n is, follows (wanted_first (t ∷ [])) refl)
-    by (Err long) is e = absurd cc
+first_made t x e =
+    let follows : (o : Option Wanted) → wanted_first (t ∷ []) ≡ o → OptionFit AreSome o = elim [ None ↦ λ e. tt | Some w ↦ λ e. wanted_some (t ∷ []) w e ] in
+    (value_name t x.0 (grind arith), follows x.1 (grind arith))
 
 unfoldable pub first_as : Written first
 first_as =
     let opening_means : (x : First) (fit : (o : Option Right) × ((opening_name o, Some (wanting o)) ≡ x)) (t : Lexeme) → t.kind ≡ Word → t.word ≡ opening_word fit.0 → named_by (wanted_first (t ∷ [])) (name_value t) ≡ Ok x =
-    λ x fit t kind word. ap (λ o. named_by o (name_value t)) (wanted_says fit.0 t kind word) ∙ ap (named_by (Some (wanting fit.0))) (wanted_named fit.0 t kind word) ∙ ap (λ x. Ok x) fit.1 in
+    λ x fit t kind word. let h = (opening_says fit.0).1 t kind word in ap (λ o. named_by o (name_value t)) h.0 ∙ ap (named_by (Some (wanting fit.0))) h.2 ∙ ap (λ x. Ok x) fit.1 in
     also_as (name_said space (λ x. IsName x.0 × (role_wanted x.0 ≡ x.1)) IsFirst (λ x. x.0) (λ x fit. fit.0) role_means first_made)
-    (word_said space (λ x. (o : Option Right) × ((opening_name o, Some (wanting o)) ≡ x)) IsFirst (λ x fit. opening_word fit.0) (λ x fit. (opening_bare fit.0, opening_means x fit)) first_made)
-
-pub behind_decided : (n : List ℕ) (o : Option Wanted) → decides Safe End first_as (behind_as n o) ≡ true
-unfolding behind_as first_as rights_and_object_as to_as
-behind_decided n (Some All) = refl
-behind_decided n x = refl
+    (word_said space (λ x. (o : Option Right) × ((opening_name o, Some (wanting o)) ≡ x)) IsFirst (λ x fit. opening_word fit.0) (λ x fit. ((opening_says fit.0).0, opening_means x fit)) first_made)
 
 unfoldable pub granted_as : Kinds IsWritable granted
 unfolding granted behind_as first_as
-granted_as = lone_as (thenby_as first_as (λ x. behind_as x.0 x.1) Safe End (λ x. behind_decided x.0 x.1) true (λ x e. behind_closes x.0 x.1)) (λ s h. behind_is h.0.0 h.0.1 s h.2 h.1)
+granted_as = lone_as (thenby_as first_as (λ x. behind_as x.0 x.1) Safe End true (λ x. refl) refl) (λ s h. h.2 h.1)
 
 -- ---- the text of rights on an object
 
@@ -400,15 +313,11 @@ unfolding on_fit
 on_same w (on.Table q) r has e is = refl
 on_same w o r has e is = refl
 
-unfoldable pub list_fit : (start s : Rights) → (xs : List Right) → AllGo s xs → AllFit (more_rights start) more_as s xs
+-- rights behind others, each behind a comma
+unfoldable pub list_laid : (start s : Rights) → (xs : List Right) → AllGo s xs → (fit : AllFit (more_rights start) more_as s xs) × (joined (items_pieces (more_rights start) more_as s xs fit) ≡ flat_map (λ word. codes "," ++ word) (map written_word xs))
 unfolding more_as
-list_fit start s [] go = tt
-list_fit start s (x ∷ xs) go = (go.0, list_fit start (with_right x s) xs go.1)
-
-pub list_same : (start s : Rights) (xs : List Right) (fit : AllFit (more_rights start) more_as s xs) → joined (items_pieces (more_rights start) more_as s xs fit) ≡ flat_map (λ word. codes "," ++ word) (map written_word xs)
-unfolding more_as
-list_same start s [] fit = refl
-list_same start s (x ∷ xs) fit = ap (λ (t : List ℕ). (44 ∷ written_word x) ++ t) (list_same start (with_right x s) xs fit.1)
+list_laid start s [] go = (tt, refl)
+list_laid start s (x ∷ xs) go = let more = list_laid start (with_right x s) xs go.1 in ((go.0, more.0), ap (λ (t : List ℕ). (44 ∷ written_word x) ++ t) more.1)
 
 -- how the rights on an object are written, from their first word on
 pub record IsOpened (o : Granted) (r : Rights) (text : List ℕ) : Type 0 where
@@ -427,28 +336,22 @@ list_opened o r is are =
     let x = l.first in
     let xs = l.more in
     let whole : all_of (only x) xs ≡ r = ap (all_of no_rights) (sym l.same) ∙ listed_is r in
-    let fit = list_fit (only x) (only x) xs (all_go (kind_of o) (only x) xs (ap (λ (y : Rights). within y (kind_rights (kind_of o))) whole ∙ are.1)) in
-    let items = items_pieces (more_rights (only x)) more_as (only x) xs fit in
+    let laid = list_laid (only x) (only x) xs (all_go (kind_of o) (only x) xs (ap (λ (y : Rights). within y (kind_rights (kind_of o))) whole ∙ are.1)) in
+    let items = items_pieces (more_rights (only x)) more_as (only x) xs laid.0 in
     let behind = (on_object_as (These r)).pieces (o, r) (on_fit (These r) o r are.1 refl is) in
     let object = (granted_words o ++ granted_name o) ++ [] in
     record {
       opening = Some x;
-      fit = (r, (xs, fit, whole), on_fit (These r) o r are.1 refl is);
-      same = ap (λ (t : List ℕ). written_word x ++ t) (joined-append items behind ∙ ap (λ (t : List ℕ). t ++ joined behind) (list_same (only x) (only x) xs fit) ∙ ap (λ (t : List ℕ). flat_map (λ word. codes "," ++ word) (map written_word xs) ++ t) (on_same (These r) o r are.1 refl is))
+      fit = (r, (xs, laid.0, whole), on_fit (These r) o r are.1 refl is);
+      same = ap (λ (t : List ℕ). written_word x ++ t) (joined-append items behind ∙ ap (λ (t : List ℕ). t ++ joined behind) laid.1 ∙ ap (λ (t : List ℕ). flat_map (λ word. codes "," ++ word) (map written_word xs) ++ t) (on_same (These r) o r are.1 refl is))
           ∙ sym (append_assoc (written_word x) (flat_map (λ word. codes "," ++ word) (map written_word xs)) object) ∙ ap (λ (t : List ℕ). t ++ object) (sym (ap with_commas (words_are r ∙ ap (map written_word) l.same)));
     }
 
 pub rights_opened : (o : Granted) (r : Rights) → IsObject o → AreRights o r → IsOpened o r (rights_text o r)
 unfolding rights_text
-rights_opened o r is are = by (is_all o r) refl
-  where
-    by : (b : Bool) → is_all o r ≡ b → IsOpened o r (cond b (codes "ALL") (right_list r))
-    by b e = grind (arith, all_opened, list_opened)
+rights_opened o r is are = grind (arith, all_opened, list_opened)
 
 -- before what stands behind them
 pub rights_spelled : (o : Granted) (r : Rights) (h : IsOpened o r (rights_text o r)) (t u : List (List ℕ))
     → opening_word h.opening ++ joined (((rights_and_object_as (wanting h.opening)).pieces (o, r) h.fit ++ t) ++ u) ≡ rights_text o r ++ ((granted_words o ++ granted_name o) ++ joined (t ++ u))
-rights_spelled o r h t u =
-    let rights = (rights_and_object_as (wanting h.opening)).pieces (o, r) h.fit in
-    ap (λ (x : List (List ℕ)). opening_word h.opening ++ joined x) (append_assoc rights t u) ∙ ap (λ (x : List ℕ). opening_word h.opening ++ x) (joined-append rights (t ++ u))
-    ∙ sym (append_assoc (opening_word h.opening) (joined rights) (joined (t ++ u))) ∙ ap (λ (x : List ℕ). x ++ joined (t ++ u)) h.same ∙ (simp (append_assoc, append-nil))
+rights_spelled o r h t u = simp (joined-append, append_assoc) (simp (joined-append, append_assoc, append-nil) at (ap (λ (x : List ℕ). x ++ joined (t ++ u)) h.same))

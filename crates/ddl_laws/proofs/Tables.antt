@@ -1,5 +1,5 @@
 -- CREATE TYPE, CREATE DOMAIN and CREATE TABLE: each part of their grammar with the text that it is written in.
-use Rattle.ddl_laws.proofs.Common.{◌≡◌, ℕ, Bool, true, false, cond, List, [], ◌∷◌, ◌++◌, map, append_assoc, append-nil, Option, Some, None, Ok, Err, refl, sym, ap, subst, ◌∙◌, ◌⊎◌, inl, inr, codes, flat_map, AllByRecursion, is_reserved, written_kind, written_name, written_literal, IsName, IsText, ColumnDef, CheckDef, Lexeme, is_word, many, optional, ◌▸◌, literal, is_literal, name_value, item_of, listing, default_text, joined, only_if, given_default, check_text, column_text, table_lines, create_enum, enum_of, Attributes, not_null, given, null_first, default_first, attributes, typed, checking, domain_of, create_domain, column_name, column_name_value, column_of, column, element, last_element, element_at, elements, more_elements, parted, table_elements, table_of, create_table, column_name_is, IsDefaultText, Words, Safe, default_as, space, newline, indented, indent, tabbed, no_key, value_name, Written, Kinds, name_said, is_key, opening_as, closing_as, comma_as, literal_as, path_as, then_as, lead_as, close_as, word_then, end_as, seen_as, like_as, shown_as, pieces_as, choose_as, nothing_as, maybe_as, OptionFit, follows_on, AllFit, items_pieces, many_as, alike_as, kind_as, led_as, or_as, IsCheck, IsColumn, IsDefault, IsWritable}
+use Rattle.ddl_laws.proofs.Common.{◌≡◌, ℕ, Bool, true, false, cond, List, [], ◌∷◌, ◌++◌, map, append_assoc, append-nil, Option, Some, None, Ok, Err, refl, sym, ap, subst, ◌∙◌, ◌⊎◌, inl, inr, codes, flat_map, AllByRecursion, is_reserved, written_kind, written_name, written_literal, IsName, IsText, ColumnDef, CheckDef, Lexeme, is_word, many, literal, is_literal, name_value, item_of, listing, joined, only_if, given_default, check_text, column_text, table_lines, create_enum, enum_of, Attributes, not_null, given, null_first, default_first, attributes, typed, checking, domain_of, create_domain, column_name, column_name_value, column_of, column, element, last_element, element_at, elements, more_elements, parted, table_elements, table_of, create_table, column_name_is, IsDefaultText, Words, Safe, default_as, space, newline, indented, indent, tabbed, no_key, value_name, Written, Kinds, name_said, is_key, opening_as, closing_as, comma_as, literal_as, path_as, then_as, lead_as, close_as, word_then, end_as, seen_as, like_as, shown_as, pieces_as, choose_as, nothing_as, maybe_as, OptionFit, follows_on, AllFit, items_pieces, many_as, alike_as, kind_as, led_as, or_as, IsCheck, IsColumn, IsDefault, IsWritable}
 use Rattle.ddl_parts.proofs.Lemmas.{listed}
 use Rattle.ddl_write.specs.Tables.{lines}
 use Rattle.ddl_forms.proofs.{Types.type_as, Defaults.null_words, Defaults.default_and_null_as}
