@@ -310,3 +310,6 @@ exact text r = (λ e. subst (Told text 0) e (told_within (length text + 1) text 
     back : (r : Result (List Located) DdlFault) → Told text 0 r → Gives text 0 r
     back (Ok found) reads = reads_only text 0 found reads (omega arith)
     back (Err fault) fails = fails_only text 0 fault fails (omega arith)
+
+pub only : (text : List ℕ) (statements : List Located) → Reads text 0 statements → statements_of text ≡ Ok statements
+only text statements reads = (exact text (Ok statements)).1 reads

@@ -3,7 +3,7 @@ use Rattle.ddl_laws.proofs.Common.{cases_Bool, and_parts, and_from, or_right, dr
 use Rattle.ddl_parts.proofs.Lemmas.{newline as line_feed}
 use Rattle.ddl_write.specs.Spelling.{spelling}
 use Rattle.ddl_forms.proofs.{Passed.both_passed, Passed.feed_passed, Passed.comment_passed, Tokens.passes}
-use Rattle.ddl_laws.proofs.{ReadingLaws.collected_first, ReadingLaws.statement_closes, ReadingLaws.exact, ReadingLaws.ends_past, ReadingLaws.line_past, Paths.name_utf8, Whole.command_as, Whole.statement_as, Whole.IsSpelled, Whole.spelled_so, Whole.copy_head, Whole.copy_is, Whole.copy_spelled, Whole.both_behind}
+use Rattle.ddl_laws.proofs.{ReadingLaws.collected_first, ReadingLaws.statement_closes, ReadingLaws.exact, ReadingLaws.only, ReadingLaws.ends_past, ReadingLaws.line_past, Paths.name_utf8, Whole.command_as, Whole.statement_as, Whole.IsSpelled, Whole.spelled_so, Whole.copy_head, Whole.copy_is, Whole.copy_spelled, Whole.both_behind}
 use Rattle.ddl_laws.specs.{Laying.Lays, Laying.no_more, Laying.empty_line, Laying.comment_line, Laying.statement_text, Laying.comment}
 use Rattle.ddl_lines.proofs.LineNames.{said_is_a_name}
 use Rattle.cat_model.specs.declared.stmt.Stmt.TheVariants as stmt
@@ -257,7 +257,7 @@ laid_read text front g _ _ gap fresh (statement_text s rest statements can lays)
 -- ---- whole texts
 
 pub laid_out_read : (text : List ℕ) (statements : List Stmt) → Lays text statements → (found : List Located) × (statements_of text ≡ Ok found) × (said found ≡ statements)
-laid_out_read text statements lays = let r = laid_read text [] [] text statements none (inl refl) lays refl in (r.found, (exact text (Ok r.found)).1 r.reads, r.same)
+laid_out_read text statements lays = let r = laid_read text [] [] text statements none (inl refl) lays refl in (r.found, only text r.found r.reads, r.same)
 
 -- spellings that are joined lie one behind another
 all_lay : (statements : List Stmt) → AllWritable statements → Lays (spellings statements) statements
