@@ -1,11 +1,11 @@
 -- Owners, checks and changes of domains and sequences, settings and calls, views, indexes, COPY and ALTER TABLE: each part
 -- of their grammar with the text that it is written in.
-use Rattle.ddl_laws.proofs.Common.{◌≡◌, ℕ, Bool, false, List, [], ◌∷◌, ◌++◌, append_assoc, append-nil, refl, ap, ◌∙◌, inl, inr, codes, true, cond, sym, subst, Result, Ok, Err, flat_map, AllByRecursion, is_utf8, chars, encode, Word, is_keyword_of, name_of, written_name, IsName, Lexeme, source, never, is_sign, is_word, spelled, starts, is_sign_kind, name, name_value, name_in, seen, ◌then◌, ◌▸◌, ◌◂◌, rest_text, joined, path, further, names_of, columns, deferral, action, on_delete, reactions, key_rest, foreign_rest, Words, Safe, admits, joined-append, Follows, IsPut, Yields, kinds, run_read, Gap, none, space, newline, spaced, indented, no_key, value_name, Written, Says, opening_as, closing_as, comma_as, name_as, then_as, lead_as, close_as, shown_as, pieces_as, choose_as, nothing_as, alike_as, Kinds, leaf_as, is_key, dot_as, equals_as, word_as, mark_as, literal_as, path_as, word_then, end_as, seen_as, heard_as, run_put, kind_as, is_bare_word, word_said, name_said, is_as, path_same, led_as, or_as, IsRest, AreColumns, IsCheck, IsWritable, before_end_mark, lines_nil, expression, nested, lexemes, collected, AreRows, with_feeds, rows_in, check_text, space_before, named_check, check_of, new_owner, some_columns, copy_from, new_check, its_owner, one_more_check, domain_changed, domain_change, altered_domain, set_config, equals_or_to, setting, owned_by, its_role, its_column, sequence_changed, sequence_change, altered_sequence, view_and_body, bracketed, index_made, index_body, index_parts, truth, value_of_sequence, set_value, IsExpressionText, IsBracketText, IsPath, IsDefaultText, nested_plain, expression_as, default_as, number_as, TokenKind, is_reserved, written_kind, QName, Constraint, Check, Primary, Unique, Foreign as ForeignKey, TableChange, Owner, Default, Added, check_body, primary_of, primary_body, unique_of, unique_body, foreign_of, foreign_body, constraint_body, added_of, added, default_of, new_default, own_change, table_change, table_changed, only_value, only_name, other_value, other_path, BehindOnly, in_schema, key_word, behind_only, only_changed, altered_table}
+use Rattle.ddl_laws.proofs.Common.{◌≡◌, arith, AllFit, items_pieces, ℕ, Bool, false, List, [], ◌∷◌, ◌++◌, append_assoc, append-nil, refl, ap, ◌∙◌, inl, inr, codes, true, cond, sym, subst, Ok, Err, flat_map, AllByRecursion, is_utf8, chars, encode, is_keyword_of, name_of, written_name, IsName, Lexeme, source, is_sign, is_word, spelled, starts, is_sign_kind, name, name_value, name_in, seen, ◌then◌, ◌▸◌, ◌◂◌, rest_text, joined, path, further, names_of, columns, deferral, action, on_delete, reactions, key_rest, foreign_rest, Words, Safe, admits, joined-append, Follows, IsPut, Yields, kinds, run_read, Gap, none, space, newline, spaced, indented, no_key, value_name, Written, Says, opening_as, closing_as, comma_as, name_as, then_as, lead_as, close_as, shown_as, pieces_as, choose_as, nothing_as, alike_as, Kinds, leaf_as, is_key, dot_as, equals_as, word_as, mark_as, literal_as, path_as, word_then, end_as, seen_as, heard_as, run_put, kind_as, is_bare_word, word_said, name_said, is_as, path_same, led_as, or_as, IsRest, AreColumns, IsCheck, IsWritable, before_end_mark, lines_nil, expression, nested, lexemes, collected, AreRows, with_feeds, rows_in, check_text, space_before, named_check, check_of, new_owner, some_columns, copy_from, new_check, its_owner, one_more_check, domain_changed, domain_change, altered_domain, set_config, equals_or_to, setting, owned_by, its_role, its_column, sequence_changed, sequence_change, altered_sequence, view_and_body, bracketed, index_made, index_body, index_parts, truth, value_of_sequence, set_value, IsExpressionText, IsBracketText, IsPath, IsDefaultText, nested_plain, expression_as, default_as, number_as, is_reserved, written_kind, QName, Constraint, Check, Primary, Unique, Foreign as ForeignKey, TableChange, Owner, Default, Added, check_body, primary_of, primary_body, unique_of, unique_body, foreign_of, foreign_body, constraint_body, added_of, added, default_of, new_default, own_change, table_change, table_changed, only_value, only_name, other_value, other_path, BehindOnly, in_schema, key_word, behind_only, only_changed, altered_table}
 use Rattle.ddl_forms.specs.Texts.{IsTextOf}
-use Rattle.ddl_forms.proofs.{Behind.End, Behind.Opens, Behind.opened, Behind.one_opens, PlainParts.IsPlainPart, PlainParts.plain_spells, PlainParts.plain_parts, PlainParts.word_plain, PlainParts.sign_plain, PlainParts.name_plain, PlainParts.then_plain, PlainParts.seen_plain, PlainParts.choose_plain, PlainParts.nothing_plain, PlainParts.many_plain, RunTexts.plain_runs, RunTexts.read_again, Putting.none_put, Putting.same_text, Written.not_closed}
-use Rattle.ddl_parts.proofs.Lemmas.{Part}
+use Rattle.ddl_forms.proofs.{Behind.End, Behind.Opens, Behind.opened, Behind.one_opens, PlainParts.IsPlainPart, PlainParts.plain_spells, PlainParts.plain_parts, RunTexts.plain_runs, RunTexts.read_again, Putting.none_put, Putting.same_text, Written.not_closed}
+use Rattle.ddl_parts.proofs.Lemmas.{Part, Items}
 use Rattle.ddl_read.specs.Columns.{more_names}
-use Rattle.ddl_read.specs.Rests.{kept, set_columns, behind_on}
+use Rattle.ddl_read.specs.Rests.{kept}
 use Rattle.ddl_write.specs.{Paths.listed, Views.stands_alone}
 use Rattle.ddl_laws.proofs.{Paths.literal_path_as, GrammarLaws.only_is, GrammarLaws.other_is}
 use Rattle.ddl_read.specs.{AlterGrammar.path_of}
@@ -23,17 +23,19 @@ first_and_more (n ∷ ns) is = ((n, ns), is, refl)
 abbrev pub in_brackets_as : {g : List ℕ} → Gap g → Written (is_sign 40 ▸ (seen names_of (name then further) ◂ is_sign 41))
 in_brackets_as gap = lead_as (opening_as gap) (close_as (shown_as names_of (then_as (name_as none) further_as refl) AreColumns first_and_more (λ x is. is)) (closing_as none) refl) refl
 
-pub more_is : (ns : List (List ℕ)) (all : AllByRecursion IsName ns) → joined (further_as.pieces ns all) ≡ flat_map (λ n. codes ", " ++ written_name n) ns
-more_is [] all = refl
-more_is (n ∷ ns) all = ap (λ (x : List ℕ). (codes ", " ++ written_name n) ++ x) (more_is ns all.1)
+-- the text of items that have a line each
+pub lines_of_items : {A : Type 0} (items : Items A) (each : (s : items.State) → Written (items.item s)) (line : A → List ℕ) → ((s : items.State) (v : A) (fit : (each s).Fit v) (more : List (List ℕ)) → joined ((each s).pieces v fit ++ more) ≡ line v ++ joined more) → (s : items.State) (vs : List A) (fit : AllFit items each s vs)
+    → joined (items_pieces items each s vs fit) ≡ flat_map line vs
+lines_of_items items each line one s [] fit = refl
+lines_of_items items each line one s (v ∷ vs) fit = one s v fit.0 _ ∙ ap (λ (x : List ℕ). line v ++ x) (lines_of_items items each line one (items.next s v) vs fit.1)
 
 pub listed_is : {g : List ℕ} (gap : Gap g) (ns : List (List ℕ)) (is : AreColumns ns) → joined ((in_brackets_as gap).pieces ns is) ≡ g ++ (listed ns ++ [])
 unfolding listed
 listed_is {g} gap [] is = absurd is
 listed_is {g} gap (n ∷ ns) is =
     let columns_regrouped : (g o n w c : List ℕ) → (g ++ o) ++ (n ++ (w ++ c)) ≡ g ++ ((((o ++ n) ++ w) ++ c) ++ []) = λ g o n w c. simp (append_assoc, append-nil) in
-    ap (λ (x : List ℕ). (g ++ 40 ∷ []) ++ (written_name n ++ x)) (joined-append (further_as.pieces ns is.1) ((41 ∷ []) ∷ []) ∙ ap (λ (x : List ℕ). x ++ 41 ∷ []) (more_is ns is.1))
-    ∙ columns_regrouped g (40 ∷ []) (written_name n) (flat_map (λ n. codes ", " ++ written_name n) ns) (41 ∷ [])
+    let more : joined (further_as.pieces ns is.1) ≡ flat_map (λ n. codes ", " ++ written_name n) ns = lines_of_items more_names (λ s. lead_as comma_as (name_as space) refl) (λ n. codes ", " ++ written_name n) (λ s n fit more. refl) tt ns _ in
+    ap (λ (x : List ℕ). (g ++ 40 ∷ []) ++ (written_name n ++ x)) (joined-append (further_as.pieces ns is.1) ((41 ∷ []) ∷ []) ∙ ap (λ (x : List ℕ). x ++ 41 ∷ []) more) ∙ columns_regrouped g (40 ∷ []) (written_name n) (flat_map (λ n. codes ", " ++ written_name n) ns) (41 ∷ [])
 
 unfoldable pub columns_as : {g : List ℕ} → Gap g → Written columns
 unfolding columns
@@ -79,33 +81,14 @@ pub deferral_plain : IsPlainPart deferral
 unfolding deferral
 deferral_plain = search plain_parts depth 30
 
-keyed_plain : {A : Type 0} {p : Part A} (key : List ℕ) → IsPlainPart p → IsPlainPart (is_word key ▸ p)
-keyed_plain key h = seen_plain (λ x. x.1) (then_plain (word_plain key) h)
-
-columns_plain : IsPlainPart columns
-unfolding columns
-columns_plain =
-    let more = many_plain (is_sign 44) more_names (λ s. seen_plain (λ x. x.1) (then_plain (sign_plain 44 refl) name_plain)) in
-    seen_plain (λ x. x.1) (then_plain (sign_plain 40 refl) (seen_plain (λ x. x.0) (then_plain (seen_plain names_of (then_plain name_plain more)) (sign_plain 41 refl))))
-
 action_plain : (goes : Bool) → IsPlainPart (action goes)
-unfolding action
-action_plain goes =
-    let set = keyed_plain (codes "set") (choose_plain (keyed_plain (codes "null") (set_plain goes)) (keyed_plain (codes "default") (set_plain goes))) in
-    choose_plain (keyed_plain (codes "no") (word_plain (codes "action"))) (choose_plain set (choose_plain (keyed_plain (codes "cascade") (nothing_plain never tt)) (keyed_plain (codes "restrict") (nothing_plain never tt))))
-  where
-    set_plain : (goes : Bool) → IsPlainPart (set_columns goes)
-    set_plain true = choose_plain (seen_plain (λ names. tt) columns_plain) (nothing_plain (is_sign 40) tt)
-    set_plain false = nothing_plain never tt
-
-behind_on_plain : {p : Part (Unit {0})} → IsPlainPart p → IsPlainPart (behind_on p)
-behind_on_plain h = choose_plain (keyed_plain (codes "on") h) deferral_plain
+unfolding action columns
+action_plain true = search plain_parts depth 40
+action_plain false = search plain_parts depth 40
 
 pub reactions_plain : IsPlainPart reactions
-unfolding reactions on_delete
-reactions_plain =
-    let deleted : IsPlainPart on_delete = keyed_plain (codes "delete") (seen_plain (λ x. tt) (then_plain (action_plain true) deferral_plain)) in
-    behind_on_plain (choose_plain (keyed_plain (codes "update") (seen_plain (λ x. tt) (then_plain (action_plain false) (behind_on_plain deleted)))) deleted)
+unfolding reactions on_delete deferral
+reactions_plain = search (plain_parts, action_plain) depth 40
 
 unfoldable pub key_rest_as : Written key_rest
 unfolding key_rest deferral
@@ -169,11 +152,9 @@ set_value_as =
 -- a line feed, and the space that may stand behind it
 pub body_put : (v : List ℕ) (others : List Lexeme) → IsExpressionText v → Follows others → admits Safe (spelled others) ≡ true → IsPut expression v ((10 ∷ []) ++ (space_before v ++ v)) others
 unfolding expression space_before
-body_put v others is follows e = by (stands_alone v)
-  where
-    by : (b : Bool) → IsPut expression v ((10 ∷ []) ++ (cond b [] (codes " ") ++ v)) others
-    by true = run_put (plain_runs (nested_plain false false)) expression v v others newline is (λ ts runs whole same. (ts, sym whole, (refl, runs))) follows e
-    by false = run_put (plain_runs (nested_plain false false)) expression v v others spaced is (λ ts runs whole same. (ts, sym whole, (refl, runs))) follows e
+body_put v others is follows e =
+    let gap : (b : Bool) → Gap ((10 ∷ []) ++ cond b [] (codes " ")) = elim [ true ↦ newline | false ↦ spaced ] in
+    run_put (plain_runs (nested_plain false false)) expression v v others (gap (stands_alone v)) is (λ ts runs whole same. (ts, sym whole, (refl, runs))) follows e
 
 unfoldable pub body_as : Written expression
 unfolding expression_as
@@ -267,35 +248,24 @@ unfolding table_change new_owner_as own_change_as
 table_change_as = or_as (kind_as Owner new_owner_as (λ r is. is)) own_change_as
 
 pub change_is : (q : QName) (x : TableChange) → IsPath q → IsChange x → IsWritable (table_changed q x)
-change_is q (Owner r) named is = (named, is)
-change_is q (Default n v) named is = (named, is.0, is.1)
-change_is q (Added n (Check v)) named is = (named, is.0, is.1)
-change_is q (Added n (Primary ns rest)) named is = (named, is.0, is.1.0, is.1.1)
-change_is q (Added n (Unique ns rest)) named is = (named, is.0, is.1.0, is.1.1)
-change_is q (Added n (ForeignKey ns parent theirs rest)) named is = (named, is.0, is.1.0, is.1.1.0, is.1.1.1.0, is.1.1.1.1)
+change_is q x named is = grind arith
 
 -- ---- the table
 
--- what a token means by its kind and its word
-abbrev pub only_by : TokenKind → List ℕ → Result (List ℕ) Bool
-only_by k w = cond (is_keyword_of k w (codes "only")) (name_in (name_of k w)) (Err false)
-
 pub only_says : (n : List ℕ) → n ≡ codes "only" → Says only_value (codes "ONLY") n
 unfolding is_bare_word only_value is_word name_value is_keyword_of name_in name_of is_utf8 chars encode
-only_says n is = (refl, λ t kind word. ap (λ (k : TokenKind). only_by k t.word) kind ∙ ap (only_by Word) word ∙ refl ∙ ap (λ n. Ok n) (sym is))
+only_says n is = (refl, λ t kind word. rw (kind, word, is) refl)
 
 -- the bare word ONLY
 abbrev pub only_name_as : Written only_name
 only_name_as = word_said space (λ n. n ≡ codes "only") IsName (λ n is. codes "ONLY") only_says (λ t n e. value_name t n (only_is t n e).1)
 
-pub other_means : (n : List ℕ) → IsName n → (t : Lexeme) → t.kind ≡ written_kind n → t.word ≡ written_name n → name_value t ≡ Ok n → other_value t ≡ Ok n
-unfolding other_value is_reserved
-other_means n is t kind word e = ap (λ (b : Bool). cond b (Err false) (name_value t)) (no_key (codes "only") n is.utf8 refl t kind word) ∙ e
-
 unfoldable pub other_path_as : Written other_path
-unfolding other_path
+unfolding other_path other_value is_reserved
 other_path_as =
-    let other = name_said space IsName IsName (λ n. n) (λ n is. is) other_means (λ t n e. value_name t n (other_is t n e).1) in
+    let means : (n : List ℕ) → IsName n → (t : Lexeme) → t.kind ≡ written_kind n → t.word ≡ written_name n → name_value t ≡ Ok n → other_value t ≡ Ok n =
+    λ n is t kind word e. ap (λ (b : Bool). cond b (Err false) (name_value t)) (no_key (codes "only") n is.utf8 refl t kind word) ∙ e in
+    let other = name_said space IsName IsName (λ n. n) (λ n is. is) means (λ t n e. value_name t n (other_is t n e).1) in
     pieces_as (shown_as path_of (then_as other (lead_as dot_as (name_as none) refl) refl) IsPath (λ q is. ((q.schema, q.name), is, refl)) (λ x is. is)) (λ q is. (32 ∷ []) ∷ path q ∷ []) (λ q is. path_same (32 ∷ []) q)
 
 abbrev pub IsBehind : BehindOnly → Type 0
@@ -309,8 +279,7 @@ behind_only_as =
     (kind_as (λ x. key_word x.0 x.1) (then_as (path_as space) own_change_as.written refl) (λ x is. (is.0, own_change_as.is x.1 is.1)))
 
 pub only_changes : (n : List ℕ) (x : BehindOnly) → IsName n → IsBehind x → IsWritable (only_changed n x)
-only_changes n (in_schema m x) is behind = change_is (record { schema = n; name = m }) x (is, behind.0) behind.1
-only_changes n (key_word q x) is behind = change_is q x behind.0 behind.1
+only_changes n x is behind = grind (arith, change_is)
 
 unfoldable pub altered_table_as : Kinds IsWritable altered_table
 unfolding altered_table behind_only_as other_path_as table_change_as

@@ -1,9 +1,9 @@
 -- CREATE TYPE, CREATE DOMAIN and CREATE TABLE: each part of their grammar with the text that it is written in.
-use Rattle.ddl_laws.proofs.Common.{◌≡◌, ℕ, Bool, true, false, cond, List, [], ◌∷◌, ◌++◌, map, append_assoc, append-nil, Option, Some, None, Ok, Err, refl, sym, ap, subst, ◌∙◌, ◌⊎◌, inl, inr, codes, flat_map, AllByRecursion, is_reserved, written_kind, written_name, written_literal, IsName, IsText, ColumnDef, CheckDef, Lexeme, is_word, many, literal, is_literal, name_value, item_of, listing, joined, only_if, given_default, check_text, column_text, table_lines, create_enum, enum_of, Attributes, not_null, given, null_first, default_first, attributes, typed, checking, domain_of, create_domain, column_name, column_name_value, column_of, column, element, last_element, element_at, elements, more_elements, parted, table_elements, table_of, create_table, column_name_is, IsDefaultText, Words, Safe, default_as, space, newline, indented, indent, tabbed, no_key, value_name, Written, Kinds, name_said, is_key, opening_as, closing_as, comma_as, literal_as, path_as, then_as, lead_as, close_as, word_then, end_as, seen_as, like_as, shown_as, pieces_as, choose_as, nothing_as, maybe_as, OptionFit, follows_on, AllFit, items_pieces, many_as, alike_as, kind_as, led_as, or_as, IsCheck, IsColumn, IsDefault, IsWritable}
+use Rattle.ddl_laws.proofs.Common.{◌≡◌, arith, ℕ, Bool, true, false, cond, List, [], ◌∷◌, ◌++◌, map, append_assoc, append-nil, Option, Some, None, Ok, Err, refl, sym, ap, ◌∙◌, ◌⊎◌, inl, inr, codes, flat_map, AllByRecursion, is_reserved, written_kind, written_name, written_literal, IsName, IsText, ColumnDef, CheckDef, Lexeme, is_word, many, literal, is_literal, name_value, item_of, listing, joined, only_if, given_default, check_text, column_text, table_lines, create_enum, enum_of, Attributes, not_null, given, null_first, default_first, attributes, typed, checking, domain_of, create_domain, column_name, column_name_value, column_of, column, element, last_element, element_at, elements, more_elements, parted, table_elements, table_of, create_table, column_name_is, IsDefaultText, Words, Safe, default_as, space, newline, indented, indent, tabbed, no_key, value_name, Written, Kinds, name_said, is_key, opening_as, closing_as, comma_as, literal_as, path_as, then_as, lead_as, close_as, word_then, end_as, seen_as, like_as, shown_as, pieces_as, choose_as, nothing_as, maybe_as, OptionFit, AllFit, items_pieces, many_as, alike_as, kind_as, led_as, or_as, IsCheck, IsColumn, IsDefault, IsWritable}
 use Rattle.ddl_parts.proofs.Lemmas.{listed}
 use Rattle.ddl_write.specs.Tables.{lines}
 use Rattle.ddl_forms.proofs.{Types.type_as, Defaults.null_words, Defaults.default_and_null_as}
-use Rattle.ddl_laws.proofs.Relations.{named_check_as}
+use Rattle.ddl_laws.proofs.Relations.{lines_of_items, named_check_as}
 use Rattle.ddl_read.specs.{declared.tables.TableElement.TableElement, declared.tables.TableElement.TheVariants.Column, declared.tables.TableElement.TheVariants.Check, declared.tables.Spot.Spot, declared.tables.Spot.TheVariants.Opening, declared.tables.Spot.TheVariants.BehindColumn, declared.tables.Spot.TheVariants.BehindCheck}
 
 -- ---- CREATE TYPE
@@ -12,20 +12,8 @@ abbrev pub label_as : (behind : Bool) → Written (item_of literal behind)
 label_as true = lead_as comma_as (literal_as indented) refl
 label_as false = literal_as indented
 
-pub labels_follow : (s : Bool) → follows_on Words (label_as s) ≡ true
-labels_follow true = refl
-labels_follow false = refl
-
-abbrev pub label_fits : (s : Bool) → (t : List ℕ) → IsText t → (label_as s).Fit t
-label_fits true t is = is
-label_fits false t is = is
-
-pub label_is : (s : Bool) (t : List ℕ) → (label_as s).Is t → IsText t
-label_is true t is = is
-label_is false t is = is
-
 abbrev pub labels_as : Written (listed is_literal literal)
-labels_as = alike_as label_as IsText label_fits label_is Words labels_follow
+labels_as = alike_as label_as IsText (elim [ true ↦ λ t is. is | false ↦ λ t is. is ]) (elim [ true ↦ λ t is. is | false ↦ λ t is. is ]) Words (elim [ true ↦ refl | false ↦ refl ])
 
 -- lines without the line feed behind the last
 abbrev pub in_line : List ℕ → List ℕ
@@ -75,14 +63,8 @@ attributed false (Some v) true is = inr (inl ((v, true), is, refl))
 attributed domain None false is = inr (inr refl)
 attributed domain (Some v) false is = inr (inl ((v, false), is, refl))
 
-pub option_is : (d : Option (List ℕ)) → OptionFit IsDefaultText d → IsDefault d
-option_is None is = tt
-option_is (Some v) is = is
-
 pub default_is : (x : Attributes) → Attributed x → IsDefault x.0
-default_is x (inl h) = subst (λ (y : Attributes). IsDefault y.0) h.2 (option_is h.0 h.1)
-default_is x (inr (inl h)) = subst (λ (y : Attributes). IsDefault y.0) h.2 h.1
-default_is x (inr (inr e)) = subst (λ (y : Attributes). IsDefault y.0) (sym e) tt
+default_is x h = grind arith
 
 abbrev pub attribute_pieces : Bool → Option (List ℕ) → Bool → List (List ℕ)
 attribute_pieces true d b = only_if b null_words ∷ given_default d ∷ []
@@ -113,16 +95,11 @@ typed_as domain = then_as (type_as space) (attributes_as domain) refl
 abbrev pub check_line : CheckDef → List ℕ
 check_line c = check_text c.name c.text
 
-pub checks_same : (checks : List CheckDef) (fit : AllFit checking (λ s. named_check_as tabbed) tt checks) → joined (items_pieces checking (λ s. named_check_as tabbed) tt checks fit) ≡ flat_map (λ c. codes "\n\t" ++ check_line c) checks
-unfolding named_check_as
-checks_same [] fit = refl
-checks_same (c ∷ checks) fit = ap (λ (x : List ℕ). (codes "\n\t" ++ check_line c) ++ x) (checks_same checks fit.1)
-
 unfoldable pub checks_as : Written (many (is_word (codes "constraint")) checking)
 unfolding named_check_as
 checks_as =
     pieces_as (alike_as (λ s. named_check_as tabbed) IsCheck (λ s c is. is) (λ s c is. is) Safe (λ s. refl)) (λ checks is. flat_map (λ c. codes "\n\t" ++ check_line c) checks ∷ [])
-    (λ checks is. checks_same checks _ ∙ sym (append-nil (flat_map (λ c. codes "\n\t" ++ check_line c) checks)))
+    (λ checks is. lines_of_items checking (λ s. named_check_as tabbed) (λ c. codes "\n\t" ++ check_line c) (λ s c fit more. refl) tt checks _ ∙ sym (append-nil (flat_map (λ c. codes "\n\t" ++ check_line c) checks)))
 
 unfoldable pub create_domain_as : Kinds IsWritable create_domain
 unfolding create_domain is_key typed_as checks_as
@@ -159,57 +136,47 @@ at_spot BehindCheck = led_as comma_as (kind_as Check (named_check_as indented) (
 
 unfoldable pub many_elements_as : Written (many more_elements elements)
 unfolding at_spot
-many_elements_as = many_as (λ s. (at_spot s).written) IsElement (λ s v h. (at_spot s).is v h) Safe on
-  where
-    on : (s : Spot) → follows_on Safe (at_spot s).written ≡ true
-    on Opening = refl
-    on x = refl
+many_elements_as = many_as (λ s. (at_spot s).written) IsElement (λ s v h. (at_spot s).is v h) Safe (elim [ Opening ↦ refl | x ↦ refl ])
 
 abbrev pub listed_elements : List ColumnDef → List CheckDef → List TableElement
 listed_elements columns checks = map Column columns ++ map Check checks
-
-unfoldable pub checks_fit : (s : Spot) → (checks : List CheckDef) → AllByRecursion IsCheck checks → AllFit elements (λ s. (at_spot s).written) s (map Check checks)
-unfolding at_spot
-checks_fit s [] all = tt
-checks_fit Opening (c ∷ checks) all = (inl (c, all.0, refl), checks_fit BehindCheck checks all.1)
-checks_fit BehindColumn (c ∷ checks) all = (inl (c, all.0, refl), checks_fit BehindCheck checks all.1)
-checks_fit BehindCheck (c ∷ checks) all = ((c, all.0, refl), checks_fit BehindCheck checks all.1)
 
 abbrev pub spot_at : Bool → Spot
 spot_at true = Opening
 spot_at false = BehindColumn
 
-unfoldable pub elements_fit : (first : Bool) → (columns : List ColumnDef) → (checks : List CheckDef) → AllByRecursion IsColumn columns → AllByRecursion IsCheck checks → AllFit elements (λ s. (at_spot s).written) (spot_at first) (listed_elements columns checks)
-unfolding at_spot checks_fit
-elements_fit first [] checks all others = checks_fit (spot_at first) checks others
-elements_fit true (c ∷ columns) checks all others = (inr (c, all.0, refl), elements_fit false columns checks all.1 others)
-elements_fit false (c ∷ columns) checks all others = (inr (c, all.0, refl), elements_fit false columns checks all.1 others)
-
 abbrev pub spot_lines : Spot → List (List ℕ) → List ℕ
 spot_lines Opening l = in_lines l
 spot_lines s l = flat_map in_line l
 
-pub checks_text : (s : Spot) (checks : List CheckDef) (all : AllByRecursion IsCheck checks) → joined (items_pieces elements (λ s. (at_spot s).written) s (map Check checks) (checks_fit s checks all)) ≡ spot_lines s (map check_line checks)
-unfolding checks_fit at_spot
-checks_text Opening [] all = refl
-checks_text s [] all = refl
-checks_text Opening (c ∷ checks) all = ap (λ (x : List ℕ). (indent ++ check_line c) ++ x) (checks_text BehindCheck checks all.1)
-checks_text s (c ∷ checks) all = ap (λ (x : List ℕ). in_line (check_line c) ++ x) (checks_text BehindCheck checks all.1)
+-- columns and checks from a spot on, with their lines, are parted into them
+abbrev pub AreLaid : Spot → List ColumnDef → List CheckDef → Type 0
+AreLaid s columns checks =
+    (fit : AllFit elements (λ s. (at_spot s).written) s (listed_elements columns checks)) × (joined (items_pieces elements (λ s. (at_spot s).written) s (listed_elements columns checks) fit) ≡ spot_lines s (table_lines columns checks)) × (parted (listed_elements columns checks) ≡ (columns, checks))
 
-pub elements_text : (first : Bool) (columns : List ColumnDef) (checks : List CheckDef) (all : AllByRecursion IsColumn columns) (others : AllByRecursion IsCheck checks)
-    → joined (items_pieces elements (λ s. (at_spot s).written) (spot_at first) (listed_elements columns checks) (elements_fit first columns checks all others)) ≡ spot_lines (spot_at first) (table_lines columns checks)
-unfolding elements_fit
-elements_text first [] checks all others = checks_text (spot_at first) checks others
-elements_text true (c ∷ columns) checks all others = ap (λ (x : List ℕ). (indent ++ column_text c) ++ x) (elements_text false columns checks all.1 others)
-elements_text false (c ∷ columns) checks all others = ap (λ (x : List ℕ). in_line (column_text c) ++ x) (elements_text false columns checks all.1 others)
+pub checks_laid : (s : Spot) (checks : List CheckDef) → AllByRecursion IsCheck checks → AreLaid s [] checks
+unfolding at_spot element_as named_check_as last_element
+checks_laid Opening [] all = (tt, refl, refl)
+checks_laid s [] all = (tt, refl, refl)
+checks_laid s (c ∷ checks) all = by s (checks_laid BehindCheck checks all.1)
+  where
+    with_check : List ColumnDef × List CheckDef → List ColumnDef × List CheckDef
+    with_check x = (x.0, c ∷ x.1)
 
-pub checks_parted : (checks : List CheckDef) → parted (map Check checks) ≡ ([], checks)
-checks_parted [] = refl
-checks_parted (c ∷ checks) = ap (λ (x : List ColumnDef × List CheckDef). (x.0, c ∷ x.1)) (checks_parted checks)
+    by : (s : Spot) → AreLaid BehindCheck [] checks → AreLaid s [] (c ∷ checks)
+    by Opening more = ((inl (c, all.0, refl), more.0), ap (λ (x : List ℕ). (indent ++ check_line c) ++ x) more.1, ap with_check more.2)
+    by BehindColumn more = ((inl (c, all.0, refl), more.0), ap (λ (x : List ℕ). in_line (check_line c) ++ x) more.1, ap with_check more.2)
+    by BehindCheck more = (((c, all.0, refl), more.0), ap (λ (x : List ℕ). in_line (check_line c) ++ x) more.1, ap with_check more.2)
 
-pub parted_so : (columns : List ColumnDef) (checks : List CheckDef) → parted (listed_elements columns checks) ≡ (columns, checks)
-parted_so [] checks = checks_parted checks
-parted_so (c ∷ columns) checks = ap (λ (x : List ColumnDef × List CheckDef). (c ∷ x.0, x.1)) (parted_so columns checks)
+pub elements_laid : (first : Bool) (columns : List ColumnDef) (checks : List CheckDef) → AllByRecursion IsColumn columns → AllByRecursion IsCheck checks → AreLaid (spot_at first) columns checks
+unfolding at_spot element_as named_check_as column_as
+elements_laid first [] checks all others = checks_laid (spot_at first) checks others
+elements_laid true (c ∷ columns) checks all others =
+    let more = elements_laid false columns checks all.1 others in
+    ((inr (c, all.0, refl), more.0), ap (λ (x : List ℕ). (indent ++ column_text c) ++ x) more.1, ap (λ (x : List ColumnDef × List CheckDef). (c ∷ x.0, x.1)) more.2)
+elements_laid false (c ∷ columns) checks all others =
+    let more = elements_laid false columns checks all.1 others in
+    ((inr (c, all.0, refl), more.0), ap (λ (x : List ℕ). in_line (column_text c) ++ x) more.1, ap (λ (x : List ColumnDef × List CheckDef). (c ∷ x.0, x.1)) more.2)
 
 abbrev pub AreElements : List ColumnDef × List CheckDef → Type 0
 AreElements x = AllByRecursion IsColumn x.0 × AllByRecursion IsCheck x.1
@@ -220,10 +187,10 @@ are_elements (Column c ∷ es) all = let others = are_elements es all.1 in ((all
 are_elements (Check c ∷ es) all = let others = are_elements es all.1 in (others.0, (all.0, others.1))
 
 unfoldable pub table_elements_as : Written table_elements
-unfolding table_elements many_elements_as elements_fit
+unfolding table_elements many_elements_as
 table_elements_as =
-    pieces_as (shown_as parted many_elements_as AreElements (λ x is. (listed_elements x.0 x.1, elements_fit true x.0 x.1 is.0 is.1, parted_so x.0 x.1)) are_elements) (λ x is. in_lines (table_lines x.0 x.1) ∷ [])
-    (λ x is. elements_text true x.0 x.1 is.0 is.1 ∙ sym (append-nil (in_lines (table_lines x.0 x.1))))
+    pieces_as (shown_as parted many_elements_as AreElements (λ x is. let laid = elements_laid true x.0 x.1 is.0 is.1 in (listed_elements x.0 x.1, laid.0, laid.2)) are_elements) (λ x is. in_lines (table_lines x.0 x.1) ∷ [])
+    (λ x is. (elements_laid true x.0 x.1 is.0 is.1).1 ∙ sym (append-nil (in_lines (table_lines x.0 x.1))))
 
 unfoldable pub create_table_as : Kinds IsWritable create_table
 unfolding create_table table_elements_as
