@@ -1,5 +1,5 @@
 -- The laws of one of two parts, and of a part that may be left out.
-use Rattle.ddl_parts.proofs.Common.{arith, ◌≡◌, Bool, true, false, List, ◌++◌, Ok, refl, ap, ◌∙◌, ◌⊎◌, inl, inr, ◌∷◌, Lexeme, starts, Part, choose, choose_at, Lawful, Begins, Avoids, Apart}
+use Rattle.ddl_parts.proofs.Common.{arith, ◌≡◌, Bool, true, false, List, ◌++◌, refl, ap, ◌∙◌, inl, inr, ◌∷◌, Lexeme, starts, Part, choose, choose_at, Lawful, Begins, Avoids, Apart}
 use Rattle.ddl_parts.proofs.{Steps.Agrees, Steps.starts_again, Steps.starts_neither, Steps.starts-append, Steps.avoids_begun, Told.Tells, Told.left_of, Told.long_of, Told.told, Told.lawful, Told.told_as}
 
 -- the reading by whether the first is taken

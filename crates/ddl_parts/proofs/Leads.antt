@@ -1,5 +1,5 @@
 -- The laws of words, signs, names and literals; key words that differ are told apart.
-use Rattle.ddl_parts.proofs.Common.{AllByRecursion, ◌≢◌, list_any, ◌==◌, or_parts, nat_tests, length, nat_lt, IsName, IsUtf8-from_is_utf8, All-from_recursion, Option, Some, Ok, ◌≡◌, ℕ, Bool, true, false, List, [], ◌∷◌, refl, ap, ◌∙◌, bytes_eq, codes, eq-eqb, arith, str_eq_ignore_ascii_case, str_to_ascii_lowercase, is_utf8, chars, encode, bytes_eq-Decides, next_is, TokenKind, Word, QuotedName, Literal, Sign, name_of, literal_of, is_keyword_of, undoubled, inside, Lexeme, is_word, is_sign, Part, choose, ◌then◌, ◌▸◌, ◌◂◌, Lawful, Begins, Avoids, Apart, name, name_value, name_in, is_name, literal, literal_value, text_in, is_literal, qualified, Err, path_value, shortened, IsTooLong}
+use Rattle.ddl_parts.proofs.Common.{AllByRecursion, ◌≢◌, list_any, ◌==◌, or_parts, nat_tests, length, nat_lt, IsName, IsUtf8-from_is_utf8, All-from_recursion, Option, Some, Ok, ◌≡◌, ℕ, Bool, true, false, List, [], ◌∷◌, refl, ap, ◌∙◌, bytes_eq, codes, eq-eqb, arith, str_eq_ignore_ascii_case, str_to_ascii_lowercase, is_utf8, chars, encode, bytes_eq-Decides, next_is, TokenKind, Word, QuotedName, Literal, Sign, name_of, literal_of, is_keyword_of, undoubled, inside, Lexeme, is_word, is_sign, Part, choose, ◌▸◌, ◌◂◌, Lawful, Begins, Avoids, Apart, name, name_value, name_in, is_name, literal, literal_value, text_in, is_literal, qualified, Err, path_value, shortened, IsTooLong}
 use Rattle.ddl_parts.proofs.{Steps.avoids_never, Steps.avoids_begun, Shorter.is_far, Shorter.word_agrees, Shorter.sign_agrees, Shorter.name_shortens, Simple.one_laws, Simple.seen_laws, Simple.seen_begins, Sequence.then_laws, Sequence.then_begins, Sequence.lead_laws, Sequence.close_laws, Shorter.no_long_text, Shorter.word_no_text}
 
 -- ---- tokens that stand for something

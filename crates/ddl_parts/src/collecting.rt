@@ -20,6 +20,7 @@ pub struct Run {
 
 /// The tokens from a place of a text up to the first semicolon. Where there is none, they go up to the end of the text
 /// or up to its first fault.
+#[tactic(auto, using(crate::proofs::Collects::joined_whole))]
 pub fn collect(alloc: Global, text: &[u8], from: usize) -> Result<Run, AllocError>
     requires { from ≤ length text.now }
     ensures exact { IfOk result (λ r. collected text.now from ≡ record { pieces = r.pieces.items; end = r.end; fault = r.fault }) }

@@ -10,6 +10,7 @@ use copy_text::Text;
 use std::alloc::{AllocError, Global};
 
 /// Whether the last two tokens of a run are NOT and NULL.
+#[tactic(auto, using(crate::proofs::Endings::ends_null))]
 fn ends_not_null(text: &[u8], pieces: &[Piece], from: usize, end: usize) -> bool
     requires joined { are_joined (length text.now) pieces.now ≡ true }
     requires low { from ≤ end }

@@ -232,6 +232,7 @@ impl<'a> Pieces<'a> {
 }
 
 /// The token at a place.
+#[tactic(auto, using(crate::proofs::Joined::read_at, crate::proofs::Joined::lies_at))]
 pub(crate) fn piece_at(text: &[u8], pieces: &[Piece], at: usize) -> Option<Piece>
     requires { are_joined (length text.now) pieces.now ≡ true }
     ensures read { MatchOption result (drop at (lexemes text.now pieces.now) ≡ [])

@@ -195,6 +195,7 @@ fn end_of_run(done: bool, at: usize) -> Result<usize, ReadError>
 }
 
 /// The end of the run from a place on; `bounded` says that it is a default, `takes` that NOT NULL may end it.
+#[tactic(auto, using(crate::proofs::Scanning::at_end, crate::proofs::Scanning::none_left), unfolding(crate::specs::Expressions::nest_done))]
 pub(crate) fn run_end(
     alloc: Global,
     text: &[u8],
@@ -235,6 +236,7 @@ fn between(text: &[u8], first: Piece, last: Piece) -> &[u8]
 }
 
 /// The text of a run of tokens, from the first to the last.
+#[tactic(auto, using(crate::proofs::Slices::run_is))]
 fn source_between<'a>(text: &'a [u8], pieces: &[Piece], from: usize, end: usize) -> &'a [u8]
     requires joined { are_joined (length text.now) pieces.now ≡ true }
     requires low { from ≤ end }

@@ -206,6 +206,7 @@ fn end_of_type(spot: TypeSpot, long: bool, at: usize) -> Result<usize, ReadError
 }
 
 /// The end of the type from a place on.
+#[tactic(auto, using(crate::proofs::Scanning::at_end, crate::proofs::Scanning::none_left), unfolding(crate::specs::Types::type_done))]
 fn type_end(alloc: Global, text: &[u8], pieces: &[Piece], from: usize) -> Result<usize, ReadError>
     requires { are_joined (length text.now) pieces.now ≡ true }
     ensures { GivesRun (lexemes text.now pieces.now) from result (scan typing typing.start (drop from (lexemes text.now pieces.now))) }

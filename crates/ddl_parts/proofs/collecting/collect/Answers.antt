@@ -1,69 +1,35 @@
-use Rattle.ddl_parts.proofs.Common.{Ok, sym, ap, ◌∙◌, length, arith, collected}
-use Rattle.ddl_parts.proofs.{Collects.all_left, Collects.at_end, Collects.at_fault, Collects.at_semicolon, Collects.at_token, Collects.end_of_none, Collects.end_of_one_more, Collects.joined_none, Collects.joined_one_more, Collects.joined_whole, Slices.sound_none, Slices.sound_one_more, Slices.token_sound}
+use Rattle.ddl_parts.proofs.Common.{Ok, sym, ap, ◌∙◌}
+use Rattle.ddl_parts.proofs.Collects.{all_left, at_end, at_fault, at_semicolon, at_token, joined_whole, none_so_far, one_more}
 use Rattle.ddl_parts.proofs.collecting.collect.Goals as goal
 
 pub tokens-init : goal.tokens-init
-tokens-init c =
-    let e = c.new-pieces.ensures.items in
-    record {
-      left = rw e (all_left c.args.text.now c.args.from);
-      joined = rw e (joined_none (length c.args.text.now) c.args.from);
-      sound = rw e (sound_none c.args.text.now);
-      ends = rw e (end_of_none c.args.from);
-      low = omega arith;
-      forward = λ some. absurd (omega (arith, ap length e));
-      high = omega arith;
-    }
+tokens-init c = rw c.new-pieces.ensures.items (record { left = all_left c.args.text.now c.args.from; so_far = none_so_far c.args.text.now c.args.from c.requires })
 
 pub returns-in-Ok-None-clause-exact : goal.returns-in-Ok-None-clause-exact
-returns-in-Ok-None-clause-exact c =
-    at_end (collected c.args.text.now c.args.from) c.args.text.now c.tokens.pieces.items c.tokens.at c.tokens.invariant.left (sym c.in-Ok-None.ensures.exact ∙ ap Ok c.in-Ok-None.field-0-is)
-
-pub returns-in-Ok-None-clause-joined : goal.returns-in-Ok-None-clause-joined
-returns-in-Ok-None-clause-joined c = joined_whole (length c.args.text.now) c.args.from c.tokens.pieces.items c.tokens.invariant.joined
+returns-in-Ok-None-clause-exact c = at_end _ _ _ _ c.tokens.invariant.left (sym c.in-Ok-None.ensures.exact ∙ ap Ok c.in-Ok-None.field-0-is)
 
 pub returns-in-Err-clause-exact : goal.returns-in-Err-clause-exact
-returns-in-Err-clause-exact c =
-    at_fault (collected c.args.text.now c.args.from) c.args.text.now c.tokens.pieces.items c.tokens.at _ c.tokens.invariant.left (sym c.in-Err.ensures.exact)
+returns-in-Err-clause-exact c = at_fault _ _ _ _ _ c.tokens.invariant.left (sym c.in-Err.ensures.exact)
 
-pub returns-in-Err-clause-joined : goal.returns-in-Err-clause-joined
-returns-in-Err-clause-joined c = joined_whole (length c.args.text.now) c.args.from c.tokens.pieces.items c.tokens.invariant.joined
-
-pub returns-then-is_sign_kind-clause-exact : goal.returns-then-is_sign_kind-clause-exact
-returns-then-is_sign_kind-clause-exact c =
-    rw c.in_ok-push.ensures.items
-    (at_semicolon (collected c.args.text.now c.args.from) c.args.text.now c.tokens.pieces.items c.tokens.at c.in-Ok-Some.token c.tokens.invariant.left
-    (sym c.in-Ok-Some.ensures.exact ∙ ap Ok c.in-Ok-Some.field-0-is) (sym c.is_sign_kind.ensures ∙ c.if-is_sign_kind.true))
-
-pub returns-then-is_sign_kind-clause-joined : goal.returns-then-is_sign_kind-clause-joined
-returns-then-is_sign_kind-clause-joined c =
-    let lies = rw c.in-Ok-Some.field-0-is at c.in-Ok-Some.ensures.within in
-    rw c.in_ok-push.ensures.items
-    (joined_whole (length c.args.text.now) c.args.from _
-    (joined_one_more (length c.args.text.now) c.args.from c.tokens.pieces.items (record { from = c.tokens.at; token = c.in-Ok-Some.token }) c.tokens.invariant.joined c.tokens.invariant.ends lies.0 lies.1 lies.2))
-
-pub returns-then-is_sign_kind-clause-sound : goal.returns-then-is_sign_kind-clause-sound
-returns-then-is_sign_kind-clause-sound c =
-    rw c.in_ok-push.ensures.items
-    (sound_one_more c.args.text.now c.tokens.pieces.items (record { from = c.tokens.at; token = c.in-Ok-Some.token }) c.tokens.invariant.sound
-    (token_sound c.args.text.now c.tokens.at c.in-Ok-Some.token c.tokens.invariant.high (sym c.in-Ok-Some.ensures.exact ∙ ap Ok c.in-Ok-Some.field-0-is)))
+pub returns-then-is_sign_kind : goal.returns-then-is_sign_kind
+returns-then-is_sign_kind c =
+    let h = c.tokens.invariant in
+    let next = sym c.in-Ok-Some.ensures.exact ∙ ap Ok c.in-Ok-Some.field-0-is in
+    let s = one_more c.args.text.now c.args.from c.tokens.at c.tokens.pieces.items c.in-Ok-Some.token h.so_far next (rw c.in-Ok-Some.field-0-is at c.in-Ok-Some.ensures.within) in
+    rw c.in_ok-push.ensures.items (record {
+      exact = at_semicolon _ _ _ _ _ h.left next (sym c.is_sign_kind.ensures ∙ c.if-is_sign_kind.true);
+      joined = joined_whole _ _ _ s.joined;
+      sound = s.sound;
+      within = (s.low, s.high);
+      forward = s.forward;
+    })
 
 pub tokens-preserved : goal.tokens-preserved
 tokens-preserved c =
+    let h = c.tokens.invariant in
+    let next = sym c.in-Ok-Some.ensures.exact ∙ ap Ok c.in-Ok-Some.field-0-is in
     let lies = rw c.in-Ok-Some.field-0-is at c.in-Ok-Some.ensures.within in
-    let e = c.in_ok-push.ensures.items in
-    record {
-      left =
-          rw e
-          (at_token (collected c.args.text.now c.args.from) c.args.text.now c.tokens.pieces.items c.tokens.at c.in-Ok-Some.token c.tokens.invariant.left
-          (sym c.in-Ok-Some.ensures.exact ∙ ap Ok c.in-Ok-Some.field-0-is) (sym c.is_sign_kind.ensures ∙ c.if-is_sign_kind.false) lies.0 lies.1 lies.2);
-      joined = rw e (joined_one_more (length c.args.text.now) c.args.from c.tokens.pieces.items (record { from = c.tokens.at; token = c.in-Ok-Some.token }) c.tokens.invariant.joined c.tokens.invariant.ends lies.0 lies.1 lies.2);
-      sound =
-          rw e
-          (sound_one_more c.args.text.now c.tokens.pieces.items (record { from = c.tokens.at; token = c.in-Ok-Some.token }) c.tokens.invariant.sound
-          (token_sound c.args.text.now c.tokens.at c.in-Ok-Some.token c.tokens.invariant.high (sym c.in-Ok-Some.ensures.exact ∙ ap Ok c.in-Ok-Some.field-0-is)));
-      ends = rw e (end_of_one_more c.args.from c.tokens.pieces.items (record { from = c.tokens.at; token = c.in-Ok-Some.token }));
-      low = omega (arith, lies.0, lies.1);
-      forward = λ some. omega (arith, lies.0, lies.1);
-      high = lies.2;
-    }
+    rw c.in_ok-push.ensures.items (record {
+      left = at_token _ _ _ _ _ h.left next (sym c.is_sign_kind.ensures ∙ c.if-is_sign_kind.false) lies;
+      so_far = one_more _ _ _ _ _ h.so_far next lies;
+    })

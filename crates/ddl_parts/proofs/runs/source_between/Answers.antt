@@ -1,4 +1,4 @@
-use Rattle.ddl_parts.proofs.Common.{◌∙◌, sym, arith}
+use Rattle.ddl_parts.proofs.Common.{arith}
 use Rattle.ddl_parts.proofs.Slices.{run_is}
 use Rattle.ddl_parts.proofs.runs.source_between.Goals as goal
 
@@ -6,8 +6,3 @@ pub between-requires : goal.between-requires
 between-requires c =
     let r = run_is c.args.text.now c.args.pieces.now c.args.from c.args.end _ c.requires.joined (omega arith) c.requires.high in
     record { low = r.low; high = r.high }
-
-pub returns : goal.returns
-returns c =
-    let r = run_is c.args.text.now c.args.pieces.now c.args.from c.args.end _ c.requires.joined (omega arith) c.requires.high in
-    c.between.ensures ∙ sym r.same
