@@ -1,11 +1,11 @@
 //! Statements as texts.
 ghost use Rattle.std.specs.Prelude.{◌≡◌, ◌++◌, OnOk, OnErr};
-ghost use Rattle.ddl_write.specs.Spelling.{spelling, set_text, owner_text, domain_check_text};
-ghost use Rattle.ddl_write.specs.Keys.{key_text, foreign_text, added_check_text, index_text};
-ghost use Rattle.ddl_write.specs.RightsText.{grant_text, revoke_text, comment_text};
-ghost use Rattle.ddl_write.specs.Roles.{changes_text, truth, inherit_text, member_text, encoding_text, database_text};
+ghost use Rattle.ddl_write.specs.Spelling.{spelling, domain_check_text};
+ghost use Rattle.ddl_write.specs.Keys.{key_text, foreign_text, index_text};
+ghost use Rattle.ddl_write.specs.RightsText.{comment_text};
+ghost use Rattle.ddl_write.specs.Roles.{truth, inherit_text, encoding_text, database_text};
 ghost use Rattle.ddl_write.specs.RowsText.{copy_text};
-ghost use Rattle.ddl_write.specs.Sequences.{called_words, type_words, sequence_text, owned_by_text, value_text};
+ghost use Rattle.ddl_write.specs.Sequences.{called_words, type_words, sequence_text, value_text};
 ghost use Rattle.ddl_write.specs.Tables.{enum_text, domain_text, table_text};
 ghost use Rattle.ddl_write.specs.Views.{view_text, default_text};
 ghost use Rattle.ddl_write.specs.Outcome.{Extends};
@@ -14,8 +14,7 @@ use crate::fault::WriteStmtError;
 use crate::lists::put_elements;
 use crate::words::Written;
 use cat_model::{
-    CheckDef, ColumnDef, Commented, Encoding, Granted, Grantee, Items, Owned, QName, Rights,
-    RoleChanges, SequenceKind, Stmt, TypeName,
+    CheckDef, ColumnDef, Commented, Encoding, Items, QName, SequenceKind, Stmt, TypeName,
 };
 use copy_text::{Name, Text};
 use std::alloc::AllocError;
@@ -40,15 +39,14 @@ pub fn write_stmt(stmt: &Stmt, out: &mut Vec<u8>) -> Result<(), WriteStmtError>
 }
 
 /// The same, where an error may leave some of the text.
-#[tactic(auto, unfolding(crate::specs::Spelling::spelling, crate::specs::Spelling::schema_text, crate::specs::Spelling::setting_text, crate::specs::Roles::role_text, crate::specs::Roles::connect_text))]
+#[tactic(auto, unfolding(crate::specs::Spelling::spelling, crate::specs::Spelling::schema_text, crate::specs::Spelling::setting_text, crate::specs::Roles::role_text, crate::specs::Roles::connect_text, crate::specs::Sequences::owned_by_text, crate::specs::Keys::added_check_text, crate::specs::Spelling::set_text, crate::specs::RightsText::grant_text, crate::specs::RightsText::revoke_text, crate::specs::Spelling::owner_text, crate::specs::Roles::changes_text, crate::specs::Roles::member_text))]
 fn put_stmt(stmt: &Stmt, out: &mut Vec<u8>) -> Written
     ensures ok { OnOk result (out.new.items ≡ out.old.items ++ spelling stmt.now) }
     ensures kept { Extends out.old.items out.new.items }
 {
     match stmt {
-        Stmt::CreateSchema { name } => {
-            put!(out; Words(b"CREATE SCHEMA "), Name(name), Words(b";\n"))
-        }
+        Stmt::CreateSchema { name } =>
+            put!(out; Words(b"CREATE SCHEMA "), Name(name), Words(b";\n")),
         Stmt::CreateEnum { q, labels } => put_enum(q, labels.as_slice(), out),
         Stmt::CreateDomain {
             q,
@@ -60,10 +58,9 @@ fn put_stmt(stmt: &Stmt, out: &mut Vec<u8>) -> Written
         Stmt::CreateTable { q, columns, checks } => {
             put_table(q, columns.as_slice(), checks.as_slice(), out)
         }
-        Stmt::SetConfig { name, value } => {
+        Stmt::SetConfig { name, value } =>
             put!(out; Literal(b"SELECT pg_catalog.set_config(", name), Literal(b", ", value),
-                Words(b", false);\n"))
-        }
+                Words(b", false);\n")),
         Stmt::CreateSequence {
             q,
             kind,
@@ -74,7 +71,9 @@ fn put_stmt(stmt: &Stmt, out: &mut Vec<u8>) -> Written
             cache,
             cycle,
         } => put_sequence(q, *kind, start, step, min, max, cache, *cycle, out),
-        Stmt::OwnedBy { q, table, column } => put_owned_by(q, table, column, out),
+        Stmt::OwnedBy { q, table, column } =>
+            put!(out; Words(b"ALTER SEQUENCE "), Path(q), Words(b" OWNED BY "), Path(table),
+                Words(b"."), Name(column), Words(b";\n")),
         Stmt::SetVal { q, value, called } => put_value(q, value, *called, out),
         Stmt::CreateView { q, body } => put_view(b"CREATE VIEW ", q, body, out),
         Stmt::ReplaceView { q, body } => put_view(b"CREATE OR REPLACE VIEW ", q, body, out),
@@ -99,7 +98,9 @@ fn put_stmt(stmt: &Stmt, out: &mut Vec<u8>) -> Written
             parent_columns,
             rest,
         } => put_foreign(q, name, columns, parent, parent_columns, rest, out),
-        Stmt::AddCheck { q, name, text } => put_added_check(q, name, text, out),
+        Stmt::AddCheck { q, name, text } =>
+            put!(out; Words(b"ALTER TABLE ONLY "), Path(q), Words(b"\n    ADD CONSTRAINT "), Name(name),
+                Words(b" CHECK ("), Text(text), Words(b");\n")),
         Stmt::CreateIndex {
             q,
             name,
@@ -115,25 +116,34 @@ fn put_stmt(stmt: &Stmt, out: &mut Vec<u8>) -> Written
         Stmt::CopyRows { q, columns, rows } => {
             put_copy(q, columns.as_slice(), rows.as_slice(), out)
         }
-        Stmt::Set { name, value } => put_set(name, value, out),
+        Stmt::Set { name, value } =>
+            put!(out; Words(b"SET "), Name(name), Words(b" = "), Text(value), Words(b";\n")),
         Stmt::AddDomainCheck { q, name, text } => put_domain_check(q, name, text, out),
         Stmt::Grant {
             object,
             rights,
             grantee,
             option,
-        } => put_grant(object, *rights, grantee, *option, out),
+        } => put!(out; Words(b"GRANT "), Rights(object, *rights), On(object), Words(b" TO "),
+            Whom(grantee), OnlyIf(*option, b" WITH GRANT OPTION"), Words(b";\n")),
         Stmt::Revoke {
             object,
             rights,
             grantee,
-        } => put_revoke(object, *rights, grantee, out),
+        } => put!(out; Words(b"REVOKE "), Rights(object, *rights), On(object), Words(b" FROM "),
+            Whom(grantee), Words(b";\n")),
         Stmt::Comment { object, text } => put_comment(object, text, out),
-        Stmt::OwnerTo { object, role } => put_owner(object, role, out),
-        Stmt::CreateRole { name } => {
-            put!(out; Words(b"CREATE ROLE "), Name(name), Words(b";\n"))
-        }
-        Stmt::AlterRole { name, changes } => put_changes(name, changes, out),
+        Stmt::OwnerTo { object, role } =>
+            put!(out; Words(b"ALTER "), Owned(object), Words(b" OWNER TO "), Name(role), Words(b";\n")),
+        Stmt::CreateRole { name } => put!(out; Words(b"CREATE ROLE "), Name(name), Words(b";\n")),
+        Stmt::AlterRole { name, changes } =>
+            put!(out; Words(b"ALTER ROLE "), Name(name), Words(b" WITH"),
+                Flag(b"SUPERUSER", changes.superuser), Flag(b"INHERIT", changes.inherit),
+                Flag(b"CREATEROLE", changes.create_role), Flag(b"CREATEDB", changes.create_db),
+                Flag(b"LOGIN", changes.login), Flag(b"REPLICATION", changes.replication),
+                Flag(b"BYPASSRLS", changes.bypass_rls), Limit(changes.limit),
+                GivenLiteral(b" PASSWORD ", &changes.password),
+                GivenLiteral(b" VALID UNTIL ", &changes.valid_until), Words(b";\n")),
         Stmt::GrantRole {
             role,
             member,
@@ -141,9 +151,11 @@ fn put_stmt(stmt: &Stmt, out: &mut Vec<u8>) -> Written
             admin,
             inherit,
             set,
-        } => put_member(role, member, grantor, *admin, *inherit, *set, out),
+        } => put!(out; Words(b"GRANT "), Name(role), Words(b" TO "), Name(member),
+            Words(b" WITH ADMIN "), Words(truth(*admin)), Words(inherit_words(*inherit)),
+            Words(b", SET "), Words(truth(*set)), GivenName(b" GRANTED BY ", grantor), Words(b";\n")),
         Stmt::CreateDatabase { name, encoding } => put_database(name, *encoding, out),
-        Stmt::Connect { name } => { put!(out; Words(b"\\connect "), Name(name), Words(b"\n")) }
+        Stmt::Connect { name } => put!(out; Words(b"\\connect "), Name(name), Words(b"\n")),
     }
 }
 
@@ -201,15 +213,6 @@ fn put_sequence<'a>(
         Words(b"\n    START WITH "), Number(start), Words(b"\n    INCREMENT BY "), Number(step),
         Min(kind, step, min), Max(kind, step, max),
         Words(b"\n    CACHE "), Number(cache), OnlyIf(cycle, b"\n    CYCLE"), Words(b";\n"))
-}
-
-#[tactic(auto, unfolding(crate::specs::Sequences::owned_by_text))]
-fn put_owned_by<'a>(q: &'a QName, table: &'a QName, column: &'a Name, out: &mut Vec<u8>) -> Written
-    ensures ok { OnOk result (out.new.items ≡ out.old.items ++ owned_by_text q.now table.now column.now) }
-    ensures kept { Extends out.old.items out.new.items }
-{
-    put!(out; Words(b"ALTER SEQUENCE "), Path(q), Words(b" OWNED BY "), Path(table), Words(b"."),
-        Name(column), Words(b";\n"))
 }
 
 #[tactic(auto, unfolding(crate::specs::Sequences::value_text))]
@@ -274,15 +277,6 @@ fn put_foreign<'a>(
         Names(parent_columns.as_slice()), Rest(rest), Words(b";\n"))
 }
 
-#[tactic(auto, unfolding(crate::specs::Keys::added_check_text))]
-fn put_added_check<'a>(q: &'a QName, name: &'a Name, text: &'a Text, out: &mut Vec<u8>) -> Written
-    ensures ok { OnOk result (out.new.items ≡ out.old.items ++ added_check_text q.now name.now text.now) }
-    ensures kept { Extends out.old.items out.new.items }
-{
-    put!(out; Words(b"ALTER TABLE ONLY "), Path(q), Words(b"\n    ADD CONSTRAINT "), Name(name),
-        Words(b" CHECK ("), Text(text), Words(b");\n"))
-}
-
 /// CREATE INDEX or CREATE UNIQUE INDEX, by its first words.
 #[tactic(auto, unfolding(crate::specs::Keys::index_text))]
 fn put_index<'a>(
@@ -314,89 +308,12 @@ fn put_copy<'a>(q: &'a QName, columns: &'a [Name], rows: &'a [u8], out: &mut Vec
     }
 }
 
-#[tactic(auto, unfolding(crate::specs::Spelling::set_text))]
-fn put_set<'a>(name: &'a Name, value: &'a Text, out: &mut Vec<u8>) -> Written
-    ensures ok { OnOk result (out.new.items ≡ out.old.items ++ set_text name.now value.now) }
-    ensures kept { Extends out.old.items out.new.items }
-{
-    put!(out; Words(b"SET "), Name(name), Words(b" = "), Text(value), Words(b";\n"))
-}
-
 #[tactic(auto, unfolding(crate::specs::Spelling::domain_check_text))]
 fn put_domain_check<'a>(q: &'a QName, name: &'a Name, text: &'a Text, out: &mut Vec<u8>) -> Written
     ensures ok { OnOk result (out.new.items ≡ out.old.items ++ domain_check_text q.now name.now text.now) }
     ensures kept { Extends out.old.items out.new.items }
 {
     put!(out; Words(b"ALTER DOMAIN "), Path(q), Words(b"\n    ADD "), Check(name, text), Words(b";\n"))
-}
-
-#[tactic(auto, unfolding(crate::specs::RightsText::grant_text))]
-fn put_grant<'a>(
-    object: &'a Granted,
-    rights: Rights,
-    grantee: &'a Grantee,
-    option: bool,
-    out: &mut Vec<u8>,
-) -> Written
-    ensures ok { OnOk result (out.new.items ≡ out.old.items ++ grant_text object.now rights grantee.now option) }
-    ensures kept { Extends out.old.items out.new.items }
-{
-    put!(out; Words(b"GRANT "), Rights(object, rights), On(object), Words(b" TO "), Whom(grantee),
-        OnlyIf(option, b" WITH GRANT OPTION"), Words(b";\n"))
-}
-
-#[tactic(auto, unfolding(crate::specs::RightsText::revoke_text))]
-fn put_revoke<'a>(
-    object: &'a Granted,
-    rights: Rights,
-    grantee: &'a Grantee,
-    out: &mut Vec<u8>,
-) -> Written
-    ensures ok { OnOk result (out.new.items ≡ out.old.items ++ revoke_text object.now rights grantee.now) }
-    ensures kept { Extends out.old.items out.new.items }
-{
-    put!(out; Words(b"REVOKE "), Rights(object, rights), On(object), Words(b" FROM "), Whom(grantee),
-        Words(b";\n"))
-}
-
-#[tactic(auto, unfolding(crate::specs::Spelling::owner_text))]
-fn put_owner<'a>(object: &'a Owned, role: &'a Name, out: &mut Vec<u8>) -> Written
-    ensures ok { OnOk result (out.new.items ≡ out.old.items ++ owner_text object.now role.now) }
-    ensures kept { Extends out.old.items out.new.items }
-{
-    put!(out; Words(b"ALTER "), Owned(object), Words(b" OWNER TO "), Name(role), Words(b";\n"))
-}
-
-#[tactic(auto, unfolding(crate::specs::Roles::changes_text))]
-fn put_changes<'a>(name: &'a Name, changes: &'a RoleChanges, out: &mut Vec<u8>) -> Written
-    ensures ok { OnOk result (out.new.items ≡ out.old.items ++ changes_text name.now changes.now) }
-    ensures kept { Extends out.old.items out.new.items }
-{
-    put!(out; Words(b"ALTER ROLE "), Name(name), Words(b" WITH"),
-        Flag(b"SUPERUSER", changes.superuser), Flag(b"INHERIT", changes.inherit),
-        Flag(b"CREATEROLE", changes.create_role), Flag(b"CREATEDB", changes.create_db),
-        Flag(b"LOGIN", changes.login), Flag(b"REPLICATION", changes.replication),
-        Flag(b"BYPASSRLS", changes.bypass_rls), Limit(changes.limit),
-        GivenLiteral(b" PASSWORD ", &changes.password),
-        GivenLiteral(b" VALID UNTIL ", &changes.valid_until), Words(b";\n"))
-}
-
-#[tactic(auto, unfolding(crate::specs::Roles::member_text))]
-fn put_member<'a>(
-    role: &'a Name,
-    member: &'a Name,
-    grantor: &'a Option<Name>,
-    admin: bool,
-    inherit: Option<bool>,
-    set: bool,
-    out: &mut Vec<u8>,
-) -> Written
-    ensures ok { OnOk result (out.new.items ≡ out.old.items ++ member_text role.now member.now grantor.now admin inherit set) }
-    ensures kept { Extends out.old.items out.new.items }
-{
-    put!(out; Words(b"GRANT "), Name(role), Words(b" TO "), Name(member), Words(b" WITH ADMIN "),
-        Words(truth(admin)), Words(inherit_words(inherit)), Words(b", SET "), Words(truth(set)),
-        GivenName(b" GRANTED BY ", grantor), Words(b";\n"))
 }
 
 #[tactic(auto, unfolding(crate::specs::Roles::database_text))]
@@ -414,35 +331,26 @@ fn put_comment<'a>(object: &'a Commented, text: &'a Option<Text>, out: &mut Vec<
     ensures kept { Extends out.old.items out.new.items }
 {
     match object {
-        Commented::Schema(name) => {
-            put!(out; Words(b"COMMENT ON SCHEMA "), Name(name), Remark(text), Words(b";\n"))
-        }
-        Commented::Type(q) => {
-            put!(out; Words(b"COMMENT ON TYPE "), Path(q), Remark(text), Words(b";\n"))
-        }
-        Commented::Domain(q) => {
-            put!(out; Words(b"COMMENT ON DOMAIN "), Path(q), Remark(text), Words(b";\n"))
-        }
-        Commented::Table(q) => {
-            put!(out; Words(b"COMMENT ON TABLE "), Path(q), Remark(text), Words(b";\n"))
-        }
-        Commented::View(q) => {
-            put!(out; Words(b"COMMENT ON VIEW "), Path(q), Remark(text), Words(b";\n"))
-        }
-        Commented::Sequence(q) => {
-            put!(out; Words(b"COMMENT ON SEQUENCE "), Path(q), Remark(text), Words(b";\n"))
-        }
-        Commented::Index(q) => {
-            put!(out; Words(b"COMMENT ON INDEX "), Path(q), Remark(text), Words(b";\n"))
-        }
-        Commented::Column(q, column) => {
+        Commented::Schema(name) =>
+            put!(out; Words(b"COMMENT ON SCHEMA "), Name(name), Remark(text), Words(b";\n")),
+        Commented::Type(q) =>
+            put!(out; Words(b"COMMENT ON TYPE "), Path(q), Remark(text), Words(b";\n")),
+        Commented::Domain(q) =>
+            put!(out; Words(b"COMMENT ON DOMAIN "), Path(q), Remark(text), Words(b";\n")),
+        Commented::Table(q) =>
+            put!(out; Words(b"COMMENT ON TABLE "), Path(q), Remark(text), Words(b";\n")),
+        Commented::View(q) =>
+            put!(out; Words(b"COMMENT ON VIEW "), Path(q), Remark(text), Words(b";\n")),
+        Commented::Sequence(q) =>
+            put!(out; Words(b"COMMENT ON SEQUENCE "), Path(q), Remark(text), Words(b";\n")),
+        Commented::Index(q) =>
+            put!(out; Words(b"COMMENT ON INDEX "), Path(q), Remark(text), Words(b";\n")),
+        Commented::Column(q, column) =>
             put!(out; Words(b"COMMENT ON COLUMN "), Path(q), Words(b"."), Name(column), Remark(text),
-                Words(b";\n"))
-        }
-        Commented::Constraint(q, name) => {
+                Words(b";\n")),
+        Commented::Constraint(q, name) =>
             put!(out; Words(b"COMMENT ON CONSTRAINT "), Name(name), Words(b" ON "), Path(q),
-                Remark(text), Words(b";\n"))
-        }
+                Remark(text), Words(b";\n")),
     }
 }
 
