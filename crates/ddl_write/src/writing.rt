@@ -3,7 +3,7 @@ ghost use Rattle.std.specs.Prelude.{◌≡◌, ◌++◌, OnOk, OnErr};
 ghost use Rattle.ddl_write.specs.Spelling.{spelling, domain_check_text};
 ghost use Rattle.ddl_write.specs.Keys.{key_text, foreign_text, index_text};
 ghost use Rattle.ddl_write.specs.RightsText.{comment_text};
-ghost use Rattle.ddl_write.specs.Roles.{truth, inherit_text, encoding_text, database_text};
+ghost use Rattle.ddl_write.specs.Roles.{changes_text, truth, inherit_text, encoding_text, database_text};
 ghost use Rattle.ddl_write.specs.RowsText.{copy_text};
 ghost use Rattle.ddl_write.specs.Sequences.{called_words, type_words, sequence_text, value_text};
 ghost use Rattle.ddl_write.specs.Tables.{enum_text, domain_text, table_text};
@@ -14,7 +14,8 @@ use crate::fault::WriteStmtError;
 use crate::lists::put_elements;
 use crate::words::Written;
 use cat_model::{
-    CheckDef, ColumnDef, Commented, Encoding, Items, QName, SequenceKind, Stmt, TypeName,
+    CheckDef, ColumnDef, Commented, Encoding, Items, QName, RoleChanges, SequenceKind, Stmt,
+    TypeName,
 };
 use copy_text::{Name, Text};
 use std::alloc::AllocError;
@@ -39,7 +40,7 @@ pub fn write_stmt(stmt: &Stmt, out: &mut Vec<u8>) -> Result<(), WriteStmtError>
 }
 
 /// The same, where an error may leave some of the text.
-#[tactic(auto, unfolding(crate::specs::Spelling::spelling, crate::specs::Spelling::schema_text, crate::specs::Spelling::setting_text, crate::specs::Roles::role_text, crate::specs::Roles::connect_text, crate::specs::Sequences::owned_by_text, crate::specs::Keys::added_check_text, crate::specs::Spelling::set_text, crate::specs::RightsText::grant_text, crate::specs::RightsText::revoke_text, crate::specs::Spelling::owner_text, crate::specs::Roles::changes_text, crate::specs::Roles::member_text))]
+#[tactic(auto, unfolding(crate::specs::Spelling::spelling, crate::specs::Spelling::schema_text, crate::specs::Spelling::setting_text, crate::specs::Roles::role_text, crate::specs::Roles::connect_text, crate::specs::Sequences::owned_by_text, crate::specs::Keys::added_check_text, crate::specs::Spelling::set_text, crate::specs::RightsText::grant_text, crate::specs::RightsText::revoke_text, crate::specs::Spelling::owner_text, crate::specs::Roles::member_text))]
 fn put_stmt(stmt: &Stmt, out: &mut Vec<u8>) -> Written
     ensures ok { OnOk result (out.new.items ≡ out.old.items ++ spelling stmt.now) }
     ensures kept { Extends out.old.items out.new.items }
@@ -136,14 +137,7 @@ fn put_stmt(stmt: &Stmt, out: &mut Vec<u8>) -> Written
         Stmt::OwnerTo { object, role } =>
             put!(out; Words(b"ALTER "), Owned(object), Words(b" OWNER TO "), Name(role), Words(b";\n")),
         Stmt::CreateRole { name } => put!(out; Words(b"CREATE ROLE "), Name(name), Words(b";\n")),
-        Stmt::AlterRole { name, changes } =>
-            put!(out; Words(b"ALTER ROLE "), Name(name), Words(b" WITH"),
-                Flag(b"SUPERUSER", changes.superuser), Flag(b"INHERIT", changes.inherit),
-                Flag(b"CREATEROLE", changes.create_role), Flag(b"CREATEDB", changes.create_db),
-                Flag(b"LOGIN", changes.login), Flag(b"REPLICATION", changes.replication),
-                Flag(b"BYPASSRLS", changes.bypass_rls), Limit(changes.limit),
-                GivenLiteral(b" PASSWORD ", &changes.password),
-                GivenLiteral(b" VALID UNTIL ", &changes.valid_until), Words(b";\n")),
+        Stmt::AlterRole { name, changes } => put_changes(name, changes, out),
         Stmt::GrantRole {
             role,
             member,
@@ -314,6 +308,20 @@ fn put_domain_check<'a>(q: &'a QName, name: &'a Name, text: &'a Text, out: &mut 
     ensures kept { Extends out.old.items out.new.items }
 {
     put!(out; Words(b"ALTER DOMAIN "), Path(q), Words(b"\n    ADD "), Check(name, text), Words(b";\n"))
+}
+
+#[tactic(auto, unfolding(crate::specs::Roles::changes_text))]
+fn put_changes<'a>(name: &'a Name, changes: &'a RoleChanges, out: &mut Vec<u8>) -> Written
+    ensures ok { OnOk result (out.new.items ≡ out.old.items ++ changes_text name.now changes.now) }
+    ensures kept { Extends out.old.items out.new.items }
+{
+    put!(out; Words(b"ALTER ROLE "), Name(name), Words(b" WITH"),
+        Flag(b"SUPERUSER", changes.superuser), Flag(b"INHERIT", changes.inherit),
+        Flag(b"CREATEROLE", changes.create_role), Flag(b"CREATEDB", changes.create_db),
+        Flag(b"LOGIN", changes.login), Flag(b"REPLICATION", changes.replication),
+        Flag(b"BYPASSRLS", changes.bypass_rls), Limit(changes.limit),
+        GivenLiteral(b" PASSWORD ", &changes.password),
+        GivenLiteral(b" VALID UNTIL ", &changes.valid_until), Words(b";\n"))
 }
 
 #[tactic(auto, unfolding(crate::specs::Roles::database_text))]
