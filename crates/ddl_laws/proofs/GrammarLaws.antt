@@ -186,14 +186,12 @@ SpellsPath text q = ((collected text 0).fault ≡ None) × qualified.Spells q (l
 
 pub path_found : (text : List ℕ) (q : QName) → path_in text ≡ Ok q → SpellsPath text q
 unfolding path_in
-path_found text q e = by (collected text 0).fault refl e
-  where
-    ts : List Lexeme
-    ts = lexemes text (collected text 0).pieces
-
-    by : (o : Option LexFault) → (collected text 0).fault ≡ o → whole_path (is_some o) (qualified.read ts) ≡ Ok q → SpellsPath text q
-    by (Some f) is e = absurd (grind arith)
-    by None is e = let f = qualified_laws.found ts q [] (grind arith) in (is, subst (qualified.Spells q) (sym (f.parts ∙ append-nil f.front)) f.spells)
+path_found text q e =
+    let ts = lexemes text (collected text 0).pieces in
+    let whole : (o : Option LexFault) (r : Reading QName) → whole_path (is_some o) r ≡ Ok q → (o ≡ None) × (r ≡ Ok (q, [])) = λ o r e. grind arith in
+    let h = whole (collected text 0).fault (qualified.read ts) e in
+    let f = qualified_laws.found ts q [] h.1 in
+    (h.0, subst (qualified.Spells q) (sym (f.parts ∙ append-nil f.front)) f.spells)
 
 pub path_only : (text : List ℕ) (q : QName) → SpellsPath text q → path_in text ≡ Ok q
 unfolding path_in

@@ -270,18 +270,12 @@ stuck_once text at f g h k =
     h.place ∙ ap (λ (long : Bool). fault_by (length text) fault long (start_of h.rest)) (both_true h.long k.long there back) ∙ ap (λ (r : List Lexeme). fault_by (length text) fault k.long (start_of r)) rest ∙ sym k.place
 
 not_stuck : (text : List ℕ) (at : ℕ) (fault : DdlFault) (s : Option Stmt) → IsStuck text at fault → statement.Spells s (lexemes text (collected text at).pieces) → ⊥
-not_stuck text at fault s h spells = by h.rest refl
-  where
-    by : (rest : List Lexeme) → h.rest ≡ rest → ⊥
-    by [] is = h.short is s (subst (statement.Spells s) (h.tokens ∙ ap (λ (r : List Lexeme). h.front ++ r) is ∙ append-nil h.front) spells)
-    by (t ∷ behind) is = h.none t behind is s behind (subst (statement.Spells s) (h.tokens ∙ ap (λ (r : List Lexeme). h.front ++ r) is) spells)
+not_stuck text at fault s h spells = grind (arith, append-nil)
 
 header_fails : (text : List ℕ) (at : ℕ) (fault : DdlFault) → at ≤ length text → IsStuck text at fault → header text at ≡ Err fault
-header_fails text at fault le h = by (header text at) refl
-  where
-    by : (r : Result (Option Stmt) DdlFault) → header text at ≡ r → r ≡ Err fault
-    by (Ok s) e = absurd (not_stuck text at fault s h (spelled_whole text at le s e))
-    by (Err g) e = ap (λ fault. Err fault) (stuck_once text at g fault (is_stuck text at g e) h)
+header_fails text at fault le h =
+    let by : (r : Result (Option Stmt) DdlFault) → header text at ≡ r → r ≡ Err fault = elim [ Ok s ↦ λ e. absurd (not_stuck text at fault s h (spelled_whole text at le s e)) | Err g ↦ λ e. ap (λ fault. Err fault) (stuck_once text at g fault (is_stuck text at g e) h) ] in
+    by (header text at) refl
 
 -- ---- a statement has a token
 

@@ -1,5 +1,6 @@
 -- Written statements, joined, read as the same statements; and what is read of a text can be written.
-use Rattle.ddl_laws.proofs.Common.{cases_Bool, and_parts, and_from, or_right, drop_all, list_all-append, IsUtf8-append, IsUtf8-from_is_utf8, is_utf8-from_IsUtf8, ◌≡◌, ℕ, suc, ◌+◌, Bool, true, cond, ◌&&◌, ◌-◌, List, [], ◌∷◌, ◌++◌, length, length-append, append_assoc, append-nil, Option, Some, None, Result, Ok, Err, refl, sym, ap, subst, ◌∙◌, arith, ◌⊎◌, inl, inr, codes, ◌≤◌, ◌==◌, slice_index, list_all, is_utf8, IsUtf8, chars, encode, Token, LexFault, next_token_of, spelling as token_text, IsMetaLine, goes_on, token_at, written_kind, next_at_end, spelling_is_read, Piece, Lexeme, spelled, is_sign, start_of, name_value, is_name, is_name_kind, lexeme_of, lexemes, Collected, collected, collected_within, collected_by, nothing_more, preceded, name_begins, IsLine, IsStatement, Reads, all_read, one_read, line_read, line_token, a_name, Gap, passed, space, gap_stands, name_no_sign, name_means, none, newline, IsName, is_blank, in_line, next_is, begins_line, doubled, quoted, written_name, MetaLine, connect_text, unknown, named, stands_alone, one_name, name_alone, connected, command_len, said_by, meta_line, IsSaid, Stmt, Located, semicolon, statement, Whole, whole, with_rows, completed, first_start, listed, statements_of, listed as listed_before, DdlFault, AreRows, rows_behind, rows_read_back, read_are_rows, end_mark, QName, nothing_follows, joined-append, IsWritable, AllWritable, spellings, said, ends_with, only_last, Stood, placed, collects, columns, AllCame, have_come, came_token}
+use Rattle.ddl_laws.proofs.Common.{and_parts, and_from, or_right, drop_all, list_all-append, IsUtf8-append, IsUtf8-from_is_utf8, is_utf8-from_IsUtf8, ◌≡◌, ℕ, suc, ◌+◌, Bool, true, cond, ◌-◌, List, [], ◌∷◌, ◌++◌, length, length-append, append_assoc, append-nil, Option, Some, None, Result, Ok, refl, sym, ap, subst, ◌∙◌, arith, ◌⊎◌, inl, inr, codes, ◌≤◌, ◌==◌, slice_index, list_all, is_utf8, IsUtf8, chars, encode, Token, LexFault, next_token_of, spelling as token_text, IsMetaLine, goes_on, token_at, written_kind, next_at_end, spelling_is_read, Piece, Lexeme, spelled, is_sign, start_of, name_value, is_name, is_name_kind, lexeme_of, lexemes, Collected, collected, collected_within, collected_by, nothing_more, preceded, name_begins, IsLine, IsStatement, Reads, all_read, one_read, line_read, line_token, a_name, Gap, passed, space, name_no_sign, name_means, none, newline, IsName, is_blank, in_line, next_is, begins_line, doubled, quoted, written_name, MetaLine, connect_text, unknown, named, stands_alone, one_name, name_alone, connected, command_len, said_by, meta_line, Stmt, Located, semicolon, statement, Whole, whole, with_rows, completed, first_start, listed, statements_of, listed as listed_before, DdlFault, AreRows, rows_behind, rows_read_back, read_are_rows, end_mark, QName, nothing_follows, joined-append, IsWritable, AllWritable, spellings, said, ends_with, only_last, Stood, placed, collects, columns, AllCame, have_come, came_token}
+use Rattle.ddl_parts.proofs.Common.{IsTokenAt}
 use Rattle.ddl_parts.proofs.Lemmas.{newline as line_feed}
 use Rattle.ddl_write.specs.Spelling.{spelling}
 use Rattle.ddl_forms.proofs.{Passed.both_passed, Passed.feed_passed, Passed.comment_passed, Tokens.passes}
@@ -23,12 +24,9 @@ name_at n = token_at (written_kind n) 1 (written_name n)
 name_next : (n : List ℕ) → IsUtf8 n → (next_token_of (behind_space n) 0 ≡ Ok (Some (name_at n))) × (token_text (behind_space n) (name_at n) ≡ written_name n)
 unfolding token_text
 name_next n utf8 =
-    let whole : (32 ∷ []) ++ (written_name n ++ []) ≡ behind_space n = ap (λ (x : List ℕ). 32 ∷ x) (append-nil (written_name n)) in
     let name = a_name {g = 32 ∷ []} n [] space utf8 refl in
     let there = name.token (32 ∷ []) [] refl in
-    let passed : next_token_of (behind_space n) 0 ≡ next_token_of (behind_space n) 1 =
-    subst (λ (x : List ℕ). next_token_of (32 ∷ x) 0 ≡ next_token_of (32 ∷ x) 1) (append-nil (written_name n ++ []) ∙ append-nil (written_name n)) (name.gap [] [] refl) in
-    (passed ∙ subst (λ (x : List ℕ). next_token_of x 1 ≡ Ok (Some (name_at n))) whole there.found, subst (λ (x : List ℕ). token_text x (name_at n) ≡ written_name n) whole there.spelled)
+    ((simp append-nil at (name.gap [] [] refl)) ∙ (simp append-nil at there.found), simp append-nil at there.spelled)
 
 abbrev piece : List ℕ → Piece
 piece n = record { from = 0; token = name_at n }
@@ -60,13 +58,7 @@ name_found len n is =
 in_one_line : (q : ℕ) (n : List ℕ) → in_line q ≡ true → list_all in_line n ≡ true → list_all in_line (doubled q n) ≡ true
 unfolding doubled
 in_one_line q [] mark all = refl
-in_one_line q (b ∷ n) mark all =
-    let parts = and_parts (in_line b) (list_all in_line n) all in
-    let more = in_one_line q n mark parts.1 in
-    elim (cases_Bool (b == q)) [
-      | inl is ↦ rw is (and_from (in_line q) (in_line q && list_all in_line (doubled q n)) mark (and_from (in_line q) (list_all in_line (doubled q n)) mark more))
-      | inr isnt ↦ rw isnt (and_from (in_line b) (list_all in_line (doubled q n)) parts.0 more)
-    ]
+in_one_line q (b ∷ n) mark all = grind (arith, and_parts, (in_one_line q n mark (and_parts (in_line b) (list_all in_line n) all).1))
 
 -- a place where a line begins: the text begins there, or a line feed stands before it
 abbrev pub IsFresh : List ℕ → Type 0
@@ -89,19 +81,13 @@ pub line_stands : (front g n rest : List ℕ) → Gap g → IsFresh (front ++ g)
 unfolding goes_on next_is in_line is_blank meta_line command_len said_by written_name quoted is_utf8 chars encode
 line_stands front g n rest gap fresh is plain =
     let line = connect_line n in
-    let text = front ++ (g ++ (line ++ 10 ∷ rest)) in
-    let whole : text ≡ (front ++ g) ++ (line ++ 10 ∷ rest) = sym (append_assoc front g (line ++ 10 ∷ rest)) in
     let spells : IsMetaLine line = (_, name_line n (grind (arith, and_from, list_all-append, in_one_line)), refl) in
     let utf8 = is_utf8-from_IsUtf8 line (IsUtf8-append (codes "\\connect ") (written_name n) (IsUtf8-from_is_utf8 (codes "\\connect ") refl) (name_utf8 n is)) in
     let there = spelling_is_read (front ++ g) line (10 ∷ rest) MetaLine spells refl utf8 (λ e. fresh_begins (front ++ g) (line ++ 10 ∷ rest) fresh) in
-    let place : length (front ++ g) ≡ length front + length g = length-append front g in
-    let passed : next_token_of text (length front) ≡ next_token_of text (length front + length g) =
-    subst (λ (x : List ℕ). next_token_of (front ++ (g ++ (x ++ 10 ∷ rest))) (length front) ≡ next_token_of (front ++ (g ++ (x ++ 10 ∷ rest))) (length front + length g)) (append-nil line) (gap_stands g line [] gap refl front (10 ∷ rest) refl) in
-    let found : next_token_of text (length front + length g) ≡ Ok (Some (token_at MetaLine (length front + length g) line)) =
-    subst (λ (x : List ℕ). next_token_of x (length front + length g) ≡ Ok (Some (token_at MetaLine (length front + length g) line))) (sym whole) (subst (λ k. next_token_of ((front ++ g) ++ (line ++ 10 ∷ rest)) k ≡ Ok (Some (token_at MetaLine k line))) place there.found) in
-    let same : token_text text (token_at MetaLine (length front + length g) line) ≡ line =
-    subst (λ (x : List ℕ). token_text x (token_at MetaLine (length front + length g) line) ≡ line) (sym whole) (subst (λ k. token_text ((front ++ g) ++ (line ++ 10 ∷ rest)) (token_at MetaLine k line) ≡ line) place there.spelled) in
-    record { next = passed ∙ found; says = ap meta_line same ∙ ap connected (name_found 8 n is) }
+    let lies : (line : List ℕ) → IsTokenAt ((front ++ g) ++ (line ++ 10 ∷ rest)) (length (front ++ g)) MetaLine line → (next_token_of (front ++ (g ++ (line ++ 10 ∷ rest))) (length front) ≡ Ok (Some (token_at MetaLine (length front + length g) line))) × (token_text (front ++ (g ++ (line ++ 10 ∷ rest))) (token_at MetaLine (length front + length g) line) ≡ line) =
+    λ line there. (passes g gap front (line ++ 10 ∷ rest) ∙ (simp (append_assoc, length-append) at there.found), simp (append_assoc, length-append) at there.spelled) in
+    let here = lies line there in
+    record { next = here.0; says = ap meta_line here.1 ∙ ap connected (name_found 8 n is) }
   where
     name_line : (n : List ℕ) → list_all in_line (written_name n) ≡ true → list_all in_line (codes "connect " ++ written_name n) ≡ true
     name_line n e = e
@@ -138,7 +124,7 @@ pub can_be_written : {g : List ℕ} (gap : Gap g) (s : Stmt) → IsWritable s �
 unfolding spelling connect_text
 can_be_written {g} gap (stmt.CopyRows q columns rows) is =
     subst (Lies g (stmt.CopyRows q columns rows)) (sym (copy_is q columns rows)) (by_rows q columns rows (laid_out gap (stmt.CopyRows q columns []) (copy_head q columns) (copy_spelled gap q columns rows is)) is.2)
-can_be_written {g} gap (stmt.Connect n) is = subst (Lies g (stmt.Connect n)) (sym (ap (λ (x : List ℕ). codes "\\connect " ++ x) refl)) (by_line n is.0 is.1)
+can_be_written gap (stmt.Connect n) is = by_line n is.0 is.1
 can_be_written gap s is = by_tokens s (spelling s) (laid_out gap s (spelling s) (spelled_so gap s tt is)) (λ t end. refl)
 
 -- ---- where nothing is left
@@ -287,15 +273,8 @@ abbrev IsDone : Option Stmt → Type 0
 IsDone None = Unit {0}
 IsDone (Some s) = IsWritable s
 
-whole_is : (s t : Option Stmt) (end n : ℕ) → ends_at s end ≡ ends_at t n → s ≡ t
-whole_is s t end n e = ap stmt_of e
-  where
-    stmt_of : Result Whole DdlFault → Option Stmt
-    stmt_of (Ok w) = w.stmt
-    stmt_of (Err fault) = None
-
 done : (text : List ℕ) (at : ℕ) (h s : Option Stmt) (end : ℕ) → IsDone h → completed text at h ≡ ends_at s end → IsDone s
-done text at h s end is e = grind (arith, whole_is, read_are_rows)
+done text at h s end is e = grind (arith, read_are_rows)
 
 header_done : (text : List ℕ) (at : ℕ) (h : Option Stmt) → at ≤ length text → statement.Spells h (lexemes text (collected text at).pieces) → IsDone h
 header_done text at None le spells = tt
@@ -310,11 +289,7 @@ unfolding in_line
 line_spelled text at start end le e = let c = came_token text at (line_token start end) le e in ap (list_all in_line) c.spells.2 ∙ and_from (in_line 92) (list_all in_line c.spells.0) refl c.spells.1
 
 line_done : (text : List ℕ) (at start end : ℕ) (s : Option Stmt) → at ≤ length text → IsLine text at s start end → IsDone s
-line_done text at start end s le is = by (said_is_a_name (token_text text (line_token start end)) s (line_spelled text at start end le is.next) is.says)
-  where
-    by : IsSaid s → IsDone s
-    by (inl nothing) = subst IsDone (sym nothing) tt
-    by (inr h) = subst IsDone (sym h.1) (h.2, h.3)
+line_done text at start end s le is = grind (arith, said_is_a_name, line_spelled)
 
 all_writable : (text : List ℕ) (at : ℕ) (found : List Located) → at ≤ length text → Reads text at found → AllWritable (said found)
 all_writable text _ _ le (all_read at first sound) = tt

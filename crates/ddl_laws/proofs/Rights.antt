@@ -138,20 +138,18 @@ kind_written Sequences = codes "SEQUENCE"
 kind_written Schemas = codes "SCHEMA"
 kind_written Types = codes "TYPE"
 
-pub kind_says : (w : Wanted) (k : Kind) → kind_has w k ≡ true → Says (λ t. told (having w (kind_first (t ∷ [])))) (kind_written k) k
-unfolding is_bare_word kind_first is_word is_keyword_of
-kind_says w Tables has = (refl, λ t k word. rw (k, word, has) refl)
-kind_says w x has = (refl, λ t k word. rw (k, word, has) refl)
-
 pub kind_is : (w : Wanted) (o : Option Kind) (k : Kind) → having w o ≡ Some k → kind_has w k ≡ true
 kind_is w None k e = absurd cc
-kind_is w (Some j) k e = by (kind_has w j) refl e
-  where
-    by : (b : Bool) → kind_has w j ≡ b → cond b (Some j) None ≡ Some k → kind_has w k ≡ true
-    by b e f = grind arith
+kind_is w (Some j) k e =
+    let found : (b : Bool) → cond b (Some j) None ≡ Some k → (b ≡ true) × (j ≡ k) = λ b e. grind arith in
+    let h = found (kind_has w j) e in
+    subst (λ (x : Kind). kind_has w x ≡ true) h.1 h.0
 
 unfoldable pub kind_with_as : (w : Wanted) → Written (kind_with w)
-kind_with_as w = word_said space (λ k. kind_has w k ≡ true) (λ k. kind_has w k ≡ true) (λ k has. kind_written k) (kind_says w) (λ t k e. kind_is w (kind_first (t ∷ [])) k (told_is (having w (kind_first (t ∷ []))) k e))
+unfolding is_bare_word kind_first is_word is_keyword_of
+kind_with_as w =
+    word_said space (λ k. kind_has w k ≡ true) (λ k. kind_has w k ≡ true) (λ k has. kind_written k) (elim [ Tables ↦ λ has. (refl, λ t k word. rw (k, word, has) refl) | x ↦ λ has. (refl, λ t k word. rw (k, word, has) refl) ])
+    (λ t k e. kind_is w (kind_first (t ∷ [])) k (told_is (having w (kind_first (t ∷ []))) k e))
 
 unfoldable pub object_as : (k : Kind) → Written (object k)
 object_as Tables = seen_as on.Table (path_as space)
@@ -197,30 +195,17 @@ rights_and_object_as w =
 
 -- ---- grantees
 
-pub public_says : (n : List ℕ) → n ≡ codes "public" → Says name_value (codes "PUBLIC") n
-unfolding is_bare_word name_value name_in name_of is_utf8 chars encode
-public_says n is = (refl, λ t k w. rw (k, w) (ap (λ n. Ok n) (sym is)))
-
 pub grantee_is : (n : List ℕ) → IsName n → IsGrantee (grantee_of n)
 unfolding grantee_of
 grantee_is n is = grind arith
 
 -- a role by its name, and all roles by a word
-abbrev pub either_name : Written name
-either_name = also_as (name_as space) (word_said space (λ n. n ≡ codes "public") IsName (λ n is. codes "PUBLIC") public_says value_name)
-
-unfoldable pub grantee_fit : (who : Grantee) → IsGrantee who → (n : List ℕ) × either_name.Fit n × (grantee_of n ≡ who)
-unfolding grantee_of
-grantee_fit grantees.Public is = (codes "public", inr refl, refl)
-grantee_fit (grantees.Role n) is = (n, inl is.0, ap (λ (b : Bool). cond b grantees.Public (grantees.Role n)) is.1)
-
-pub grantee_same : (who : Grantee) (is : IsGrantee who) → joined (either_name.pieces (grantee_fit who is).0 (grantee_fit who is).1) ≡ joined ((32 ∷ []) ∷ grantee_text who ∷ [])
-unfolding grantee_fit
-grantee_same grantees.Public is = refl
-grantee_same (grantees.Role n) is = refl
-
-abbrev pub grantee_as : Written grantee
-grantee_as = pieces_as (like_as (seen_as grantee_of either_name) IsGrantee grantee_fit (λ who h. subst IsGrantee h.2 (grantee_is h.0 h.1))) (λ who is. (32 ∷ []) ∷ grantee_text who ∷ []) grantee_same
+unfoldable pub grantee_as : Written grantee
+unfolding grantee_of is_bare_word name_value name_in name_of is_utf8 chars encode
+grantee_as =
+    let either : Written name = also_as (name_as space) (word_said space (λ n. n ≡ codes "public") IsName (λ n is. codes "PUBLIC") (λ n is. (refl, λ t k w. rw (k, w, is) refl)) value_name) in
+    let fits : (who : Grantee) → IsGrantee who → (n : List ℕ) × either.Fit n × (grantee_of n ≡ who) = elim [ grantees.Public ↦ λ is. (codes "public", inr refl, refl) | grantees.Role n ↦ λ is. (n, inl is.0, ap (λ (b : Bool). cond b grantees.Public (grantees.Role n)) is.1) ] in
+    pieces_as (like_as (seen_as grantee_of either) IsGrantee fits (λ who h. subst IsGrantee h.2 (grantee_is h.0 h.1))) (λ who is. (32 ∷ []) ∷ grantee_text who ∷ []) (elim [ grantees.Public ↦ λ is. refl | grantees.Role n ↦ λ is. refl ])
 
 unfoldable pub option_as : Written grant_option
 unfolding grant_option is_key
@@ -231,11 +216,11 @@ option_as =
     pieces_as (like_as either Anyhow (λ b u. fits b) (λ b h. tt)) (λ b u. only_if b (codes " WITH GRANT OPTION") ∷ (59 ∷ []) ∷ []) (elim [ true ↦ λ u. refl | false ↦ λ u. refl ])
 
 unfoldable pub to_as : Written to_grantee
-unfolding to_grantee option_as is_key
+unfolding to_grantee grantee_as option_as is_key
 to_as = word_then (codes "TO") refl (then_as grantee_as option_as refl) refl
 
 unfoldable pub from_as : Written from_grantee
-unfolding from_grantee is_key
+unfolding from_grantee grantee_as is_key
 from_as = word_then (codes "FROM") refl (end_as grantee_as refl) refl
 
 -- ---- REVOKE

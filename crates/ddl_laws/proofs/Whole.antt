@@ -1,6 +1,6 @@
 -- A statement as one composition of its kinds: which statements can be written, and that its text is its spelling behind
 -- a gap.
-use Rattle.ddl_laws.proofs.Common.{ℕ, List, Some, None, refl, codes, ◌≡◌, suc, Bool, true, false, [], ◌∷◌, ◌++◌, map, append_assoc, Option, sym, ap, ◌∙◌, inl, inr, create_role, create_view, replace_view, index_of, create_index, unique_index_of, create_unique_index, its_role, its_column, create_schema, created, name_and_owner, path_and_owner, altered, selected, command, statement, its_owner, one_more_check, Gap, none, space, Written, Kinds, is_key, dot_as, word_as, ending as end_mark_as, mark_as, name_as, path_as, then_as, end_as, seen_as, choose_as, kind_as, led_as, or_as, IsWritable, quoted, doubled, written_name, written_literal, IsName, end_mark, QName, Utf8, Stmt, Constraint, Check, Primary, Unique, Foreign, TableChange, Owner, Default, Added, table_changed, key_word, path, joined, owned_object, schema_text, set_text, setting_text, owner_text, domain_check_text, enum_text, domain_text, table_text, check_text, table_lines, sequence_text, owned_by_text, value_text, view_text, key_text, foreign_text, added_check_text, index_text, grant_text, revoke_text, comment_text, role_text, changes_text, member_text, database_text, IsPath, comment_on, sequence_of, usual_min, usual_max, create_sequence, arith, bound_or, ℤ}
+use Rattle.ddl_laws.proofs.Common.{ℕ, List, Some, None, refl, codes, ◌≡◌, suc, Bool, true, false, [], ◌∷◌, ◌++◌, append_assoc, Option, sym, ap, ◌∙◌, inl, inr, create_role, create_view, replace_view, index_of, create_index, unique_index_of, create_unique_index, its_role, its_column, create_schema, created, name_and_owner, path_and_owner, altered, selected, command, statement, its_owner, one_more_check, Gap, none, space, Written, Kinds, is_key, dot_as, word_as, ending as end_mark_as, mark_as, name_as, path_as, then_as, end_as, seen_as, choose_as, kind_as, led_as, or_as, IsWritable, quoted, doubled, written_name, written_literal, IsName, end_mark, QName, Utf8, Stmt, Constraint, Check, Primary, Unique, Foreign, TableChange, Owner, Default, Added, table_changed, key_word, path, joined, owned_object, schema_text, set_text, setting_text, owner_text, domain_check_text, enum_text, domain_text, table_text, check_text, sequence_text, owned_by_text, value_text, view_text, key_text, foreign_text, added_check_text, index_text, grant_text, revoke_text, comment_text, role_text, changes_text, member_text, database_text, IsPath, comment_on, sequence_of, usual_min, usual_max, create_sequence, arith, bound_or, ℤ}
 use Rattle.ddl_parts.proofs.Lemmas.{newline}
 use Rattle.ddl_write.specs.{Paths.listed, Paths.ending, Spelling.spelling, Views.default_text, RowsText.copy_text}
 use Rattle.ddl_laws.proofs.{Relations.new_owner_as, Relations.altered_domain_as, Relations.altered_sequence_as, Relations.setting_as, Relations.set_config_as, Relations.set_value_as, Relations.view_and_body_as, Relations.index_parts_as, Relations.copy_from_as, Relations.altered_table_as, Relations.constraint_body_as, Relations.own_change_as, Tables.create_enum_as, Tables.create_domain_as, Tables.create_table_as, Tables.lines_end, Admin.alter_role_as, Admin.create_database_as, Admin.commented_object_as, Rights.granted_as, Rights.revoked_as, Rights.membership_as, Rights.to_as, Rights.from_as, Rights.opening_name, Rights.wanting, Rights.role_wanted, Rights.role_fit, Rights.role_spelled, Rights.rights_opened, Rights.rights_spelled, Sequences.Values, Sequences.written, Sequences.clauses_as, Sequences.writable, Sequences.said, Sequences.bound_of}
@@ -88,9 +88,6 @@ two_behind x l y e = simp append_assoc
 pub both_behind : (x l y e : List ℕ) → x ++ (l ++ (y ++ e)) ≡ (x ++ (l ++ y)) ++ e
 both_behind x l y e = simp append_assoc
 
-pub owner_behind : (g w n r : List ℕ) → g ++ (w ++ (n ++ (codes " OWNER TO " ++ (r ++ ending)))) ≡ g ++ (w ++ (((n ++ codes " OWNER TO ") ++ r) ++ ending))
-owner_behind g w n r = ap (λ (x : List ℕ). g ++ (w ++ x)) (two_behind n (codes " OWNER TO ") r ending)
-
 -- all but a COPY with its rows, and a line: these aren't read by tokens alone
 abbrev pub IsWords : Stmt → Type 0
 IsWords (stmt.CopyRows q columns rows) = ⊥
@@ -114,15 +111,9 @@ role_spelled_so {g} gap role m c admin inherit z is text e =
 pub spelled_so : {g : List ℕ} (gap : Gap g) (s : Stmt) → IsWords s → IsWritable s → IsSpelled gap s (spelling s)
 unfolding in_create in_alter in_comment added_fit member_fit spelling schema_text enum_text domain_text table_text sequence_text role_text database_text view_text index_text owner_text owned_object domain_check_text owned_by_text changes_text key_text foreign_text added_check_text default_text set_text setting_text value_text grant_text revoke_text member_text comment_text written_literal quoted doubled sequence_of
 spelled_so gap (stmt.CreateSchema n) words is = (in_create gap _ 0 (n, is, refl), refl)
-spelled_so {g} gap (stmt.CreateEnum q labels) words is = (
-  in_create gap _ 1 ((q, labels), (is.0, is.1), refl),
-  ap (λ (x : List ℕ). g ++ (codes "CREATE TYPE " ++ (path q ++ (codes " AS ENUM (" ++ x)))) (lines_end (map written_literal labels) (41 ∷ ending)),
-)
+spelled_so {g} gap (stmt.CreateEnum q labels) words is = (in_create gap _ 1 ((q, labels), (is.0, is.1), refl), simp (lines_end, append_assoc))
 spelled_so {g} gap (stmt.CreateDomain q base not_null default checks) words is = (in_create gap _ 2 ((q, ((base, (default, not_null)), checks)), (is.0, ((is.1, is.2), is.3)), refl), refl)
-spelled_so {g} gap (stmt.CreateTable q columns checks) words is = (
-  in_create gap _ 3 ((q, (columns, checks)), (is.0, (is.1, is.2)), refl),
-  ap (λ (x : List ℕ). g ++ (codes "CREATE TABLE " ++ (path q ++ (codes " (" ++ x)))) (lines_end (table_lines columns checks) (41 ∷ ending)),
-)
+spelled_so {g} gap (stmt.CreateTable q columns checks) words is = (in_create gap _ 3 ((q, (columns, checks)), (is.0, (is.1, is.2)), refl), simp (lines_end, append_assoc))
 spelled_so gap (stmt.CreateRole n) words is = (in_create gap _ 4 (n, is, refl), refl)
 spelled_so gap (stmt.CreateDatabase n None) words is = (in_create gap _ 5 ((n, None), (is, tt), refl), refl)
 spelled_so gap (stmt.CreateDatabase n (Some Utf8)) words is = (in_create gap _ 5 ((n, Some Utf8), (is, tt), refl), refl)
@@ -135,13 +126,13 @@ spelled_so gap (stmt.CreateSequence q kind start step min max cache cycle) words
     let said_is : (kind : SequenceKind) → unwrap_or (said kind) BigInt ≡ kind = λ x. grind arith in
     let v : Values = record { kind = kind; start = start; step = step; min = min; max = max; cache = cache; cycle = cycle } in
     (in_create gap _ 10 ((q, written v), (is.0, (v, (is.1, is.2, is.3, is.4, is.5), refl)), rw (said_is v.kind, bound_is (usual_min v.kind v.step) v.min, bound_is (usual_max v.kind v.step) v.max) refl), refl)
-spelled_so {g} gap (stmt.OwnerTo (owned.Schema n) r) words is = (in_alter gap _ 0 ((n, r), (is.0, is.1), refl), owner_behind g (codes "ALTER SCHEMA ") (written_name n) (written_name r))
-spelled_so {g} gap (stmt.OwnerTo (owned.Type q) r) words is = (in_alter gap _ 1 ((q, r), (is.0, is.1), refl), owner_behind g (codes "ALTER TYPE ") (path q) (written_name r))
-spelled_so {g} gap (stmt.OwnerTo (owned.Domain q) r) words is = (in_alter gap _ 2 ((q, its_owner r), (is.0, inl (r, is.1, refl)), refl), owner_behind g (codes "ALTER DOMAIN ") (path q) (written_name r))
-spelled_so {g} gap (stmt.OwnerTo (owned.Table q) r) words is = (in_alter gap _ 3 (altered_table_as.pick 1 _ ((q, Owner r), (is.0, inl (r, is.1, refl)), refl)), owner_behind g (codes "ALTER TABLE ") (path q) (written_name r))
-spelled_so {g} gap (stmt.OwnerTo (owned.Sequence q) r) words is = (in_alter gap _ 4 ((q, its_role r), (is.0, inl (r, is.1, refl)), refl), owner_behind g (codes "ALTER SEQUENCE ") (path q) (written_name r))
-spelled_so {g} gap (stmt.OwnerTo (owned.View q) r) words is = (in_alter gap _ 5 ((q, r), (is.0, is.1), refl), owner_behind g (codes "ALTER VIEW ") (path q) (written_name r))
-spelled_so {g} gap (stmt.OwnerTo (owned.Database n) r) words is = (in_alter gap _ 6 ((n, r), (is.0, is.1), refl), owner_behind g (codes "ALTER DATABASE ") (written_name n) (written_name r))
+spelled_so {g} gap (stmt.OwnerTo (owned.Schema n) r) words is = (in_alter gap _ 0 ((n, r), (is.0, is.1), refl), simp append_assoc)
+spelled_so {g} gap (stmt.OwnerTo (owned.Type q) r) words is = (in_alter gap _ 1 ((q, r), (is.0, is.1), refl), simp append_assoc)
+spelled_so {g} gap (stmt.OwnerTo (owned.Domain q) r) words is = (in_alter gap _ 2 ((q, its_owner r), (is.0, inl (r, is.1, refl)), refl), simp append_assoc)
+spelled_so {g} gap (stmt.OwnerTo (owned.Table q) r) words is = (in_alter gap _ 3 (altered_table_as.pick 1 _ ((q, Owner r), (is.0, inl (r, is.1, refl)), refl)), simp append_assoc)
+spelled_so {g} gap (stmt.OwnerTo (owned.Sequence q) r) words is = (in_alter gap _ 4 ((q, its_role r), (is.0, inl (r, is.1, refl)), refl), simp append_assoc)
+spelled_so {g} gap (stmt.OwnerTo (owned.View q) r) words is = (in_alter gap _ 5 ((q, r), (is.0, is.1), refl), simp append_assoc)
+spelled_so {g} gap (stmt.OwnerTo (owned.Database n) r) words is = (in_alter gap _ 6 ((n, r), (is.0, is.1), refl), simp append_assoc)
 spelled_so {g} gap (stmt.AddDomainCheck q n v) words is = (
   in_alter gap _ 2 ((q, one_more_check (record { name = n; text = v })), (is.0, inr (record { name = n; text = v }, (is.1, is.2), refl)), refl),
   ap (λ (x : List ℕ). g ++ (codes "ALTER DOMAIN " ++ x)) (two_behind (path q) (codes "\n    ADD ") (check_text n v) ending),
@@ -156,13 +147,10 @@ spelled_so {g} gap (stmt.AddForeign q n ns parent theirs rest) words is = (
   added_fit gap q n (Foreign ns parent theirs rest) is.0 is.1 (constraint_body_as.pick 3 (Foreign ns parent theirs rest) ((ns, (parent, (theirs, rest))), (is.2, (is.3, (is.4, is.5))), refl)),
   refl,
 )
-spelled_so {g} gap (stmt.SetConfig n v) words is = (
-  (command_as gap).pick 2 _ (selected_as.pick 0 _ ((n, v), (is.0, is.1), refl)),
-  ap (λ (x : List ℕ). g ++ (codes "SELECT pg_catalog.set_config(" ++ x)) (both_behind (written_literal n) (codes ", ") (written_literal v) (codes ", false)" ++ ending)),
-)
+spelled_so {g} gap (stmt.SetConfig n v) words is = ((command_as gap).pick 2 _ (selected_as.pick 0 _ ((n, v), (is.0, is.1), refl)), simp append_assoc)
 spelled_so {g} gap (stmt.SetVal q n true) words is = ((command_as gap).pick 2 _ (selected_as.pick 1 _ ((q, (n, true)), (is.0, (is.1, inl (tt, tt, refl))), refl)), refl)
 spelled_so {g} gap (stmt.SetVal q n false) words is = ((command_as gap).pick 2 _ (selected_as.pick 1 _ ((q, (n, false)), (is.0, (is.1, inr (tt, tt, refl))), refl)), refl)
-spelled_so {g} gap (stmt.Set n v) words is = ((command_as gap).pick 3 _ ((n, (tt, v)), (is.0, (inl tt, is.1)), refl), ap (λ (x : List ℕ). g ++ (codes "SET " ++ x)) (two_behind (written_name n) (codes " = ") v ending))
+spelled_so {g} gap (stmt.Set n v) words is = ((command_as gap).pick 3 _ ((n, (tt, v)), (is.0, (inl tt, is.1)), refl), simp append_assoc)
 spelled_so gap (stmt.Comment (commented.Schema n) text) words is = (in_comment gap _ 0 ((n, text), (is.0, is.1), refl), refl)
 spelled_so gap (stmt.Comment (commented.Type q) text) words is = (in_comment gap _ 1 ((q, text), (is.0, is.1), refl), refl)
 spelled_so gap (stmt.Comment (commented.Domain q) text) words is = (in_comment gap _ 2 ((q, text), (is.0, is.1), refl), refl)
