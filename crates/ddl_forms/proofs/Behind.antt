@@ -1,6 +1,5 @@
 -- What may stand behind a text, and what a text begins with.
-use Rattle.ddl_forms.proofs.Common.{◌≡◌, ℕ, ◌+◌, Bool, true, false, cond, ◌||◌, List, [], ◌∷◌, ◌++◌, append_assoc, arith, ◌==◌, nat_lt, lt-ltb, nat_tests}
-use Rattle.std.proofs.lemmas.Bool.{ltb-true}
+use Rattle.ddl_forms.proofs.Common.{◌≡◌, ℕ, ◌+◌, Bool, true, false, cond, ◌||◌, List, [], ◌∷◌, ◌++◌, append_assoc, arith, ◌==◌, nat_lt, lt-ltb, nat_tests, ltb-true}
 use Rattle.ddl_forms.proofs.Standing.{is_safe, is_safe_byte}
 
 -- anything; what parts words, names and literals; what goes on with no token; or nothing

@@ -1,8 +1,7 @@
 -- A default is written with the tokens that it has, with NOT NULL behind it or without; and what is read of a text as a
 -- default can be written.
-use Rattle.ddl_forms.proofs.Common.{◌≡◌, ℕ, suc, ◌-◌, Bool, true, false, List, [], ◌∷◌, ◌++◌, length, length-append, append_assoc, append-nil, drop, Option, Some, None, refl, sym, ap, subst, ◌∙◌, ◌⊎◌, arith, inl, inr, codes, is_utf8, chars, encode, and_from, take_at, drop_at, begins_word, in_word, is_digit, is_keyword_of, Spot, First, LaterNot, Closed as Shut, Lexeme, spelled, source, is_word, is_sign, run, Runs, Nest, nested, nest_step, nest_done, ends_run, default_and_null, are_not_null, without_not_null, words_apart, nest, run_none, semicolon, IsDefaultText}
-use Rattle.ddl_write.specs.Paths.{only_if}
-use Rattle.ddl_forms.proofs.{Standing.Stood, Standing.placed, Kept.AllCame, Kept.AllPlain, Kept.came_front, Kept.spelled-append, Tokens.space, Tokens.word_token, Tokens.a_word, RunTexts.plain_runs, RunTexts.not_some, RunTexts.run-append, RunTexts.placed-append, RunTexts.plain_last, RunTexts.run_kept, RunTexts.run_read, Behind.Words, Behind.Safe, Behind.admits, Behind.admitted, Putting.Follows, Putting.IsPut, Putting.same_text, Written.Written, Written.leaf_as, Written.pieces_as, Written.run_put, Closing.only_last, Expressions.nested_plain}
+use Rattle.ddl_forms.proofs.Common.{◌≡◌, ℕ, suc, ◌-◌, Bool, true, false, List, [], ◌∷◌, ◌++◌, length, length-append, append-nil, drop, Option, Some, None, refl, sym, ap, subst, ◌∙◌, ◌⊎◌, arith, inl, inr, codes, and_from, take_at, drop_at, is_keyword_of, Spot, First, LaterNot, Closed as Shut, Lexeme, source, is_word, is_sign, run, Nest, nested, nest_step, nest_done, ends_run, default_and_null, are_not_null, without_not_null, words_apart, nest, run_none, IsDefaultText, only_if, joined, Part, choose, seen, nothing, mark, never, runs_of, ◌▸◌, ◌then◌, passes_true}
+use Rattle.ddl_forms.proofs.{Tokens.space, RunTexts.not_some, RunTexts.run-append, Behind.Safe, Written.Written, Written.pieces_as, Expressions.nested_plain, Written.is_key, Written.carry_as, Written.then_as, Written.run_as, Written.after_as, Written.choose_as, Written.lead_as, Written.word_as, Written.seen_as, Written.mark_as, Written.nothing_as}
 
 -- ---- steps of the two machines of defaults
 
@@ -53,56 +52,6 @@ no_nulls s last (a ∷ b ∷ c ∷ ts) e done = by (nest_step true false s a) (�
     by None f e = absurd (not_some last (run (nested true false) None ts) e (run_none (nested true false) ts))
     by (Some x) f e = let n : length (a ∷ b ∷ c ∷ ts) - 2 ≡ suc (length (b ∷ c ∷ ts) - 2) = omega arith in rw n (f x e)
 
--- ---- a default's text
-
--- the words NOT NULL
-abbrev not_null : List Lexeme
-not_null = word_token (32 ∷ []) (codes "NOT") ∷ word_token (32 ∷ []) (codes "NULL") ∷ []
-
-not_null_plain : AllPlain not_null
-unfolding is_sign
-not_null_plain = (record { ends = refl; line = λ e. absurd cc }, (record { ends = refl; line = λ e. absurd cc }, tt))
-
-runs_with_null : (ts : List Lexeme) (at : ℕ) → Runs (nested true false) ts → Runs (nested true true) (ts ++ placed at not_null)
-unfolding nest_step nest_done ends_run is_word is_sign is_keyword_of
-runs_with_null ts at r =
-    let more = run_more (nested true false).start r.last ts refl r.runs in
-    record {
-      last = nest [] Shut;
-      runs = run-append (nested true true) (Some (nested true true).start) ts (placed at not_null)
-          ∙ ap (λ o. run (nested true true) o (placed at not_null)) more.0
-          ∙ (grind arith);
-      done = refl;
-    }
-
-alone_spells : (v : List ℕ) (ts : List Lexeme) → source ts ≡ v → Runs (nested true false) ts → default_and_null.Spells (v, false) ts
-unfolding default_and_null
-alone_spells v ts whole r =
-    (ts, sym (without_nulls ts (no_nulls (nested true false).start r.last ts r.runs r.done) ∙ ap (λ (x : List ℕ). (x, false)) whole), (refl, record { last = r.last; runs = (run_more (nested true false).start r.last ts refl r.runs).0; done = r.done }))
-
-abbrev pub null_words : List ℕ
-null_words = codes " NOT NULL"
-
-pub default_put : (v : List ℕ) (b : Bool) (others : List Lexeme) → IsDefaultText v → Follows others → admits Safe (spelled others) ≡ true → IsPut default_and_null (v, b) ((32 ∷ []) ++ (v ++ only_if b null_words)) others
-unfolding in_word begins_word is_digit is_utf8 chars encode default_and_null without_not_null is_word is_keyword_of
-default_put v false others is follows e =
-    same_text (32 ∷ v) (32 ∷ (v ++ [])) (ap (λ (x : List ℕ). 32 ∷ x) (sym (append-nil v)))
-    (run_put (plain_runs (nested_plain true false)) default_and_null (v, false) v others space is (λ ts runs whole same. alone_spells v ts whole runs) follows e)
-default_put v true others is follows e =
-    let not_null_stood : (others : List Lexeme) → Stood others → admits Words (spelled others) ≡ true → Stood (not_null ++ others) =
-    λ others stood e. (a_word (codes "NOT") (spelled (word_token (32 ∷ []) (codes "NULL") ∷ others)) space (refl, refl) refl refl, (a_word (codes "NULL") (spelled others) space (refl, refl) refl e, stood)) in
-    let stood = not_null_stood others follows.stood (admitted Words Safe (spelled others) refl e) in
-    let k = run_kept (Runs (nested true false)) (plain_runs (nested_plain true false)) (32 ∷ []) v (not_null ++ others) space is stood refl in
-    record {
-      tokens = k.tokens ++ not_null;
-      bytes = spelled-append k.tokens not_null ∙ ap (λ (x : List ℕ). x ++ spelled not_null) k.bytes;
-      stood = subst Stood (sym (append_assoc k.tokens not_null others)) k.stood;
-      spells = λ at. subst (default_and_null.Spells (v, true)) (sym (placed-append at k.tokens not_null)) (grind (arith, not_null, runs_with_null, take_at, length-append, drop_at));
-      last = ap (only_last semicolon) (append_assoc k.tokens not_null others) ∙ plain_last k.tokens (not_null ++ others) k.plain (plain_last not_null others not_null_plain follows.last);
-    }
-
--- ---- a default that was read
-
 -- where NOT NULL is taken, a run is one where it isn't, or such a one and NOT NULL, or NULL behind a later NOT
 data IsRead (s last : Nest) : List Lexeme → Type 0 where
   alone : (ts : List Lexeme) → run (nested true false) (Some s) ts ≡ Some last → IsRead s last ts
@@ -127,31 +76,74 @@ run_is s last (t ∷ ts) e = by (nest_step true true s t) refl (λ x f. run_is x
     by None is f e = absurd (not_some last (run (nested true true) None ts) e (run_none (nested true true) ts))
     by (Some x) is f e = elim (step_goes s x t is) [ inl g ↦ more x g.0 g.1 ts (f x e) | inr c ↦ shut ts (rw c.2 at e) c.0 c.1 ]
 
--- a default, and whether NOT NULL follows it
-record IsDefaultRead (ts : List Lexeme) : Type 0 where
-  front : List Lexeme
-  behind : List Lexeme
-  parts : ts ≡ front ++ behind
-  text : (without_not_null ts).0 ≡ source front
-  runs : Runs (nested true false) front
+-- ---- a default and NOT NULL, or nothing, behind it
 
-default_read : (ts : List Lexeme) (last : Nest) → nest_done last ≡ true → IsRead (nest [] First) last ts → IsDefaultRead ts
+abbrev pub null_words : List ℕ
+null_words = codes " NOT NULL"
+
+abbrev pub with_null : Part (List ℕ × Bool)
+with_null = seen source (runs_of (nested true false)) then choose never (is_word (codes "not") ▸ seen (λ u. true) (mark (is_word (codes "null")))) (nothing never false)
+
+not_taken : (s : Nest) (a : Lexeme) → is_shut s.spot ≡ false → nest_done s ≡ true → is_word (codes "not") a ≡ true → nest_step true true s a ≡ Some (nest [] LaterNot)
+unfolding nest_step nest_done ends_run is_word is_sign is_keyword_of
+not_taken s a free done is = grind (arith, (words_apart (codes "not") (codes "default") refl a is), (words_apart (codes "not") (codes "constraint") refl a is))
+
+null_taken : (b : Lexeme) → is_word (codes "null") b ≡ true → nest_step true true (nest [] LaterNot) b ≡ Some (nest [] Shut)
+unfolding nest_step ends_run is_word is_sign is_keyword_of
+null_taken b is = grind (arith, (words_apart (codes "null") (codes "not") refl b is), (words_apart (codes "null") (codes "default") refl b is), (words_apart (codes "null") (codes "constraint") refl b is))
+
+pub spells_whole : (x : List ℕ × Bool) (ts : List Lexeme) → with_null.Spells x ts → default_and_null.Spells x ts
+unfolding default_and_null without_not_null nest_done
+spells_whole x ts s =
+    let r = s.3.2.1 in
+    let more = run_more (nest [] First) r.last s.0 refl r.runs in
+    let whole : x.0 ≡ source s.0 = s.3.1 ∙ ap source s.3.2.0 in
+    elim s.4 [
+      | inl h ↦
+          let a = h.2.3.0 in
+          let b = h.2.4.2.0 in
+          let not : is_word (codes "not") a ≡ true = passes_true tt _ h.2.3.2 in
+          let null : is_word (codes "null") b ≡ true = passes_true tt _ h.2.4.2.2 in
+          let runs = run-append (nested true true) (Some (nest [] First)) s.0 (a ∷ b ∷ []) ∙ rw (more.0, not_taken r.last a more.1 r.done not, null_taken b null) refl in
+          rw (s.2, h.2.2, h.2.3.1, h.2.4.2.1) (s.0 ++ a ∷ b ∷ [], grind (arith, and_from, take_at, length-append, drop_at), (refl, record { last = nest [] Shut; runs = runs; done = refl }))
+      | inr h ↦
+          let pair : (x.0, x.1) ≡ (source s.0, false) = cc (whole, h.0) in
+          rw (s.2, h.1, append-nil) (s.0, pair ∙ sym (without_nulls s.0 (no_nulls (nest [] First) r.last s.0 r.runs r.done)), (refl, record { last = r.last; runs = more.0; done = r.done }))
+    ]
+
+heard : (ts : List Lexeme) (last : Nest) → nest_done last ≡ true → IsRead (nest [] First) last ts → (y : List ℕ × Bool) × with_null.Spells y ts × ((without_not_null ts).0 ≡ y.0)
 unfolding without_not_null
-default_read _ last done (alone ts runs) = record { front = ts; behind = []; parts = sym (append-nil ts); text = ap (λ (x : List ℕ × Bool). x.0) (without_nulls ts (no_nulls (nest [] First) last ts runs done)); runs = record { last = last; runs = runs; done = done } }
-default_read _ last done (before ts x a b runs end not null) = record { front = ts; behind = a ∷ b ∷ []; parts = refl; text = grind (arith, and_from, take_at, length-append, drop_at); runs = record { last = x; runs = runs; done = end } }
-default_read _ last done (half b is spot) = absurd cc
+heard _ last done (alone ts runs) = ((source ts, false), (ts, [], sym (append-nil ts), (ts, refl, (refl, record { last = last; runs = runs; done = done })), inr (refl, refl)), ap (λ (y : List ℕ × Bool). y.0) (without_nulls ts (no_nulls (nest [] First) last ts runs done)))
+heard _ last done (before ts x a b runs end not null) =
+    ((source ts, true), (ts, a ∷ b ∷ [], refl, (ts, refl, (refl, record { last = x; runs = runs; done = end })), inl ((tt, true), refl, (a ∷ [], b ∷ [], refl, (a, refl, rw not refl), (tt, refl, (b, refl, rw null refl))))), grind (arith, and_from, take_at, length-append, drop_at))
+heard _ last done (half b is spot) = absurd cc
 
--- what tokens of a text spell is a default's text, whether NOT NULL follows or not
-pub default_and_null_is_read : (x : List ℕ × Bool) (ts : List Lexeme) (r : List ℕ) → AllCame ts r → default_and_null.Spells x ts → IsDefaultText x.0
+pub whole_heard : (x : List ℕ × Bool) (ts : List Lexeme) → default_and_null.Spells x ts → (y : List ℕ × Bool) × with_null.Spells y ts × (x.0 ≡ y.0)
 unfolding default_and_null
-default_and_null_is_read x ts r came spells =
-    let q = spells.2.1 in
-    let d = default_read ts q.last q.done (run_is (nest [] First) q.last ts q.runs) in
-    let text = (run_read (nested true false) (nested_plain true false) d.front (spelled d.behind ++ r) (came_front d.front d.behind r (subst (λ (us : List Lexeme). AllCame us r) d.parts came)) d.runs).text in
-    subst IsDefaultText (sym (ap (λ (y : List ℕ × Bool). y.0) spells.1 ∙ ap (λ (us : List Lexeme). (without_not_null us).0) spells.2.0 ∙ d.text)) text
+whole_heard x ts s =
+    let q = s.2.1 in
+    let h = heard ts q.last q.done (run_is (nest [] First) q.last ts q.runs) in
+    (h.0, h.1, ap (λ (y : List ℕ × Bool). y.0) (s.1 ∙ ap without_not_null s.2.0) ∙ h.2)
+
+pub are_keys : (is_key (codes "not") (codes "NOT") ≡ true) × (is_key (codes "null") (codes "NULL") ≡ true)
+unfolding is_key
+are_keys = (refl, refl)
+
+abbrev pub null_fits : (b : Bool) → ((u : Unit {0}) × Unit {0} × (true ≡ b)) ⊎ (b ≡ false)
+null_fits true = inl (tt, tt, refl)
+null_fits false = inr refl
+
+abbrev pub with_null_as : Written with_null
+with_null_as =
+    then_as (run_as (nested_plain true false) space)
+    (after_as (choose_as (lead_as (word_as space (codes "NOT") are_keys.0) (seen_as (λ u. true) (mark_as (word_as space (codes "NULL") are_keys.1))) refl) (nothing_as false)) Safe refl) refl
+
+pub same_bytes : (v : List ℕ) (b : Bool) (is : IsDefaultText v) → joined (with_null_as.pieces (v, b) (is, null_fits b)) ≡ joined ((32 ∷ []) ∷ v ∷ only_if b null_words ∷ [])
+same_bytes v true is = refl
+same_bytes v false is = refl
 
 -- a default, and whether NOT NULL stands behind it
 abbrev pub default_and_null_as : Written default_and_null
 default_and_null_as =
-    pieces_as (leaf_as (λ x. IsDefaultText x.0) (λ x. IsDefaultText x.0) (32 ∷ []) (λ x is. x.0 ++ only_if x.1 null_words) Safe (λ x is others. default_put x.0 x.1 others is) default_and_null_is_read)
-    (λ x is. (32 ∷ []) ∷ x.0 ∷ only_if x.1 null_words ∷ []) (λ x is. ap (λ (y : List ℕ). 32 ∷ y) (append_assoc x.0 (only_if x.1 null_words) []))
+    pieces_as (carry_as with_null_as default_and_null (λ x. IsDefaultText x.0) (λ x. IsDefaultText x.0) (λ x is. (x, (is, null_fits x.1))) (λ x is. spells_whole x) (λ x ts s. let h = whole_heard x ts s in (h.0, h.1, λ is. subst IsDefaultText (sym h.2) is.0)))
+    (λ x is. (32 ∷ []) ∷ x.0 ∷ only_if x.1 null_words ∷ []) (λ x is. same_bytes x.0 x.1 is)

@@ -1,8 +1,7 @@
 -- Tokens of a text are read as the same tokens in another text, where they are kept with what stands between them.
-use Rattle.ddl_forms.proofs.Common.{◌≡◌, ℕ, zero, suc, ◌+◌, ◌-◌, ◌<◌, ◌≤◌, true, false, List, [], ◌∷◌, ◌++◌, length, length-append, append_assoc, take, drop, Option, Some, None, Result, Ok, Err, refl, sym, ap, subst, ◌∙◌, arith, inl, inr, slice_range, is_utf8, and_parts, or_parts, nat_tests, cases_Bool, drop_at, drop_split, TokenKind, Word, QuotedName, Literal, Number, Sign, MetaLine, Token, LexFault, is_blank, is_digit, begins_word, in_word, marks_escapes, next_is, next_token_of, LiesBehind, spelling, Spells, AreDigits, IsGap, goes_on, goes_on_behind_dot, Between, gap, IsNext, next_found, piece_word, quoted_is, word_free, digit_free, lies_behind, spelling_is_read, gap_is_passed, Lexeme, spelled, is_sign_kind, lexeme_of, lexemes, Collected, collected, collected_within, collected_by, nothing_more, preceded, and_false, drop_twice, seam, between_low, semicolon}
+use Rattle.ddl_forms.proofs.Common.{◌≡◌, ℕ, zero, suc, ◌+◌, ◌-◌, ◌<◌, ◌≤◌, true, false, List, [], ◌∷◌, ◌++◌, length, length-append, append_assoc, take, drop, Option, Some, None, Result, Ok, Err, refl, sym, ap, subst, ◌∙◌, arith, inl, inr, slice_range, is_utf8, and_parts, or_parts, nat_tests, cases_Bool, drop_at, drop_split, TokenKind, Word, QuotedName, Literal, Number, Sign, MetaLine, Token, LexFault, is_blank, is_digit, begins_word, in_word, marks_escapes, next_is, next_token_of, LiesBehind, spelling, Spells, AreDigits, IsGap, goes_on, goes_on_behind_dot, Between, gap, IsNext, next_found, piece_word, quoted_is, word_free, digit_free, lies_behind, spelling_is_read, gap_is_passed, Lexeme, spelled, is_sign_kind, lexeme_of, lexemes, Collected, collected, collected_within, collected_by, nothing_more, preceded, and_false, drop_twice, seam, between_low, semicolon, add_assoc}
 use Rattle.sql_lex.specs.{Bytes.is_sign as is_sign_byte, Answers.nothing}
 use Rattle.ddl_forms.proofs.Standing.{is_safe, Stands, Stood}
-use Rattle.std.proofs.Math.Nat.{add_assoc}
 
 -- ---- tokens as they came
 

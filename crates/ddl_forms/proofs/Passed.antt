@@ -1,6 +1,5 @@
 -- What is passed over wherever it stands, whatever stands behind it: white space, and comments with the ends of their lines.
-use Rattle.ddl_forms.proofs.Common.{◌≡◌, ℕ, ◌+◌, ◌<◌, true, false, List, [], ◌∷◌, ◌++◌, length, length-append, append_assoc, refl, sym, ap, ◌∙◌, inl, inr, arith, list_all, is_utf8, IsUtf8, chars, encode, scalar, low_scalar, cases_Bool, and_from, and_parts, nat_tests, list_all-append, IsUtf8-nil, IsUtf8-append, IsUtf8-from_is_utf8, is_utf8-from_IsUtf8, encode_ascii, is_blank, in_line, next_is, next_token_of, gap_is_passed}
-use Rattle.std.proofs.Math.Nat.{add_assoc}
+use Rattle.ddl_forms.proofs.Common.{◌≡◌, ℕ, ◌+◌, ◌<◌, true, false, List, [], ◌∷◌, ◌++◌, length, length-append, append_assoc, refl, sym, ap, ◌∙◌, inl, inr, arith, list_all, is_utf8, IsUtf8, chars, encode, scalar, low_scalar, cases_Bool, and_from, and_parts, nat_tests, list_all-append, IsUtf8-nil, IsUtf8-append, IsUtf8-from_is_utf8, is_utf8-from_IsUtf8, encode_ascii, is_blank, in_line, next_is, next_token_of, gap_is_passed, add_assoc}
 
 -- from its front on the next token is the one behind it
 abbrev pub Passed : List ℕ → Type 0

@@ -1,8 +1,6 @@
 -- A part of the grammar with the texts of its values: what can be written lies in tokens that spell it, wherever they
 -- are put, and what tokens of a text spell has a property. A law for each way to put parts together.
-use Rattle.ddl_forms.proofs.Common.{◌≡◌, ℕ, zero, suc, Bool, true, false, not, cond, ◌&&◌, ◌||◌, List, [], ◌∷◌, ◌++◌, length, length-append, append_assoc, append-nil, Option, Some, None, Result, Ok, refl, sym, ap, subst, ◌∙◌, ◌⊎◌, inl, inr, arith, ◌==◌, and_parts, not-true, nat_tests, list_all, AllByRecursion, IsUtf8, is_utf8, chars, str_to_ascii_lowercase, encode, TokenKind, Word, Literal, Sign, is_digit, begins_word, in_word, is_keyword_of, IsWord, written_name, written_literal, written_kind, IsName, QName, path, joined, Lexeme, never, is_word, is_sign, is_sign_kind, spelled, source, Part, Items, Many, no_more, Machine, runs_of, one, many, mark, stop, seen, choose, nothing, wider, ◌then◌, ◌▸◌, ◌◂◌, name, name_value, literal, literal_value, qualified, lexemes, collected, semicolon, IsPath, IsRunText, passes_true}
-use Rattle.ddl_parts.specs.Parts.{one_more, passes}
-use Rattle.ddl_forms.specs.Texts.{IsTextOf}
+use Rattle.ddl_forms.proofs.Common.{◌≡◌, ℕ, zero, suc, Bool, true, false, not, cond, ◌&&◌, ◌||◌, List, [], ◌∷◌, ◌++◌, length, length-append, append_assoc, append-nil, Option, Some, None, Result, Ok, refl, sym, ap, subst, ◌∙◌, ◌⊎◌, inl, inr, arith, ◌==◌, and_parts, not-true, nat_tests, list_all, AllByRecursion, IsUtf8, is_utf8, chars, str_to_ascii_lowercase, encode, TokenKind, Word, Literal, Sign, is_digit, begins_word, in_word, is_keyword_of, IsWord, written_name, written_literal, written_kind, IsName, QName, path, joined, Lexeme, never, is_word, is_sign, is_sign_kind, spelled, source, Part, Items, Many, no_more, Machine, runs_of, one, many, mark, stop, seen, choose, nothing, wider, ◌then◌, ◌▸◌, ◌◂◌, name, name_value, literal, literal_value, qualified, lexemes, collected, semicolon, IsPath, IsRunText, passes_true, one_more, passes, IsTextOf}
 use Rattle.ddl_forms.proofs.{Behind.Behind, Behind.Anything, Behind.Words, Behind.Safe, Behind.End, Behind.admits, Behind.covers, Behind.through, Behind.admitted, Behind.looser, Behind.tighter, Behind.tight, Behind.Opens, Behind.opens_of, Behind.opened, Behind.then_opens, Behind.one_opens, Behind.other_opens, Closing.ends_with, Closing.ends_append, Closing.Closes, Kept.AllCame, Kept.came_front, Kept.came_behind, RunTexts.IsPlain, RunTexts.plain_runs, RunTexts.IsPlainMachine, RunTexts.kinds, RunTexts.run_kept, RunTexts.run_read, RunTexts.plain_last, Standing.Stands, Standing.Stood, Standing.placed, Tokens.Gap, Tokens.none, Tokens.space, Tokens.a_word, Tokens.a_name, Tokens.a_literal, Tokens.is_single, Tokens.a_sign, Tokens.name_means, Tokens.literal_means, Tokens.name_no_sign, Tokens.value_name, Tokens.text_value, Putting.Follows, Putting.IsPut, Putting.followed, Putting.begun, Putting.same_text, Putting.put_as, Putting.none_put, Putting.one_put, Putting.then_put, Putting.joined-append, Putting.Yields}
 
 -- Which values of a part can be written and how, by the proof that they can; what may stand behind, and what the text
@@ -272,15 +270,6 @@ abbrev pub either_pieces : {A : Type 0} → {p q : Part A} → (a : Written p) �
 either_pieces a b v (inl x) = a.pieces v x
 either_pieces a b v (inr y) = b.pieces v y
 
-pub choose_puts : {A : Type 0} {p q : Part A} (test : Lexeme → Bool) (a : Written p) (b : Written q) (v : A) (others : List Lexeme) → Follows others → admits (tighter a.after b.after) (spelled others) ≡ true → (fit : a.Fit v ⊎ b.Fit v)
-    → IsPut (choose test p q) v (joined (either_pieces a b v fit)) others
-choose_puts {p = p} {q = q} test a b v others follows e (inl x) = put_as p (choose test p q) v v (joined (a.pieces v x)) others (a.put v x others follows (tight a.after b.after (spelled others) e).0) (λ ts s. inl s)
-choose_puts {p = p} {q = q} test a b v others follows e (inr y) = put_as q (choose test p q) v v (joined (b.pieces v y)) others (b.put v y others follows (tight a.after b.after (spelled others) e).1) (λ ts s. inr s)
-
-pub choose_begins : {A : Type 0} {p q : Part A} (a : Written p) (b : Written q) (v : A) (fit : a.Fit v ⊎ b.Fit v) → Opens (a.lacks || b.lacks) (looser a.opens b.opens) (joined (either_pieces a b v fit))
-choose_begins a b v (inl x) = one_opens a.lacks b.lacks a.opens b.opens (joined (a.pieces v x)) (a.begins v x)
-choose_begins a b v (inr y) = other_opens a.lacks b.lacks a.opens b.opens (joined (b.pieces v y)) (b.begins v y)
-
 pub choose_made : {A : Type 0} (p q : Part A) (test : Lexeme → Bool) (P Q : A → Type 0) → Yields P p → Yields Q q → Yields (λ v. P v ⊎ Q v) (choose test p q)
 choose_made p q test P Q f g v ts r came spells = elim spells [ inl s ↦ inl (f v ts r came s) | inr s ↦ inr (g v ts r came s) ]
 
@@ -293,8 +282,14 @@ choose_as {p = p} {q = q} {test = test} a b = record {
   opens = looser a.opens b.opens;
   lacks = a.lacks || b.lacks;
   closed = a.closed && b.closed;
-  put = λ v fit others follows e. choose_puts test a b v others follows e fit;
-  begins = λ v fit. choose_begins a b v fit;
+  put = λ v fit others follows e. elim fit as (λ f. IsPut (choose test p q) v (joined (either_pieces a b v f)) others) [
+    | inl x ↦ put_as p (choose test p q) v v (joined (a.pieces v x)) others (a.put v x others follows (tight a.after b.after (spelled others) e).0) (λ ts s. inl s)
+    | inr y ↦ put_as q (choose test p q) v v (joined (b.pieces v y)) others (b.put v y others follows (tight a.after b.after (spelled others) e).1) (λ ts s. inr s)
+  ];
+  begins = λ v fit. elim fit as (λ f. Opens (a.lacks || b.lacks) (looser a.opens b.opens) (joined (either_pieces a b v f))) [
+    | inl x ↦ one_opens a.lacks b.lacks a.opens b.opens (joined (a.pieces v x)) (a.begins v x)
+    | inr y ↦ other_opens a.lacks b.lacks a.opens b.opens (joined (b.pieces v y)) (b.begins v y)
+  ];
   made = choose_made p q test a.Is b.Is a.made b.made;
   closes = λ e v ts spells. let both = and_parts a.closed b.closed e in elim spells [ inl s ↦ a.closes both.0 v ts s | inr s ↦ b.closes both.1 v ts s ];
 }
@@ -327,9 +322,6 @@ abbrev pub option_to : {A : Type 0} → (P : A → Type 0) → (o : Option A) �
 option_to P None fit = inr refl
 option_to P (Some v) fit = inl (v, fit, refl)
 
-pub option_from : {A : Type 0} (P : A → Type 0) (o : Option A) → ((y : A) × P y × (Some y ≡ o)) ⊎ (o ≡ None) → OptionFit P o
-option_from P o h = grind arith
-
 -- a value, or what stands for none
 abbrev pub given_or : {A : Type 0} → (P : Option A → Type 0) → (o : Option A) → P o → ((y : A) × P (Some y) × (Some y ≡ o)) ⊎ ((u : Unit {0}) × Unit {0} × (None ≡ o))
 given_or P None is = inr (tt, tt, refl)
@@ -340,7 +332,7 @@ or_given P at o h = grind arith
 
 -- a part, or no token where more could belong to it
 abbrev pub maybe_as : {A : Type 0} → {p : Part A} → {test : Lexeme → Bool} → (more : Lexeme → Bool) → (w : Written p) → Written (choose test (seen Some p) (nothing more None))
-maybe_as more w = is_as (fit_as (choose_as (seen_as Some w) (nothing_as None)) (OptionFit w.Fit) (option_to w.Fit)) (OptionFit w.Is) (option_from w.Is)
+maybe_as more w = is_as (fit_as (choose_as (seen_as Some w) (nothing_as None)) (OptionFit w.Fit) (option_to w.Fit)) (OptionFit w.Is) (λ o h. elim h [ inl x ↦ subst (OptionFit w.Is) x.2 x.1 | inr e ↦ subst (OptionFit w.Is) (sym e) tt ])
 
 -- ---- any number of items
 
