@@ -104,6 +104,7 @@ pub one : {p : Part Clause} {vs : List Clause} {more : List (List ℕ)} (c : Cla
 one {p} {vs} {more} c v word is w fit texts meet safe same unsaid here m =
     let lead = lead_as (word_as indented word is) w meet in
     let key = str_to_ascii_lowercase word in
+    let first : (text : List ℕ) → Opens true Safe (indent ++ text) = λ text. grind arith in
     let begins : Opens true Safe (joined texts) = subst (Opens true Safe) same (first (word ++ joined (w.pieces v fit))) in
     record {
       put = λ others follows e.
@@ -114,9 +115,6 @@ one {p} {vs} {more} c v word is w fit texts meet safe same unsaid here m =
           (λ ts h. subst (Many clausing c (v ∷ vs)) (sym h.2) (one_more c v vs h.0 h.1 (key_begins key p c v h.0 h.3 unsaid, here h.0 h.3) h.4));
       begins = subst (Opens true Safe) (sym (joined-append texts more)) (then_opens true true Safe Safe (joined texts) (joined more) begins m.begins);
     }
-  where
-    first : (text : List ℕ) → Opens true Safe (indent ++ text)
-    first text = grind arith
 
 -- a sequence's type and numbers, and whether it cycles
 pub record Values : Type 0 where
