@@ -1,5 +1,5 @@
 -- The laws of a part whose value decides what stands behind it.
-use Rattle.ddl_rights.proofs.Common.{◌≡◌, Bool, false, List, ◌∷◌, ◌++◌, Ok, Err, refl, sym, ap, ◌∙◌, append_assoc, arith, Lexeme, starts, Part, Reading, ◌>>=◌, Lawful, Begins, Avoids, shortened, starts-append, Tells, lawful, told_on, starts_none, ◌thenby◌}
+use Rattle.ddl_rights.proofs.Common.{◌≡◌, false, List, ◌++◌, Ok, Err, refl, sym, ap, ◌∙◌, append_assoc, arith, Lexeme, starts, Part, Reading, ◌>>=◌, Lawful, Avoids, Tells, lawful, told_on, starts_none, ◌thenby◌}
 use Rattle.ddl_parts.proofs.Lemmas.{told, told_stopped}
 
 -- what a value that is spelled decides has the laws, goes on with nothing further and isn't taken for more of the first

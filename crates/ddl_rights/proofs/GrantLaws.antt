@@ -1,7 +1,6 @@
 -- The grammar of GRANT and REVOKE has the laws of a part.
-use Rattle.ddl_rights.proofs.Common.{grammar, arith, ◌≡◌, ℕ, Bool, true, false, List, [], ◌∷◌, Option, Some, None, Result, Err, refl, ap, codes, is_utf8, chars, encode, name_of, is_keyword_of, Lexeme, is_word, Lawful, name_value, name_in, avoids_never, shortened, word_agrees, sign_agrees, name_shortens, Shortens, one_laws, a_word, name_laws, sign_no_word, Headed, lawful_seen, lawful_word, lawful_next, headed_word, headed_seen, headed_next, one_sign, lawful_either, Wanted, right_first, wanted_first, grantee_of, grant_option, to_grantee, from_grantee, grant_rights, revoke_rights, First, named_by, first, behind_first, granted, revoked}
+use Rattle.ddl_rights.proofs.Common.{grammar, arith, ◌≡◌, ℕ, true, false, List, [], ◌∷◌, Option, Some, None, refl, ap, codes, is_utf8, chars, encode, name_of, is_keyword_of, Lexeme, is_word, Lawful, name_value, name_in, avoids_never, shortened, word_agrees, sign_agrees, name_shortens, Shortens, one_laws, a_word, name_laws, sign_no_word, Headed, lawful_seen, lawful_word, lawful_next, headed_word, headed_seen, headed_next, one_sign, lawful_either, Wanted, right_first, wanted_first, grantee_of, grant_option, to_grantee, from_grantee, grant_rights, revoke_rights, First, named_by, first, behind_first, granted, revoked}
 use Rattle.ddl_rights.proofs.{Depends.thenby_laws, RightsLaws.CanBeOn, RightsLaws.wanted_can, RightsLaws.rights_and_object_laws, RightsLaws.rights_and_object_ends, RightsLaws.goes_to_object, RightsLaws.rights_and_object_begins, RightsLaws.to_no_object, RightsLaws.wanted_laws, RightsLaws.wanted_spelled, MembershipLaws.membership_is, MembershipLaws.membership_ends}
-use Rattle.cat_model.specs.declared.stmt.Stmt.TheVariants as stmt
 
 -- ---- rights
 

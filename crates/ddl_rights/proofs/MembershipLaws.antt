@@ -1,5 +1,5 @@
 -- The grammar of GRANT of a role has the laws of a part.
-use Rattle.ddl_rights.proofs.Common.{arith, ◌≡◌, ℕ, true, false, List, [], ◌∷◌, Some, None, refl, codes, Option, is_keyword_of, Lexeme, is_word, is_sign, Part, mark, seen, ◌then◌, ◌▸◌, ◌◂◌, Lawful, Avoids, name, comma, IsTooLong, shortened, seen_avoids, a_word, name_laws, word_no_sign, words_apart, one_of_avoids, free, sign_no_word, signs_apart, Headed, lawful_seen, lawful_word, lawful_ended, lawful_then, lawful_next, headed_word, headed_sign, headed_seen, one_sign, lawful_choose, lawful_either, lawful_unless, avoids_either, truth_first, truth, set_behind, inherit_and_set, others_behind, options, with_options, granted_by, member, member_of, membership, word_like}
+use Rattle.ddl_rights.proofs.Common.{arith, ◌≡◌, ℕ, true, false, List, Some, None, refl, codes, Option, is_keyword_of, Lexeme, is_word, is_sign, Part, mark, seen, ◌▸◌, ◌◂◌, Lawful, Avoids, name, seen_avoids, a_word, name_laws, word_no_sign, words_apart, one_of_avoids, free, sign_no_word, signs_apart, Headed, lawful_seen, lawful_word, lawful_ended, lawful_then, lawful_next, headed_word, headed_sign, headed_seen, one_sign, lawful_choose, lawful_either, lawful_unless, avoids_either, truth_first, truth, set_behind, inherit_and_set, others_behind, options, with_options, granted_by, member, member_of, membership, word_like}
 use Rattle.ddl_rights.proofs.Firsts.{by_first_laws}
 
 truth_laws : Lawful truth

@@ -1,8 +1,7 @@
 -- Sets of rights: a set as the list of its rights, a set within another, and all the rights of a kind.
-use Rattle.ddl_rights.proofs.Common.{◌≡◌, ℕ, Bool, true, false, not, ◌||◌, ◌&&◌, List, [], ◌∷◌, ◌++◌, map, refl, sym, ap, ◌∙◌, codes, arith, flat_map, or_right, and_parts, Rights, Granted, no_rights, has_rights, Right, Select, Usage, Insert, References, Delete, Trigger, Truncate, Update, Create, Kind, has, with_right, within, kind_rights, some_kind_has, goes_with, all_of}
+use Rattle.ddl_rights.proofs.Common.{◌≡◌, ℕ, Bool, true, false, List, [], ◌∷◌, ◌++◌, map, refl, sym, ap, ◌∙◌, codes, arith, flat_map, or_right, and_parts, Rights, Granted, no_rights, has_rights, Right, Select, Usage, Insert, References, Delete, Trigger, Truncate, Update, Create, Kind, has, with_right, within, kind_rights, some_kind_has, goes_with, all_of}
 use Rattle.ddl_write.specs.RightsText.{is_all, each_right, word_there}
 use Rattle.ddl_rights.specs.Writable.{kind_of}
-use Rattle.cat_model.specs.declared.grant.Granted.TheVariants as on
 
 -- ---- all the rights of a kind
 
@@ -30,15 +29,11 @@ abbrev right_there : Bool → Right → List Right
 right_there true x = x ∷ []
 right_there false x = []
 
-abbrev each : Rights → List (Bool × Right)
-each r = (r.select, Select) ∷ (r.usage, Usage) ∷ (r.insert, Insert) ∷ (r.references, References) ∷ (r.delete, Delete) ∷ (r.trigger, Trigger) ∷ (r.truncate, Truncate) ∷ (r.update, Update) ∷ (r.create, Create) ∷ []
-
-abbrev those : List (Bool × Right) → List Right
-those xs = flat_map (λ (x : Bool × Right). right_there x.0 x.1) xs
-
 -- the rights of a set, in their order
 abbrev pub listed : Rights → List Right
-listed r = those (each r)
+listed r =
+    flat_map (λ (x : Bool × Right). right_there x.0 x.1)
+    ((r.select, Select) ∷ (r.usage, Usage) ∷ (r.insert, Insert) ∷ (r.references, References) ∷ (r.delete, Delete) ∷ (r.trigger, Trigger) ∷ (r.truncate, Truncate) ∷ (r.update, Update) ∷ (r.create, Create) ∷ [])
 
 -- the set with this right, or without it
 abbrev set_to : Bool → Right → Rights → Rights
@@ -85,15 +80,11 @@ written_word Truncate = codes "TRUNCATE"
 written_word Update = codes "UPDATE"
 written_word Create = codes "CREATE"
 
-word_of : (b : Bool) (x : Right) (a : List (List ℕ)) (xs : List Right) → a ≡ map written_word xs → word_there b (written_word x) ++ a ≡ map written_word (right_there b x ++ xs)
-word_of b x a xs e = grind arith
-
-words_of : (xs : List (Bool × Right)) → flat_map (λ (w : Bool × List ℕ). word_there w.0 w.1) (map (λ (x : Bool × Right). (x.0, written_word x.1)) xs) ≡ map written_word (those xs)
-words_of [] = refl
-words_of (x ∷ xs) = word_of x.0 x.1 (flat_map (λ (w : Bool × List ℕ). word_there w.0 w.1) (map (λ (x : Bool × Right). (x.0, written_word x.1)) xs)) (those xs) (words_of xs)
+word_of : (b : Bool) (x : Right) (xs : List Right) → map written_word (right_there b x ++ xs) ≡ word_there b (written_word x) ++ map written_word xs
+word_of b x xs = grind arith
 
 pub words_are : (r : Rights) → flat_map (λ (right : Bool × List ℕ). word_there right.0 right.1) (each_right r) ≡ map written_word (listed r)
-words_are r = words_of (each r)
+words_are r = simp word_of
 
 -- ---- sets within others
 

@@ -1,7 +1,7 @@
 -- The grammar of rights and of objects has the laws of a part, and a list of rights is one that some kind has.
-use Rattle.ddl_rights.proofs.Common.{◌≡◌, ℕ, Bool, true, false, not, cond, ◌||◌, List, [], ◌∷◌, ◌++◌, Option, Some, None, Ok, refl, sym, ap, subst, ◌∙◌, codes, inl, inr, arith, or_left, or_right, or_cases, is_keyword_of, Rights, Granted, table_rights, sequence_rights, schema_rights, type_rights, Lexeme, is_word, starts, Part, Many, no_more, many, seen, Lawful, Begins, Apart, name, qualified, comma, avoids_never, avoids_begun, starts_more, IsTooLong, shortened, sign_agrees, sign_no_word, seen_laws, lead_begins, AreApart, many_laws, a_word, name_laws, qualified_laws, word_laws, sign_laws, word_no_sign, words_apart, Right, Select, Usage, Insert, References, Delete, Trigger, Truncate, Update, Create, Kind, Tables, Sequences, Schemas, Types, Wanted, ◌thenby◌, told, has, with_right, only, within, kind_rights, some_kind_has, goes_with, right_first, wanted_first, wanted, joining, right_behind, more_rights, all_of, rights_from, kind_first, kind_has, having, kind_with, rights_on, object, on_object, rights_and_object, word_like}
+use Rattle.ddl_rights.proofs.Common.{cases_Bool, ◌≡◌, ℕ, Bool, true, false, cond, ◌||◌, List, [], ◌∷◌, Some, None, refl, ap, ◌∙◌, codes, inl, inr, arith, or_right, or_cases, is_keyword_of, Rights, Granted, table_rights, sequence_rights, schema_rights, Lexeme, is_word, starts, Part, Many, no_more, many, seen, Lawful, Begins, Apart, name, comma, avoids_never, avoids_begun, starts_more, sign_agrees, sign_no_word, seen_laws, lead_begins, AreApart, many_laws, a_word, name_laws, qualified_laws, word_laws, sign_laws, word_no_sign, words_apart, Right, Select, Usage, Insert, References, Delete, Trigger, Truncate, Update, Create, Kind, Tables, Sequences, Schemas, Types, Wanted, ◌thenby◌, told, with_right, only, within, kind_rights, some_kind_has, goes_with, right_first, wanted_first, wanted, joining, right_behind, more_rights, all_of, rights_from, kind_first, kind_has, having, kind_with, rights_on, object, on_object, rights_and_object, word_like}
 use Rattle.ddl_parts.specs.Parts.{one_more}
-use Rattle.ddl_rights.proofs.{Depends.Decided, Depends.thenby_laws, Firsts.by_first_laws}
+use Rattle.ddl_rights.proofs.{Depends.thenby_laws, Firsts.by_first_laws}
 use Rattle.ddl_rights.specs.declared.rights.Wanted.TheVariants.{All, These}
 use Rattle.cat_model.specs.declared.grant.Granted.TheVariants as on
 
@@ -23,15 +23,6 @@ kind_word Tables = codes "table"
 kind_word Sequences = codes "sequence"
 kind_word Schemas = codes "schema"
 kind_word Types = codes "type"
-
--- words are told alike
-pub right_same : (t : Lexeme) → IsTooLong t → right_first (shortened t ∷ []) ≡ right_first (t ∷ [])
-unfolding right_first
-right_same t long = simp (word_like t long)
-
-kind_same : (t : Lexeme) → IsTooLong t → kind_first (shortened t ∷ []) ≡ kind_first (t ∷ [])
-unfolding kind_first
-kind_same t long = simp (word_like t long)
 
 -- ---- rights that some kind has
 
@@ -59,21 +50,14 @@ all_have first r _ _ (one_more _ x xs a b spells others) can = grind (arith, (al
 -- some right may stand behind others
 goes_on : (r : Rights) → (x : Right) × (goes_with r x ≡ true)
 unfolding goes_with some_kind_has
-goes_on r = by r.usage r.create refl refl
-  where
-    by : (u c : Bool) → r.usage ≡ u → r.create ≡ c → (x : Right) × (goes_with r x ≡ true)
-    by true c e f = (Usage, or_left r.usage (some_kind_has (with_right Usage r)) e)
-    by false true e f = (Create, or_left r.create (some_kind_has (with_right Create r)) f)
-    by false false e f =
-        let s = with_right Select r in
-        (Select, or_right r.select (some_kind_has s) (or_left (within s table_rights) (within s sequence_rights || (within s schema_rights || within s type_rights)) (grind arith)))
+goes_on r = elim (cases_Bool r.usage) [ inl is ↦ (Usage, grind arith) | inr isnt ↦ elim (cases_Bool r.create) [ inl is ↦ (Create, grind arith) | inr none ↦ (Select, grind arith) ] ]
 
 pub right_behind_laws : (r : Rights) → Lawful (right_behind r)
 unfolding right_first is_word is_keyword_of
 right_behind_laws r =
     let right_is : (x : Right) → right_first (a_word (right_word x) ∷ []) ≡ Some x = λ x. grind arith in
     let h = goes_on r in
-    by_first_laws (λ ts. joining r (right_first ts)) (λ t long. ap (joining r) (right_same t long)) (a_word (right_word h.0)) h.0 (ap (joining r) (right_is h.0) ∙ ap (λ (b : Bool). cond b (Some h.0) None) h.1)
+    by_first_laws (λ ts. joining r (right_first ts)) (λ t long. simp (word_like t long)) (a_word (right_word h.0)) h.0 (ap (joining r) (right_is h.0) ∙ ap (λ (b : Bool). cond b (Some h.0) None) h.1)
 
 pub rights_apart : (r : Rights) → AreApart comma (more_rights r)
 rights_apart r = search (sign_laws, right_behind_laws, sign_agrees, lead_begins, arith)
@@ -96,13 +80,11 @@ unfolding kind_first is_word is_keyword_of
 kind_with_laws w can =
     let kind_is : (k : Kind) → kind_first (a_word (kind_word k) ∷ []) ≡ Some k = λ k. grind arith in
     let h = kind_for w can in
-    by_first_laws (λ ts. having w (kind_first ts)) (λ t long. ap (having w) (kind_same t long)) (a_word (kind_word h.0)) h.0 (ap (having w) (kind_is h.0) ∙ ap (λ (b : Bool). cond b (Some h.0) None) h.1)
+    by_first_laws (λ ts. having w (kind_first ts)) (λ t long. simp (word_like t long)) (a_word (kind_word h.0)) h.0 (ap (having w) (kind_is h.0) ∙ ap (λ (b : Bool). cond b (Some h.0) None) h.1)
 
 object_laws : (k : Kind) → Lawful (object k)
-object_laws Tables = seen_laws on.Table qualified qualified_laws
-object_laws Sequences = seen_laws on.Sequence qualified qualified_laws
 object_laws Schemas = seen_laws on.Schema name name_laws
-object_laws Types = seen_laws on.Type qualified qualified_laws
+object_laws k = search (seen_laws, qualified_laws)
 
 object_ends : (k : Kind) (t : Lexeme) → (object k).goes_on t ≡ false
 object_ends Tables t = refl
@@ -115,32 +97,24 @@ pub on_object_laws : (w : Wanted) → CanBeOn w → Lawful (on_object w)
 unfolding on_object
 on_object_laws w can = search (word_laws, thenby_laws, kind_with_laws, seen_laws, object_laws, object_ends, avoids_never, arith)
 
-pub on_object_begins : (w : Wanted) → Begins (is_word (codes "on")) (on_object w)
+on_object_begins : (w : Wanted) → Begins (is_word (codes "on")) (on_object w)
 unfolding on_object
 on_object_begins w = lead_begins (is_word (codes "on")) (kind_with w thenby object_on w)
 
-on_object_ends : (w : Wanted) (t : Lexeme) → (on_object w).goes_on t ≡ false
-unfolding on_object
-on_object_ends w t = refl
-
 pub rights_and_object_laws : (w : Wanted) → CanBeOn w → Lawful (rights_and_object w)
-unfolding rights_and_object rights_from
+unfolding rights_and_object rights_from on_object
 rights_and_object_laws All can = on_object_laws All tt
 rights_and_object_laws (These r) can =
-    let rights_from_laws : (r : Rights) → Lawful (rights_from r) = λ r. seen_laws (all_of r) (many comma (more_rights r)) (many_laws (rights_apart r)) in
-    thenby_laws (rights_from r) (λ s. on_object (These s)) (rights_from_laws r) (decided r can)
-  where
-    decided : (r : Rights) → some_kind_has r ≡ true → Decided (rights_from r) (λ s. on_object (These s))
-    decided r can = record {
+    thenby_laws (rights_from r) (λ s. on_object (These s)) (seen_laws (all_of r) (many comma (more_rights r)) (many_laws (rights_apart r))) (record {
       laws = λ s ts spells. on_object_laws (These s) (ap some_kind_has spells.1 ∙ all_have r r spells.0 ts spells.2 can);
-      ends = λ s t. on_object_ends (These s) t;
+      ends = λ s t. refl;
       avoids = λ s ts spells. avoids_begun (is_word (codes "on")) comma (on_object (These s)) (on_object_begins (These s)) (word_no_sign (codes "on") 44);
-    }
+    })
 
 pub rights_and_object_ends : (w : Wanted) (t : Lexeme) → (rights_and_object w).goes_on t ≡ false
 unfolding rights_and_object on_object
 rights_and_object_ends All t = refl
-rights_and_object_ends (These r) t = refl
+rights_and_object_ends w t = refl
 
 -- ---- what it begins with
 
@@ -152,16 +126,13 @@ unfolding rights_and_object rights_from
 rights_and_object_begins w = grind (arith, on_object_begins, starts, starts_more, or_right)
 
 pub to_no_object : Apart goes_to_object (is_word (codes "to"))
-to_no_object t e = both (comma t) (is_word (codes "on") t) (is_word (codes "to") t) (sign_no_word 44 (codes "to") t) (words_apart (codes "on") (codes "to") refl t) e
-  where
-    both : (a b c : Bool) → (a ≡ true → c ≡ false) → (b ≡ true → c ≡ false) → (a || b) ≡ true → c ≡ false
-    both a b c f g h = elim (or_cases a b h) [ inl is ↦ f is | inr is ↦ g is ]
+to_no_object t e = grind (arith, sign_no_word, (words_apart (codes "on") (codes "to") refl t))
 
 -- ---- ALL, or the first right
 
 pub wanted_laws : Lawful wanted
-unfolding wanted_first is_word is_keyword_of
-wanted_laws = by_first_laws wanted_first (λ t long. simp (word_like t long, right_same t long)) (a_word (codes "all")) All refl
+unfolding wanted_first right_first is_word is_keyword_of
+wanted_laws = by_first_laws wanted_first (λ t long. simp (word_like t long)) (a_word (codes "all")) All refl
 
 pub wanted_spelled : (w : Wanted) (ts : List Lexeme) → wanted.Spells w ts → CanBeOn w
 wanted_spelled w ts spells = grind (arith, told, wanted_can)

@@ -26,6 +26,7 @@ fn grant_rights(alloc: Global, pieces: &Pieces<'_>, at: usize, wanted: Wanted) -
 }
 
 /// A name, and the rights that it may stand for.
+#[tactic(auto, using(crate::proofs::Firsts::first_read))]
 fn first(alloc: Global, pieces: &Pieces<'_>, at: usize) -> Parsed<(Name, Option<Wanted>)>
     ensures { GivesPart pieces.now (λ x. (x.0, x.1)) result (first.read (drop at pieces.now)) }
 {

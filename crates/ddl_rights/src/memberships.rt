@@ -22,7 +22,7 @@ fn truth_at(pieces: &Pieces<'_>, at: usize) -> Option<bool>
 }
 
 /// TRUE, FALSE or OPTION.
-#[tactic(auto)]
+#[tactic(auto, unfolding(crate::specs::Memberships::truth_first))]
 fn truth(pieces: &Pieces<'_>, at: usize) -> Parsed<bool>
     ensures { GivesPart pieces.now (λ b. b) result (truth.read (drop at pieces.now)) }
 {

@@ -209,6 +209,7 @@ pub(crate) fn wanted_at(pieces: &Pieces<'_>, at: usize) -> Option<Wanted>
 }
 
 /// A value of the token at a place, and the place behind it.
+#[tactic(auto, using(crate::proofs::Firsts::token_here))]
 pub(crate) fn behind<T: Copy>(pieces: &Pieces<'_>, at: usize, value: Option<T>) -> Parsed<T>
     ensures { GivesPart pieces.now (λ v. v) result (answered value (drop at pieces.now)) }
 {
@@ -219,6 +220,7 @@ pub(crate) fn behind<T: Copy>(pieces: &Pieces<'_>, at: usize, value: Option<T>) 
 }
 
 /// ALL, or the first right of a list.
+#[tactic(auto, unfolding(crate::specs::RightsGrammar::wanted_first, crate::specs::RightsGrammar::right_first))]
 pub(crate) fn wanted_rights(pieces: &Pieces<'_>, at: usize) -> Parsed<Wanted>
     ensures { GivesPart pieces.now (λ w. w) result (wanted.read (drop at pieces.now)) }
 {
@@ -235,6 +237,7 @@ fn joining(pieces: &Pieces<'_>, at: usize, rights: Rights) -> Option<Right>
     }
 }
 
+#[tactic(auto, unfolding(crate::specs::RightsGrammar::right_first))]
 fn right_behind(pieces: &Pieces<'_>, at: usize, rights: Rights) -> Parsed<Right>
     ensures { GivesPart pieces.now (λ x. x) result ((right_behind rights).read (drop at pieces.now)) }
 {
@@ -293,6 +296,7 @@ fn having(pieces: &Pieces<'_>, at: usize, wanted: Wanted) -> Option<Kind>
     }
 }
 
+#[tactic(auto, unfolding(crate::specs::RightsGrammar::kind_first))]
 fn kind_with(pieces: &Pieces<'_>, at: usize, wanted: Wanted) -> Parsed<Kind>
     ensures { GivesPart pieces.now (λ k. k) result ((kind_with wanted).read (drop at pieces.now)) }
 {
