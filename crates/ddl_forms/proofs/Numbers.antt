@@ -1,7 +1,7 @@
 -- Whole numbers as they are written, in tokens that stand; and that what is read has 64 bits.
 use Rattle.ddl_forms.proofs.Common.{◌≡◌, ℕ, suc, ◌+◌, ◌<◌, ◌^◌, ℤ, pos, negsuc, true, false, List, [], ◌∷◌, ◌++◌, length, append_assoc, append-nil, Option, Some, None, Ok, refl, sym, ap, subst, ◌∙◌, arith, ◌⊎◌, inl, inr, ◌==◌, list_all, digit_value, decimal, signed_decimal, is_utf8, chars, AllDigits, encode, and_from, lt-ltb, nat_tests, decimal_is_IsNumeral, IsAscii-decimal, digit_from_value, IsUtf8-from_ascii, is_utf8-from_IsUtf8, is_blank, is_digit, next_is, goes_on, Number, Sign, spelling_is_read, Lexeme, spelled, is_sign, mark, seen, ◌then◌, ◌▸◌, is_int, IsInt, ltb-true}
 use Rattle.sql_lex.specs.Bytes.{is_sign as is_sign_byte}
-use Rattle.ddl_forms.proofs.{Standing.Stands, Kept.safe_ends, Kept.spelled-append, Kept.Begun, Tokens.Gap, Tokens.none, Tokens.gap_stands, Tokens.sign_token, Behind.Safe, Behind.admits, RunTexts.safe_behind, Putting.Follows, Putting.IsPut, Putting.followed, Putting.put_as, Putting.one_put, Putting.same_text, Putting.then_put, Putting.Yields, Written.Written, Written.leaf_as}
+use Rattle.ddl_forms.proofs.{Standing.Stands, Kept.safe_ends, Kept.spelled-append, Kept.Begun, Tokens.Gap, Tokens.none, Tokens.gap_stands, Tokens.sign_token, Behind.Safe, Behind.admits, RunTexts.safe_behind, Putting.Follows, Putting.IsPut, Putting.followed, Putting.put_as, Putting.one_put, Putting.then_put, Putting.Yields, Written.Written, Written.leaf_as}
 use Rattle.ddl_numbers.specs.Numbers.{count, count_first, count_value, counted, digits_below, opposite, whole_number}
 
 -- ---- digits
@@ -65,13 +65,12 @@ number_put {g} gap (pos n) others is follows e =
 number_put {g} gap (negsuc n) others is follows e =
     let small : n < 2 ^ 63 = ltb-true n (2 ^ 63) is in
     let ds = decimal (suc n) in
-    let k = same_text ds (ds ++ []) (sym (append-nil ds)) (count_put (suc n) (2 ^ 63 + 1) [] others (omega arith) (omega arith) none follows e) in
+    let k : IsPut (count (2 ^ 63 + 1)) (suc n) (ds ++ []) others = rw append-nil (count_put (suc n) (2 ^ 63 + 1) [] others (omega arith) (omega arith) none follows e) in
     let numeral = decimal_is_IsNumeral (suc n) (omega arith) in
     let f = behind_digits (ds ++ []) (spelled others) (behind_digits ds [] (digit_first ds numeral.0.0 numeral.0.1)) in
     let bytes : (ds ++ []) ++ spelled others ≡ spelled (k.tokens ++ others) = ap (λ (x : List ℕ). x ++ spelled others) (sym k.bytes) ∙ sym (spelled-append k.tokens others) in
-    let minus = same_text (g ++ 45 ∷ []) ((g ++ 45 ∷ []) ++ []) (sym (append-nil (g ++ 45 ∷ []))) (minus_put g (k.tokens ++ others) (subst DigitFirst bytes f) gap (followed k)) in
-    let both = then_put (mark (is_sign 45)) (count (2 ^ 63 + 1)) tt (suc n) ((g ++ 45 ∷ []) ∷ []) (ds ∷ []) others k minus in
-    let whole = same_text ((g ++ 45 ∷ []) ++ (ds ++ [])) (g ++ (45 ∷ ds)) (append_assoc g (45 ∷ []) (ds ++ []) ∙ ap (λ (x : List ℕ). g ++ (45 ∷ x)) (append-nil ds)) both in
+    let minus : IsPut (mark (is_sign 45)) tt ((g ++ 45 ∷ []) ++ []) (k.tokens ++ others) = rw append-nil (minus_put g (k.tokens ++ others) (subst DigitFirst bytes f) gap (followed k)) in
+    let whole = simp (append_assoc, append-nil) at (then_put (mark (is_sign 45)) (count (2 ^ 63 + 1)) tt (suc n) ((g ++ 45 ∷ []) ∷ []) (ds ∷ []) others k minus) in
     put_as (mark (is_sign 45) then count (2 ^ 63 + 1)) whole_number (tt, suc n) (negsuc n) (g ++ (45 ∷ ds)) others whole (λ ts h. inl (suc n, refl, ((tt, suc n), refl, h)))
 
 -- ---- what is read

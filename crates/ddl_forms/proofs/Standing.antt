@@ -40,9 +40,6 @@ record Next (text : List ℕ) (at : ℕ) (t : Lexeme) : Type 0 where
   found : next_token_of text at ≡ Ok (Some (record { kind = t.kind; start = at + length t.gap; end = at + length t.gap + length t.word }))
   same : lexeme_of text (record { from = at; token = record { kind = t.kind; start = at + length t.gap; end = at + length t.gap + length t.word } }) ≡ record { gap = t.gap; kind = t.kind; word = t.word; start = at + length t.gap }
 
-abbrev lexeme : List ℕ → TokenKind → List ℕ → ℕ → Lexeme
-lexeme gap kind word start = record { gap = gap; kind = kind; word = word; start = start }
-
 next_stands : (text front : List ℕ) (t : Lexeme) (behind after : List ℕ) → text ≡ front ++ (t.gap ++ (t.word ++ (behind ++ after))) → Stands t behind → is_safe after ≡ true → Next text (length front) t
 unfolding spelling
 next_stands text front t behind after e s safe =

@@ -14,8 +14,6 @@ sign_token gap b = record { gap = gap; kind = Sign b; word = b ∷ []; start = 0
 abbrev pub name_token : List ℕ → List ℕ → Lexeme
 name_token gap n = record { gap = gap; kind = written_kind n; word = written_name n; start = 0 }
 
--- ---- tokens
-
 abbrev is_spoken : TokenKind → Bool
 is_spoken Word = true
 is_spoken QuotedName = true
