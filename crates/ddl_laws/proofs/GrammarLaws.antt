@@ -1,6 +1,6 @@
 -- The grammar of statements has the laws of a part: what is read is spelled so, what is spelled so is read, and where
 -- reading stops nothing goes on.
-use Rattle.ddl_laws.proofs.Common.{grammar, ◌≡◌, Bool, true, false, ◌||◌, List, [], ◌∷◌, Some, None, refl, ap, codes, ℕ, arith, ◌++◌, append-nil, append_assoc, Ok, Err, sym, ◌∙◌, inl, not, Option, subst, not-true, not-false, is_utf8, chars, encode, ◌==◌, is_some, is_keyword_of, name_of, literal_of, Lexeme, is_word, is_sign, source, starts, Part, Reading, Stop, stop, choose_at, ◌then◌, Many, no_more, many, passes, ◌◂◌, Like, Lawful, Apart, Avoids, comma, name_in, name_value, is_name, qualified, literal, is_literal, text_in, literal_value, many_laws, a_word, a_sign, name_laws, qualified_laws, sign_is, words_apart, qualified_begins, literal_laws, literal_begins, word_no_sign, sign_no_word, signs_apart, free, stop_no_type, sign_no_name, sign_no_literal, Headed, lawful_seen, lawful_ended, lawful_next, headed_sign, headed_seen, lawful_unless, lawful_word, lawful_sign, headed_word, lawful_either, headed_next, lawful_choose, lawful_then, one_word, lawful_worded, one_sign, ◌also◌, sign_kind, more_names, names_of, columns, rest_goes_on, deferral, action, on_delete, reactions, key_rest, foreign_rest, TokenKind, Literal, whole_number, Clauses, clausing, sequence_clauses, sequence_of, create_sequence, expression, nest_step, nest_done, ends_run, default_text, Inside, shortened, short_word, whole_path, path_in, path_of, path_value, word_agrees, sign_agrees, name_agrees, literal_agrees, name_shortens, guarded_shortens, refused_shortens, word_no_text, Agrees, passes_like, starts-append, starts_kept, starts_again, Tells, Fits, left_of, long_of, told, lawful, named_by, expression_laws, expression_ends, expression_ends_bracket, default_text_laws, run_ends, one_of_laws, one_of_avoids, one_of_avoids_others, new_owner, owned_by, its_role, its_column, sequence_changed, sequence_change, altered_sequence, view_and_body, create_view, replace_view, begun_by, bracketed, index_made, index_body, index_parts, index_of, unique_index_of, create_index, create_unique_index, view_branch, more_relations, one_laws, one_begins, seen_avoids, mark_begins, Check, Owner, check_body, primary_of, primary_body, unique_of, unique_body, foreign_of, foreign_body, constraint_body, added, new_default, own_change, table_change, table_changed, only_value, only_name, other_value, other_name, other_path, in_schema, key_word, behind_only, only_changed, altered_table, listed_laws, CheckDef, create_enum, enum_of, attributes, typed, checking, domain_of, create_domain, more_elements, elements, parted, table_elements, table_of, create_table, named_check_is, checks_apart, typed_laws, attributes_end, sign_end, column_ends, elements_apart, named_check_free, LexFault, QName, lexemes, collected, whole_number_laws, literal_path, truth, set_value, some_columns, copy_from, create_role, alter_role, create_database, create_schema, created, new_check, its_owner, one_more_check, domain_changed, domain_change, altered_domain, name_and_owner, path_and_owner, owned_name, owned_path, altered, set_config, catalog_calls, selected, equals_or_to, setting, more_commands, command, statement, ◌&&◌, inr, cond, no_clauses, with_clauses, clause_behind}
+use Rattle.ddl_laws.proofs.Common.{grammar, ◌≡◌, Bool, true, false, ◌||◌, List, [], ◌∷◌, Some, None, refl, ap, codes, ℕ, arith, ◌++◌, append-nil, append_assoc, Ok, Err, sym, ◌∙◌, not, Option, subst, not-true, not-false, is_utf8, chars, encode, ◌==◌, is_some, is_keyword_of, name_of, literal_of, Lexeme, is_word, is_sign, source, starts, Part, Reading, ◌then◌, Many, no_more, many, ◌◂◌, Lawful, Apart, Avoids, comma, name_in, name_value, is_name, qualified, literal, is_literal, text_in, literal_value, many_laws, a_word, a_sign, name_laws, qualified_laws, sign_is, words_apart, qualified_begins, literal_laws, literal_begins, word_no_sign, sign_no_word, signs_apart, free, stop_no_type, sign_no_name, sign_no_literal, Headed, lawful_seen, lawful_ended, lawful_next, headed_sign, headed_seen, lawful_unless, lawful_word, lawful_sign, headed_word, lawful_either, headed_next, lawful_choose, lawful_then, one_word, lawful_worded, one_sign, ◌also◌, sign_kind, names_of, columns, rest_goes_on, deferral, action, on_delete, reactions, key_rest, foreign_rest, TokenKind, Literal, whole_number, sequence_clauses, sequence_of, create_sequence, expression, nest_step, nest_done, ends_run, default_text, Inside, short_word, whole_path, path_in, path_of, path_value, word_agrees, sign_agrees, name_agrees, literal_agrees, name_shortens, guarded_shortens, refused_shortens, word_no_text, starts-append, expression_laws, expression_ends, expression_ends_bracket, default_text_laws, run_ends, one_of_laws, one_of_avoids, one_of_avoids_others, new_owner, owned_by, its_role, its_column, sequence_changed, sequence_change, altered_sequence, view_and_body, create_view, replace_view, bracketed, index_made, index_body, index_parts, index_of, unique_index_of, create_index, create_unique_index, view_branch, more_relations, one_laws, one_begins, seen_avoids, mark_begins, Check, Owner, check_body, primary_of, primary_body, unique_of, unique_body, foreign_of, foreign_body, constraint_body, added, new_default, own_change, table_change, table_changed, only_value, only_name, other_value, other_name, other_path, in_schema, key_word, behind_only, only_changed, altered_table, listed_laws, CheckDef, create_enum, enum_of, attributes, typed, checking, domain_of, create_domain, parted, table_elements, table_of, create_table, named_check_is, checks_apart, typed_laws, attributes_end, sign_end, column_ends, elements_apart, named_check_free, LexFault, QName, lexemes, collected, whole_number_laws, literal_path, truth, set_value, some_columns, copy_from, create_role, alter_role, create_database, create_schema, created, new_check, its_owner, one_more_check, domain_changed, domain_change, altered_domain, name_and_owner, path_and_owner, owned_name, owned_path, altered, set_config, catalog_calls, selected, equals_or_to, setting, more_commands, command, statement, no_clauses, with_clauses}
 use Rattle.ddl_parts.proofs.{Lemmas.listed, Lemmas.lawful_maybe, Lemmas.avoids_maybe, Lemmas.or_parts, Lemmas.word_no_sign, Lemmas.never, Simple.nothing_laws}
 use Rattle.ddl_parts.specs.Parts.{one_more, mark, one_of, ◌▸◌}
 use Rattle.ddl_admin.proofs.{CommentLaws.comment_on_laws, RoleLaws.create_role_laws, RoleLaws.alter_role_laws, DatabaseLaws.create_database_laws}

@@ -1,5 +1,5 @@
 -- CREATE SEQUENCE with the text that it is written in: each clause is an item behind those before it.
-use Rattle.ddl_laws.proofs.Common.{◌≡◌, ℕ, ℤ, Bool, true, false, not, cond, ◌&&◌, ◌||◌, List, [], ◌∷◌, ◌++◌, Option, Some, None, refl, sym, ap, subst, ◌∙◌, inl, inr, codes, arith, signed_decimal, QName, Lexeme, is_word, never, starts, many, Part, ◌▸◌, joined, only_if as words_if, usual_min, usual_max, type_words, bound, min_text, max_text, Clauses, no_clauses, with_clause, with_clauses, clause_behind, begins_clause, clausing, sequence_clauses, sequence_of, Words, Safe, number_as, space, indented, Written, is_key, word_as, mark_as, lead_as, word_then, nothing_as, seen_as, choose_as, after_as, OptionFit, Follows, IsPut, followed, same_text, put_as, none_put, then_put, joined-append, then_opens, Opens, admits, admitted, meets, covers, indent, not_closed, Yields, AllCame, came_front, came_behind, Many, no_more, spelled, ◌then◌, str_to_ascii_lowercase, IsInt, IsWritable}
+use Rattle.ddl_laws.proofs.Common.{◌≡◌, ℕ, ℤ, Bool, true, false, not, cond, ◌&&◌, ◌||◌, List, [], ◌∷◌, ◌++◌, Option, Some, None, refl, sym, ap, subst, ◌∙◌, inl, inr, codes, arith, signed_decimal, QName, Lexeme, is_word, never, starts, Part, ◌▸◌, joined, only_if as words_if, usual_min, usual_max, type_words, bound, min_text, max_text, Clauses, no_clauses, with_clause, with_clauses, clause_behind, begins_clause, clausing, sequence_clauses, sequence_of, Words, Safe, number_as, space, indented, Written, is_key, word_as, mark_as, lead_as, word_then, nothing_as, seen_as, choose_as, after_as, OptionFit, Follows, IsPut, followed, same_text, put_as, none_put, then_put, joined-append, then_opens, Opens, admits, admitted, meets, covers, indent, not_closed, Yields, AllCame, came_front, came_behind, Many, no_more, spelled, ◌then◌, str_to_ascii_lowercase, IsInt, IsWritable}
 use Rattle.std.specs.Ordering.{int_eq}
 use Rattle.std.specs.Str.{str_eq_ignore_ascii_case}
 use Rattle.cat_model.specs.declared.constraint.SequenceKind.{SequenceKind}

@@ -1,5 +1,5 @@
 -- The text of the tokens that a part takes is a part, and so is a part where the next token passes a test.
-use Rattle.ddl_parts.proofs.Lemmas.{arith, ◌≡◌, ℕ, ◌-◌, Bool, true, false, List, [], ◌∷◌, ◌++◌, length, length-append, length-drop, take, drop, Ok, Err, refl, sym, ap, subst, ◌∙◌, append-nil, inl, Lexeme, starts, source, Part, Reading, stop, choose_at, gives, Like, Agrees, passes_like, starts-append, starts_kept, starts_again, shortened, Tells, Fits, left_of, long_of, Lawful, told, told_stopped, named_by, lawful}
+use Rattle.ddl_parts.proofs.Lemmas.{arith, ◌≡◌, ℕ, ◌-◌, Bool, true, false, List, [], ◌∷◌, ◌++◌, length, length-append, length-drop, take, drop, Ok, Err, refl, sym, ap, subst, ◌∙◌, append-nil, inl, Lexeme, starts, source, Part, Reading, stop, choose_at, gives, Like, Agrees, passes_like, starts-append, shortened, Tells, Fits, left_of, long_of, Lawful, told, told_stopped, named_by, lawful}
 use Rattle.ddl_parts.proofs.Told.{before}
 use Rattle.ddl_parts.specs.Laws.{Example}
 use Rattle.ddl_read.specs.Clauses.{begun_by}

@@ -1,7 +1,7 @@
 -- The clauses of a sequence are items that can be told apart, and those behind a place are read by the clauses before it.
-use Rattle.ddl_read.proofs.Common.{arith, ◌≡◌, ℕ, ◌<◌, ◌-◌, ◌||◌, Bool, true, false, List, [], ◌∷◌, length, codes, Ok, Err, refl, ap, ◌∙◌, Lexeme, is_word, starts, Reading, seen_at, Fails, ReadError, Halted, Memory, drop, Lawful, words_apart, headed_seen, lead_begins, lawful_seen, lawful_word, lawful_either, AreApart, items_from, fewer as items_fewer, Clauses, clause_behind, begins_clause, clausing, with_clause, with_clauses, no_clauses, sequence_clauses}
+use Rattle.ddl_read.proofs.Common.{arith, ◌≡◌, ℕ, ◌<◌, ◌-◌, ◌||◌, Bool, true, false, List, [], ◌∷◌, length, codes, Ok, refl, ap, ◌∙◌, Lexeme, is_word, starts, Reading, seen_at, Fails, ReadError, Halted, Memory, drop, Lawful, words_apart, headed_seen, lead_begins, lawful_seen, lawful_word, lawful_either, AreApart, items_from, fewer as items_fewer, Clauses, clause_behind, begins_clause, clausing, with_clause, with_clauses, no_clauses}
 use Rattle.ddl_parts.proofs.{Common.cond, Common.inl, Common.inr, Common.or_cases, Shorter.word_like, Common.IsTooLong, Common.shortened, Composing.one_word, Composing.◌also◌, Repeated.from_none, Repeated.from_read, Repeated.from_stop, Simple.nothing_laws, Simple.passes_by, Tables.AllLawful, Tables.one_of_laws}
-use Rattle.ddl_parts.specs.{Lexemes.never, Parts.Branch, Parts.Part, Parts.one_of, Parts.◌▸◌}
+use Rattle.ddl_parts.specs.{Lexemes.never, Parts.Branch, Parts.one_of, Parts.◌▸◌}
 use Rattle.ddl_numbers.proofs.NumberLaws.{whole_number_laws}
 use Rattle.ddl_numbers.specs.Numbers.{whole_number}
 use Rattle.ddl_read.proofs.RestLaws.{begun_by_laws}

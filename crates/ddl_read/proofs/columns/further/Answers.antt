@@ -1,4 +1,4 @@
-use Rattle.ddl_read.proofs.Common.{◌≡◌, drop, true, starts, comma, err_from_is_err_and, none_more, no_item, one_more, fewer}
+use Rattle.ddl_read.proofs.Common.{err_from_is_err_and, none_more, no_item, one_more, fewer}
 use Rattle.ddl_read.proofs.ColumnLaws.{names_apart}
 use Rattle.ddl_read.proofs.columns.further.Goals as goal
 

@@ -1,4 +1,4 @@
-use Rattle.ddl_read.proofs.Common.{◌≡◌, drop, true, codes, starts, is_word, err_from_is_err_and, none_more, no_item, one_more, fewer}
+use Rattle.ddl_read.proofs.Common.{err_from_is_err_and, none_more, no_item, one_more, fewer}
 use Rattle.ddl_read.proofs.TableLaws.{checks_apart}
 use Rattle.ddl_read.proofs.tables.checks.Goals as goal
 

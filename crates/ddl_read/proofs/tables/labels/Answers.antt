@@ -1,4 +1,4 @@
-use Rattle.ddl_read.proofs.Common.{◌≡◌, drop, true, starts, item_begins, is_literal, err_from_is_err_and, none_more, no_item, one_more}
+use Rattle.ddl_read.proofs.Common.{err_from_is_err_and, none_more, no_item, one_more}
 use Rattle.ddl_read.proofs.TableLaws.{labels_apart}
 use Rattle.ddl_read.proofs.tables.labels.Goals as goal
 

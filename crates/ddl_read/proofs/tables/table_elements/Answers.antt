@@ -1,4 +1,4 @@
-use Rattle.ddl_read.proofs.Common.{◌≡◌, ◌++◌, ◌∷◌, [], List, drop, true, sym, refl, ap, ◌∙◌, Ok, err_from_is_err_and, Lexeme, starts, seen_at, many, Fails, ReadError, Halted, Memory, none_more, no_item, one_more, fewer, ColumnDef, CheckDef, TableElement, Column, Check, elements, element_begins, columns_of, checks_of, parted, more_elements, table_elements}
+use Rattle.ddl_read.proofs.Common.{◌≡◌, ◌++◌, ◌∷◌, [], List, drop, sym, refl, ap, ◌∙◌, Ok, err_from_is_err_and, Lexeme, seen_at, many, Fails, ReadError, Halted, Memory, none_more, no_item, one_more, fewer, ColumnDef, CheckDef, TableElement, Column, Check, elements, columns_of, checks_of, parted, more_elements, table_elements}
 use Rattle.ddl_read.proofs.TableLaws.{elements_apart}
 use Rattle.ddl_read.proofs.tables.table_elements.Goals as goal
 

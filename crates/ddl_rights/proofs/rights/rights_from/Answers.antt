@@ -1,4 +1,4 @@
-use Rattle.ddl_rights.proofs.Common.{◌≡◌, List, [], ◌∷◌, ◌++◌, drop, true, Ok, refl, sym, ap, ◌∙◌, err_from_is_err_and, Rights, Lexeme, starts, comma, seen_at, many, Fails, ReadError, Halted, Memory, all_left, none_more, no_item, one_more, fewer, Right, with_right, more_rights, all_of, rights_from}
+use Rattle.ddl_rights.proofs.Common.{◌≡◌, List, [], ◌∷◌, ◌++◌, drop, Ok, refl, sym, ap, ◌∙◌, err_from_is_err_and, Rights, Lexeme, comma, seen_at, many, Fails, ReadError, Halted, Memory, all_left, none_more, no_item, one_more, fewer, Right, with_right, more_rights, all_of, rights_from}
 use Rattle.ddl_rights.proofs.RightsLaws.{rights_apart}
 use Rattle.ddl_rights.proofs.rights.rights_from.Goals as goal
 
