@@ -1,5 +1,6 @@
 -- What a line with a backslash says is a name of one line.
-use Rattle.ddl_lines.proofs.Common.{name_in_is, ◌≡◌, ℕ, zero, suc, ◌-◌, Bool, true, not, ◌&&◌, List, [], ◌∷◌, map, take, drop, Option, Some, Result, Ok, Err, refl, subst, arith, inl, inr, ◌==◌, list_all, to_ascii_lowercase, and_parts, cases_Bool, and_from, nat_tests, IsName, TokenKind, in_line, unless, inside, undoubled, name_of, spelling, Stmt, Piece, name_value, is_name_kind, lexeme_of, collected, IsSaid, Wrong, command_len, stands_alone, one_name, name_alone, connected, said_by, meta_line}
+use Rattle.ddl_lines.proofs.Common.{name_in_is, ◌≡◌, ℕ, ◌-◌, Bool, true, not, ◌&&◌, List, [], ◌∷◌, map, take, drop, Option, Some, Result, Ok, Err, refl, subst, arith, inl, inr, ◌==◌, list_all, to_ascii_lowercase, and_parts, cases_Bool, and_from, nat_tests, IsName, TokenKind, in_line, unless, inside, undoubled, name_of, spelling, Stmt, Piece, name_value, is_name_kind, lexeme_of, collected, IsSaid, Wrong, command_len, stands_alone, one_name, name_alone, connected, said_by, meta_line}
+use Rattle.std.proofs.lemmas.List.{Elements.All-take, Elements.All-drop, Sums.AllPass-from_list_all, Sums.list_all-from_AllPass}
 use Rattle.cat_model.specs.declared.stmt.Stmt.TheVariants.{Connect}
 
 -- ---- in one line
@@ -8,14 +9,10 @@ abbrev OneLine : List ℕ → Type 0
 OneLine bytes = list_all in_line bytes ≡ true
 
 take_line : (n : ℕ) (bytes : List ℕ) → OneLine bytes → OneLine (take n bytes)
-take_line zero bytes all = refl
-take_line (suc n) [] all = refl
-take_line (suc n) (b ∷ bytes) all = let h = and_parts (in_line b) (list_all in_line bytes) all in and_from (in_line b) (list_all in_line (take n bytes)) h.0 (take_line n bytes h.1)
+take_line n bytes all = list_all-from_AllPass in_line _ (All-take (λ b. in_line b ≡ true) n bytes (AllPass-from_list_all in_line bytes all))
 
 drop_line : (n : ℕ) (bytes : List ℕ) → OneLine bytes → OneLine (drop n bytes)
-drop_line zero bytes all = all
-drop_line (suc n) [] all = refl
-drop_line (suc n) (b ∷ bytes) all = drop_line n bytes (and_parts (in_line b) (list_all in_line bytes) all).1
+drop_line n bytes all = list_all-from_AllPass in_line _ (All-drop (λ b. in_line b ≡ true) n bytes (AllPass-from_list_all in_line bytes all))
 
 small_line : (bytes : List ℕ) → OneLine bytes → OneLine (map to_ascii_lowercase bytes)
 unfolding in_line

@@ -54,24 +54,24 @@ last_row text from at start end next low le h exact same so_far =
     so_far ∙ ap (λ (x : List ℕ). slice_range text from at ++ x) (first_row text at start end next h ∙ ap (λ (x : List ℕ). (slice_range text at end ++ newline ∷ []) ++ rows_in x) none ∙ ap (λ (x : List ℕ). (slice_range text at end ++ newline ∷ []) ++ x) nothing ∙ append-nil (slice_range text at end ++ newline ∷ []))
     ∙ sym (append_assoc (slice_range text from at) (slice_range text at end) (newline ∷ [])) ∙ ap (λ (x : List ℕ). x ++ newline ∷ []) whole
 
-pub stops : (text : List ℕ) (from at : ℕ) → IsNextLine text at Stop → rows_in (drop from text) ≡ slice_range text from at ++ rows_in (drop at text) → rows_in (drop from text) ≡ slice_range text from at
+pub stops : (text : List ℕ) (at : ℕ) (line : Line) → IsNextLine text at line → line ≡ Stop → rows_in (drop at text) ≡ []
 unfolding rows_in
-stops text from at h so_far =
-    let no_more : (text : List ℕ) (at : ℕ) (line : Line) → IsNextLine text at line → (line ≡ Stop) → rows_in (drop at text) ≡ [] = λ text at line h e. grind arith in
-    so_far ∙ ap (λ (x : List ℕ). slice_range text from at ++ x) (no_more text at Stop h refl) ∙ append-nil (slice_range text from at)
+stops text at line h e = grind arith
 
-pub ends : (text : List ℕ) (from at : ℕ) → IsNextLine text at End → rows_in (drop from text) ≡ slice_range text from at ++ rows_in (drop at text) → rows_in (drop from text) ≡ slice_range text from at
+pub ends : (text : List ℕ) (at : ℕ) → IsNextLine text at End → rows_in (drop at text) ≡ []
 unfolding rows_in
-ends text from at h so_far = so_far ∙ ap (λ (x : List ℕ). slice_range text from at ++ x) (ap (λ ls. with_feeds (before_end_mark ls)) h.1) ∙ append-nil (slice_range text from at)
+ends text at h = ap (λ ls. with_feeds (before_end_mark ls)) h.1
 
 pub length_slice : (text : List ℕ) (a b : ℕ) → a ≤ b → b ≤ length text → length (slice_range text a b) ≡ b - a
 length_slice text a b low high = let cut = length-drop a text in omega (arith, cut, length-take (b - a) (drop a text))
 
 -- the rows up to where a line ends them
-pub between : {E : Type 0} (text : List ℕ) (from at : ℕ) (r : Result Rows E) → from ≤ at → at ≤ length text → rows_in (drop from text) ≡ slice_range text from at → IfOk r (λ r. seen r ≡ record { rows = slice_range text from at; end = min (at + 3) (length text) })
-    → IfOk r (λ r. rows_from text from ≡ seen r)
+pub between : {E : Type 0} (text : List ℕ) (from at : ℕ) (r : Result Rows E) → from ≤ at → at ≤ length text → rows_in (drop from text) ≡ slice_range text from at ++ rows_in (drop at text) → rows_in (drop at text) ≡ []
+    → IfOk r (λ r. seen r ≡ record { rows = slice_range text from at; end = min (at + 3) (length text) }) → IfOk r (λ r. rows_from text from ≡ seen r)
 unfolding rows_from
-between text from at r low high rows h = grind (arith, length_slice)
+between text from at r low high so_far none h =
+    let rows : rows_in (drop from text) ≡ slice_range text from at = so_far ∙ ap (λ (x : List ℕ). slice_range text from at ++ x) none ∙ append-nil (slice_range text from at) in
+    grind (arith, length_slice)
 
 -- all that is left of the text, where its last line has no line feed
 pub whole : (text : List ℕ) (from end : ℕ) (rows : List ℕ) → from ≤ length text → end ≡ length text → rows_in (drop from text) ≡ drop from text ++ newline ∷ [] → rows ≡ slice_range text from (length text) ++ newline ∷ []

@@ -95,7 +95,7 @@ fn place(len: usize, text: &[u8], piece: Piece) -> usize
 }
 
 /// The one name of a text that has nothing else, behind a command of this length.
-#[tactic(auto, unfolding(crate::specs::MetaLines::name_alone))]
+#[tactic(auto, using(crate::proofs::OneToken::first_within), unfolding(crate::specs::MetaLines::name_alone))]
 fn name_alone(alloc: Global, len: usize, text: &[u8]) -> Result<Name, MetaError>
     requires { len + length text.now < 2 ^ 64 }
     ensures exact { Gives (λ n. n) result (name_alone len text.now) }

@@ -1,4 +1,4 @@
-use Rattle.ddl_lines.proofs.Common.{arith}
+use Rattle.ddl_lines.proofs.Common.{arith, refl}
 use Rattle.ddl_lines.proofs.RowLaws.{goes_on, last_row, stops, ends, whole, between}
 use Rattle.ddl_lines.proofs.copy_rows.rows_from.Goals as goal
 
@@ -23,14 +23,10 @@ lines-preserved c =
 
 pub returns-in-Stop-clause-exact : goal.returns-in-Stop-clause-exact
 returns-in-Stop-clause-exact c =
-    let text = c.args.text.now in
     let h = c.lines.invariant in
-    let rows = stops text c.args.from c.lines.at c.in-Stop.ensures.line h.same in
-    between text c.args.from c.lines.at c.rows_between.result h.low h.within rows c.rows_between.ensures
+    between c.args.text.now c.args.from c.lines.at c.rows_between.result h.low h.within h.same (stops c.args.text.now c.lines.at _ c.in-Stop.ensures.line refl) c.rows_between.ensures
 
 pub returns-in-End-clause-exact : goal.returns-in-End-clause-exact
 returns-in-End-clause-exact c =
-    let text = c.args.text.now in
     let h = c.lines.invariant in
-    let rows = ends text c.args.from c.lines.at c.in-End.ensures.line h.same in
-    between text c.args.from c.lines.at c.rows_between-in-End.result h.low h.within rows c.rows_between-in-End.ensures
+    between c.args.text.now c.args.from c.lines.at c.rows_between-in-End.result h.low h.within h.same (ends c.args.text.now c.lines.at c.in-End.ensures.line) c.rows_between-in-End.ensures
