@@ -1,5 +1,5 @@
 -- COMMENT ON has the laws of a part.
-use Rattle.ddl_admin.proofs.Common.{ℕ, List, Some, None, refl, codes, QName, is_sign, Lawful, Apart, name_laws, qualified_laws, one_of_laws, lawful_seen, lawful_word, lawful_sign, lawful_ended, lawful_next, headed_seen, one_word, one_literal, lawful_either, ◌also◌, is_keyword_of, is_literal, arith, is_word}
+use Rattle.ddl_admin.proofs.Common.{ℕ, List, Some, None, refl, codes, QName, Lawful, Apart, name_laws, qualified_laws, one_of_laws, lawful_seen, lawful_word, lawful_sign, lawful_ended, lawful_next, headed_seen, one_word, one_literal, lawful_either, ◌also◌, is_keyword_of, is_literal, arith, is_word}
 use Rattle.cat_model.specs.declared.grant.Commented.{Commented}
 use Rattle.ddl_admin.specs.Comments.{remark, remark_end, name_remarked, path_remarked, column_remarked, constraint_remarked, on_path, on_schema, on_others, commented_object, comment_on}
 use Rattle.cat_model.specs.declared.grant.Commented.TheVariants as commented

@@ -1,7 +1,6 @@
 -- CREATE DATABASE has the laws of a part.
-use Rattle.ddl_admin.proofs.Common.{grammar, ◌≡◌, ℕ, Bool, true, false, List, [], ◌∷◌, Option, Some, None, Result, Err, refl, ap, inl, inr, codes, arith, or_parts, is_utf8, chars, encode, next_is, literal_of, undoubled, inside, TokenKind, Literal, Encoding, Utf8, Lexeme, is_word, is_sign, Lawful, Apart, Avoids, literal_value, text_in, IsTooLong, shortened, short_word, path_of, path_value, word_no_text, no_long_text, Shortens, one_laws, sign_no_word, Headed, lawful_sign, lawful_then, headed_word, headed_seen, headed_next, lawful_maybe, avoids_maybe, utf8_in, is_bare, is_option, furthers, utf8_value, utf8, encoded, goes_on, maybe_encoded, options, create_database, sign_kind_by}
+use Rattle.ddl_admin.proofs.Common.{grammar, [], ◌∷◌, Option, Some, None, refl, codes, arith, or_parts, is_utf8, chars, encode, next_is, literal_of, undoubled, inside, Literal, Encoding, Utf8, Lexeme, is_word, is_sign, Lawful, Apart, Avoids, literal_value, text_in, path_value, one_laws, sign_no_word, Headed, lawful_sign, lawful_then, headed_word, headed_seen, headed_next, lawful_maybe, avoids_maybe, is_bare, is_option, furthers, utf8_value, encoded, goes_on, maybe_encoded, options, create_database, sign_kind_by}
 use Rattle.ddl_admin.proofs.{Further.furthers_laws}
-use Rattle.cat_model.specs.declared.stmt.Stmt.TheVariants as stmt
 
 abbrev a_utf8 : Lexeme
 a_utf8 = record { gap = 32 ∷ []; kind = Literal; word = codes "'UTF8'"; start = 0 }

@@ -1,6 +1,5 @@
 -- Options that are dropped, and the encoding, as they are read.
-use Rattle.ddl_admin.proofs.Common.{◌≡◌, ℕ, true, false, cond, not, ◌&&◌, ◌||◌, List, [], ◌∷◌, Some, None, Ok, Err, bytes_eq, drop, refl, ap, ◌∙◌, codes, arith, str_to_ascii_lowercase, bytes_eq-Decides, TokenKind, Word, QuotedName, is_keyword_of, Encoding, Utf8, Lexeme, is_word, is_sign, starts, number_first, literal, is_name, is_literal, is_word_kind, is_number, Stop, Reading, stop, seen_at, mark, many, ◌▸◌, ◌>>=◌, Lawful, Begins, ReadError, Fails, Agrees, gives, mark_laws, seen_laws, lead_laws, lead_begins, a_word, a_literal, sign_laws, AreApart, many_laws, from_read, from_stop, from_none, any_word, word_first, is_bare, own_options, is_option, is_value, further, furthering, furthers, utf8_value, utf8, word_like}
-use Rattle.ddl_parts.proofs.Repeated.{items_from}
+use Rattle.ddl_admin.proofs.Common.{◌≡◌, ℕ, true, false, cond, not, ◌&&◌, ◌||◌, List, [], ◌∷◌, Some, None, Ok, Err, bytes_eq, drop, refl, ap, ◌∙◌, codes, arith, str_to_ascii_lowercase, bytes_eq-Decides, TokenKind, Word, QuotedName, is_keyword_of, Encoding, Utf8, Lexeme, is_word, is_sign, starts, number_first, literal, is_name, is_literal, is_word_kind, is_number, Stop, Reading, stop, seen_at, mark, many, ◌▸◌, Lawful, ReadError, Fails, mark_laws, seen_laws, lead_laws, lead_begins, a_word, a_literal, sign_laws, AreApart, many_laws, from_read, from_stop, from_none, any_word, word_first, is_bare, own_options, is_option, is_value, further, furthering, furthers, utf8_value, utf8, word_like}
 
 -- ---- bare words
 

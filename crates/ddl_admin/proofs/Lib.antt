@@ -1,5 +1,4 @@
 pub mod Common
-pub mod Places
 pub mod Further
 pub mod Telling
 pub mod ChoiceLaws

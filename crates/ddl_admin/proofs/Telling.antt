@@ -1,5 +1,5 @@
 -- Tokens that are told apart: key words, signs and numbers.
-use Rattle.ddl_admin.proofs.Common.{◌≡◌, ℕ, Bool, true, false, not, ◌&&◌, ◌||◌, List, [], ◌∷◌, ◌++◌, refl, sym, ap, ◌∙◌, arith, and_parts, not-true, str_eq_ignore_ascii_case, TokenKind, is_keyword_of, Lexeme, is_word, is_sign, Apart, is_literal, is_literal_kind, is_word_kind, words_apart, sign_no_word, sign_kind_by, any_word}
+use Rattle.ddl_admin.proofs.Common.{◌≡◌, ℕ, Bool, true, false, not, ◌&&◌, ◌||◌, List, [], ◌∷◌, ◌++◌, refl, ap, ◌∙◌, arith, and_parts, not-true, str_eq_ignore_ascii_case, Lexeme, is_word, is_sign, Apart, words_apart, sign_no_word, any_word}
 
 -- ---- one of several key words
 

@@ -51,6 +51,7 @@ fn is_own_option(pieces: &Pieces<'_>, at: usize) -> bool
 }
 
 /// Whether a further option is named at a place.
+#[tactic(auto, using(crate::proofs::Further::option_starts))]
 fn is_option(alloc: Global, pieces: &Pieces<'_>, at: usize) -> Result<bool, AllocError>
     ensures { IfOk result (λ b. b ≡ starts is_option (drop at pieces.now)) }
 {
@@ -85,6 +86,7 @@ fn is_value(pieces: &Pieces<'_>, at: usize) -> bool
 }
 
 /// The name of a further option, and the place behind it.
+#[tactic(auto, using(ddl_numbers::proofs::Places::token_here))]
 fn option_name(alloc: Global, pieces: &Pieces<'_>, at: usize) -> Result<usize, ReadError>
     ensures { GivesPlace pieces.now result ((mark is_option).read (drop at pieces.now)) }
 {
@@ -99,6 +101,7 @@ fn option_name(alloc: Global, pieces: &Pieces<'_>, at: usize) -> Result<usize, R
 }
 
 /// The value of an option, and the place behind it.
+#[tactic(auto, using(ddl_numbers::proofs::Places::token_here))]
 fn option_value(pieces: &Pieces<'_>, at: usize) -> Result<usize, ReadError>
     ensures { GivesPlace pieces.now result ((mark is_value).read (drop at pieces.now)) }
 {

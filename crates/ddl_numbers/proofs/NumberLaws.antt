@@ -1,5 +1,5 @@
 -- Whole numbers have the laws of a part.
-use Rattle.ddl_parts.proofs.Lemmas.{◌≡◌, ℕ, ◌+◌, ◌<◌, ◌^◌, pos, true, false, List, [], ◌∷◌, Option, Some, None, Err, option_and_then, refl, sym, ap, ◌∙◌, arith, lt-ltb, is_digit, TokenKind, Number, Lexeme, is_sign, digits_of, seen, ◌▸◌, is_number, is_number_kind, Lawful, Begins, Apart, IsTooLong, shortened, short_word, sign_agrees, long_no_number, Shortens, one_laws, seen_laws, seen_begins, lead_begins, choose_apart, sign_laws}
+use Rattle.ddl_parts.proofs.Lemmas.{◌≡◌, ℕ, ◌+◌, ◌<◌, ◌^◌, pos, false, List, [], ◌∷◌, Some, None, option_and_then, refl, sym, ap, ◌∙◌, arith, lt-ltb, is_digit, TokenKind, Number, Lexeme, is_sign, digits_of, seen, ◌▸◌, is_number, is_number_kind, Lawful, Begins, Apart, IsTooLong, shortened, short_word, sign_agrees, long_no_number, Shortens, one_laws, seen_laws, seen_begins, lead_begins, choose_apart, sign_laws}
 use Rattle.ddl_numbers.specs.Numbers.{digits_below, count_first, counted, count_value, count, opposite, whole_number}
 
 -- a number is no sign
@@ -21,16 +21,9 @@ no_digits limit k w e = grind arith
 pub no_count_first : (limit : ℕ) (t : Lexeme) → IsTooLong t → count_first limit (shortened t ∷ []) ≡ count_first limit (t ∷ [])
 no_count_first limit t long = no_digits limit t.kind (short_word t.kind) (long_no_number t long) ∙ sym (no_digits limit t.kind t.word (long_no_number t long))
 
--- no number is too long for a name
-no_count : (limit : ℕ) (k : TokenKind) (w : List ℕ) → is_number_kind k ≡ false → counted (option_and_then (digits_below limit) (digits_of k w)) ≡ Err false
-no_count limit k w e = ap counted (no_digits limit k w e)
-
-never_long : (o : Option ℕ) → counted o ≡ Err true → ⊥
-never_long o e = grind arith
-
 pub count_shortens : (limit : ℕ) → Shortens (count_value limit)
 unfolding count_value
-count_shortens limit = record { long = λ t e. absurd (never_long (option_and_then (digits_below limit) (digits_of t.kind t.word)) e); none = λ t long e. no_count limit t.kind (short_word t.kind) (long_no_number t long) }
+count_shortens limit = record { long = λ t e. absurd (grind arith); none = λ t long e. ap counted (no_digits limit t.kind (short_word t.kind) (long_no_number t long)) }
 
 count_laws : (limit : ℕ) → 0 < limit → Lawful (count limit)
 unfolding count_value

@@ -24,7 +24,7 @@ fn are_digits(word: &[u8]) -> bool
 }
 
 /// The number of digits, where it is below a limit.
-#[tactic(auto, unfolding(crate::specs::Numbers::digits_below))]
+#[tactic(auto, using(crate::proofs::DigitParsing::are_utf8, crate::proofs::DigitParsing::unparsed), unfolding(crate::specs::Numbers::digits_below))]
 fn digits_below(word: &[u8], limit: u64) -> Option<u64>
     requires some { 0 < length word.now }
     ensures exact { result ≡ digits_below limit word.now }
@@ -66,6 +66,7 @@ pub fn opposite(number: u64) -> i64
 }
 
 /// The number at a place, where it is below a limit, and the place behind it.
+#[tactic(auto, using(crate::proofs::Places::token_here), unfolding(crate::specs::Numbers::count_value))]
 fn count(pieces: &Pieces<'_>, at: usize, limit: u64) -> Parsed<u64>
     ensures exact { GivesPart pieces.now (λ n. n) result ((count limit).read (drop at pieces.now)) }
     ensures low { IfOk result (λ x. x.0 < limit) }
