@@ -1,5 +1,5 @@
 -- The laws of words, signs, names and literals; key words that differ are told apart.
-use Rattle.ddl_parts.proofs.Common.{AllByRecursion, ◌≢◌, list_any, ◌==◌, or_parts, nat_tests, length, nat_lt, IsName, IsUtf8-from_is_utf8, All-from_recursion, Option, Some, Ok, ◌≡◌, ℕ, Bool, true, false, List, [], ◌∷◌, refl, ap, ◌∙◌, bytes_eq, codes, eq-eqb, arith, str_eq_ignore_ascii_case, str_to_ascii_lowercase, is_utf8, chars, encode, bytes_eq-Decides, next_is, TokenKind, Word, QuotedName, Literal, Sign, name_of, literal_of, is_keyword_of, undoubled, inside, Lexeme, is_word, is_sign, Part, choose, ◌▸◌, ◌◂◌, Lawful, Begins, Avoids, Apart, name, name_value, name_in, is_name, literal, literal_value, text_in, is_literal, qualified, Err, path_value, shortened, IsTooLong}
+use Rattle.ddl_parts.proofs.Common.{AllByRecursion, ◌≢◌, list_any, ◌==◌, or_parts, nat_tests, length, nat_lt, IsName, IsUtf8-from_is_utf8, All-from_recursion, Option, Some, Ok, ◌≡◌, ℕ, Bool, true, false, List, [], ◌∷◌, refl, ap, ◌∙◌, bytes_eq, codes, eq-eqb, arith, str_eq_ignore_ascii_case, str_to_ascii_lowercase, is_utf8, chars, encode, bytes_eq-Decides, next_is, TokenKind, Word, Literal, Sign, name_of, literal_of, is_keyword_of, undoubled, inside, Lexeme, is_word, is_sign, Part, choose, ◌▸◌, ◌◂◌, Lawful, Begins, Avoids, Apart, name, name_value, name_in, is_name, literal, literal_value, text_in, is_literal, qualified, path_value}
 use Rattle.ddl_parts.proofs.{Steps.avoids_never, Steps.avoids_begun, Shorter.is_far, Shorter.word_agrees, Shorter.sign_agrees, Shorter.name_shortens, Simple.one_laws, Simple.seen_laws, Simple.seen_begins, Sequence.then_laws, Sequence.then_begins, Sequence.lead_laws, Sequence.close_laws, Shorter.no_long_text, Shorter.word_no_text}
 
 -- ---- tokens that stand for something
@@ -27,9 +27,7 @@ name_laws = one_laws name_value name_shortens (a_word (codes "a")) (codes "a") r
 
 pub literal_laws : Lawful literal
 unfolding literal_value text_in literal_of undoubled inside next_is is_utf8 chars encode path_value
-literal_laws =
-    let no_text : (t : Lexeme) → IsTooLong t → literal_value t ≡ Err false → literal_value (shortened t) ≡ Err false = λ t h f. grind (arith, word_no_text) in
-    one_laws literal_value (record { long = λ t e. absurd (no_long_text t e); none = no_text }) a_literal [] refl
+literal_laws = one_laws literal_value (record { long = λ t e. absurd (no_long_text t e); none = λ t h f. (grind (arith, word_no_text)) }) a_literal [] refl
 
 pub name_begins : Begins is_name name
 unfolding is_name name_value name_in name_of
@@ -72,15 +70,15 @@ qualified_begins = search (seen_begins, then_begins, name_begins, arith)
 
 -- ---- tokens that are told apart
 
-words_by : (k : TokenKind) (w a b : List ℕ) → str_eq_ignore_ascii_case a b ≡ false → is_keyword_of k w a ≡ true → is_keyword_of k w b ≡ false
+-- whether a token that is one word is another
+pub same_by : (k : TokenKind) (w a b : List ℕ) → is_keyword_of k w a ≡ true → is_keyword_of k w b ≡ str_eq_ignore_ascii_case a b
 unfolding is_keyword_of
-words_by Word w a b differ e = let same = (bytes_eq-Decides (str_to_ascii_lowercase w) (str_to_ascii_lowercase a)).0 e in ap (λ (x : List ℕ). bytes_eq x (str_to_ascii_lowercase b)) same ∙ differ
-words_by QuotedName w a b differ e = refl
-words_by x w a b differ e = refl
+same_by Word w a b e = ap (λ (x : List ℕ). bytes_eq x (str_to_ascii_lowercase b)) ((bytes_eq-Decides (str_to_ascii_lowercase w) (str_to_ascii_lowercase a)).0 e)
+same_by x w a b e = absurd cc
 
 pub words_apart : (a b : List ℕ) → str_eq_ignore_ascii_case a b ≡ false → Apart (is_word a) (is_word b)
 unfolding is_word
-words_apart a b differ t e = words_by t.kind t.word a b differ e
+words_apart a b differ t e = same_by t.kind t.word a b e ∙ differ
 
 pub word_no_sign : (key : List ℕ) (b : ℕ) → Apart (is_word key) (is_sign b)
 unfolding is_word is_sign is_keyword_of

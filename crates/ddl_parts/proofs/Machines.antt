@@ -1,6 +1,6 @@
 -- The laws of a run of tokens that a machine takes.
-use Rattle.ddl_parts.proofs.Common.{arith, ◌≡◌, Bool, true, false, cond, List, [], ◌∷◌, ◌++◌, Option, Some, None, Ok, Err, refl, sym, ap, subst, ◌∙◌, inl, inr, Lexeme, starts, Reading, ◌>>=◌, Machine, run, ends, scan, scan_step, runs_of, IsTooLong, shortened, Like, Lawful}
-use Rattle.ddl_parts.proofs.{Steps.gives, Told.Told, Told.long_of, Told.lawful, Told.told_as, Told.told_on}
+use Rattle.ddl_parts.proofs.Common.{arith, ◌≡◌, Bool, true, false, cond, List, [], ◌∷◌, ◌++◌, Option, Some, None, Ok, Err, refl, sym, ap, ◌∙◌, Lexeme, starts, Reading, ◌>>=◌, Machine, run, ends, scan, scan_step, runs_of, IsTooLong, shortened, Like, Lawful}
+use Rattle.ddl_parts.proofs.{Steps.gives, Told.Told, Told.long_of, Told.before, Told.lawful, Told.told_as, Told.told_on}
 
 -- A token that a state doesn't take: where it says that it is too long, it takes a shorter one, and else it doesn't take
 -- such a one either. It says so only where it isn't done.
@@ -39,21 +39,15 @@ abbrev Scans : (m : Machine) → m.State → List Lexeme → Reading (List Lexem
 Scans m s ts r = Told (RunsFrom m s) (scan m s) ts r
 
 -- no token is taken
-stays : (m : Machine) → CanEnd m → (s : m.State) (long : Bool) (ts : List Lexeme)
-    → ((t : Lexeme) (behind : List Lexeme) → ts ≡ t ∷ behind → (u : Lexeme) → Like (long_of (by_done m long ts (m.done s))) t u → (other : List Lexeme) → scan m s (u ∷ other) ≡ by_done m long (u ∷ other) (m.done s))
-    → (long ≡ true → m.done s ≡ false → (t : Lexeme) × (behind : List Lexeme) × (ts ≡ t ∷ behind) × IsTooLong t × ((x : m.State) × (m.step s (shortened t) ≡ Some x))) → (d : Bool) → m.done s ≡ d → Scans m s ts (by_done m long ts d)
-stays m h s long ts same goes true e = record {
-  front = [];
-  parts = refl;
-  fits = (refl, s, refl, e);
-  local = λ t behind is u like other. same t behind is u (subst (λ (d : Bool). Like (long_of (by_done m long ts d)) t u) (sym e) like) other ∙ ap (by_done m long (u ∷ other)) e;
-  named = λ l. absurd cc;
-}
-stays m h s long ts same goes false e = record {
+stays : (m : Machine) → CanEnd m → (s : m.State) (long : Bool) (ts : List Lexeme) (d : Bool) → m.done s ≡ d
+    → ((t : Lexeme) (behind : List Lexeme) → ts ≡ t ∷ behind → (u : Lexeme) → Like (long_of (by_done m long ts d)) t u → (other : List Lexeme) → scan m s (u ∷ other) ≡ before (by_done m long ts d) (u ∷ other))
+    → (long ≡ true → m.done s ≡ false → (t : Lexeme) × (behind : List Lexeme) × (ts ≡ t ∷ behind) × IsTooLong t × ((x : m.State) × (m.step s (shortened t) ≡ Some x))) → Scans m s ts (by_done m long ts d)
+stays m h s long ts true e same goes = record { front = []; parts = refl; fits = (refl, s, refl, e); local = same; named = λ l. absurd cc }
+stays m h s long ts false e same goes = record {
   front = [];
   parts = refl;
   fits = (h.finish s, h.finish s, (refl, h.last s, h.finished s, h.done s));
-  local = λ t behind is u like other. same t behind is u (subst (λ (d : Bool). Like (long_of (by_done m long ts d)) t u) (sym e) like) other ∙ ap (by_done m long (u ∷ other)) e;
+  local = same;
   named = λ l.
       let g = goes l e in
       let x = g.4.0 in
@@ -74,23 +68,13 @@ goes m s t x is ts r f =
 
 scans : (m : Machine) → CanEnd m → (s : m.State) (ts : List Lexeme) → Scans m s ts (scan m s ts)
 unfolding scan
-scans m h s [] = stays m h s false [] (λ t behind is u like other. absurd cc) (λ l d. absurd cc) (m.done s) refl
+scans m h s [] = stays m h s false [] (m.done s) refl (λ t behind is u like other. absurd cc) (λ l d. absurd cc)
 scans m h s (t ∷ ts) = by (λ x. scans m h x ts) (m.step s t) refl
   where
-    -- a token that isn't taken, or a shorter one where nothing hangs on that
-    again : m.step s t ≡ None → (d : Bool) → m.done s ≡ d → (u : Lexeme) → Like (long_of (by_done m (m.long s t) (t ∷ ts) d)) t u → (other : List Lexeme) → scan m s (u ∷ other) ≡ by_done m (m.long s t) (u ∷ other) (m.done s)
-    again is d e u (inl same) other = subst (λ (z : Lexeme). scan m s (z ∷ other) ≡ by_done m (m.long s t) (z ∷ other) (m.done s)) same (ap (by_step m s t other) is)
-    again is d e u (inr l) other = subst (λ (z : Lexeme). scan m s (z ∷ other) ≡ by_done m (m.long s t) (z ∷ other) (m.done s)) l.2 (short (m.long s t) refl d e l.0)
-      where
-        short : (long : Bool) → m.long s t ≡ long → (d : Bool) → m.done s ≡ d → long_of (by_done m long (t ∷ ts) d) ≡ false → scan m s (shortened t ∷ other) ≡ by_done m long (shortened t ∷ other) (m.done s)
-        short false f d e g = let h' = (h.shorter s t is).stays f l.1 in ap (by_step m s (shortened t) other) h'.0 ∙ ap (λ (b : Bool). by_done m b (shortened t ∷ other) (m.done s)) h'.1
-        short true f true e g = absurd (cc ((h.shorter s t is).undone f, e))
-        short true f false e g = absurd cc
-
     by : ((x : m.State) → Scans m x ts (scan m x ts)) → (next : Option m.State) → m.step s t ≡ next → Scans m s (t ∷ ts) (by_step m s t ts next)
     by later None is =
-        stays m h s (m.long s t) (t ∷ ts) (λ y behind i u like other. again is (m.done s) refl u (subst (λ (z : Lexeme). Like (long_of (by_done m (m.long s t) (t ∷ ts) (m.done s))) z u) (sym cc) like) other)
-        (λ l d. (let g = (h.shorter s t is).takes l in (t, ts, refl, g.0, g.1))) (m.done s) refl
+        let k = h.shorter s t is in
+        stays m h s (m.long s t) (t ∷ ts) (m.done s) refl (λ y behind i u like other. grind (arith, k.undone, k.stays)) (λ l d. (let g = k.takes l in (t, ts, refl, g.0, g.1)))
     by later (Some x) is = goes m s t x is ts (scan m x ts) (later x)
 
 -- ---- what runs

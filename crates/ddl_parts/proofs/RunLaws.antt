@@ -1,5 +1,5 @@
 -- The laws of expressions and types.
-use Rattle.ddl_parts.proofs.Common.{◌≡◌, ℕ, Bool, true, false, cond, not, List, [], ◌∷◌, Some, None, Result, is_ok, refl, ap, ◌∙◌, ◌||◌, codes, arith, ◌==◌, not-false, is_utf8, chars, encode, TokenKind, Number, is_keyword_of, name_of, Lexeme, is_word, is_sign, is_sign_kind, source, run, runs_of, Lawful, Apart, name_value, name_in, Bracket, Spot, First, Inside, Nest, nested, nest_step, nest_done, ends_run, is_end_kind, step_by, behind_bounded, behind_kind, moved, expression, default_text, default_and_null, without_not_null, typing, type_step, type_done, type_long, type_goes_on, if_name, is_long_by, is_type_word, is_number, type_part, type_of, TypeSpot, Begin, FirstWord, Schema, Dotted, Path, Words, Opened, Counted, Further, Behind, Array, Ended, IsTooLong, shortened}
+use Rattle.ddl_parts.proofs.Common.{◌≡◌, ℕ, Bool, true, false, cond, not, List, [], ◌∷◌, Some, None, Result, is_ok, refl, ap, ◌∙◌, ◌||◌, codes, arith, ◌==◌, not-false, is_utf8, chars, encode, Number, is_keyword_of, name_of, Lexeme, is_word, is_sign, source, run, runs_of, Lawful, Apart, name_value, name_in, Bracket, Spot, First, Inside, Nest, nested, nest_step, nest_done, ends_run, expression, default_text, default_and_null, without_not_null, typing, type_step, type_done, type_long, type_goes_on, if_name, is_long_by, is_type_word, is_number, type_part, type_of, TypeSpot, Begin, FirstWord, Schema, Dotted, Path, Words, Opened, Counted, Further, Behind, Array, Ended, IsTooLong, shortened}
 use Rattle.ddl_parts.{proofs.Simple.seen_laws, proofs.Shorter.word_like, proofs.Shorter.sign_like, proofs.Shorter.name_shortens, proofs.Machines.CanEnd, proofs.Machines.Shorter, proofs.Machines.machine_laws, proofs.Leads.a_word, proofs.Leads.a_sign, specs.declared.runs.Bracket.TheVariants.Round, specs.declared.runs.Bracket.TheVariants.Square}
 
 abbrev a_number : Lexeme
@@ -35,24 +35,18 @@ closes bounded takes (Square ∷ bs) = closes bounded takes bs
 
 covered : (bounded takes : Bool) (s : Nest) (t : Lexeme) → nest_done s ≡ true → not (ends_run bounded t) ≡ false → nest_step bounded takes s t ≡ None
 unfolding nest_step nest_done
-covered bounded takes s t done free =
-    let inside_flat : (spot : Spot) (bs : List Bracket) → nest_done (nest bs spot) ≡ true → bs ≡ [] = λ spot bs e. grind arith in
-    ap (step_by bounded takes s.spot t) (inside_flat s.spot s.brackets done)
-    ∙ ap (λ (e : Bool). cond e None (cond bounded (behind_bounded takes s.spot t) (moved (behind_kind t.kind [])))) (not-false (ends_run bounded t) free)
+covered bounded takes s t done free = grind (arith, not-false)
 
 nested_ends : (bounded takes : Bool) → CanEnd (nested bounded takes)
 unfolding nest_step ends_run is_word is_sign is_keyword_of nest_done
-nested_ends bounded takes =
-    let nested_shorter : (bounded takes : Bool) (s : Nest) (t : Lexeme) → nest_step bounded takes s t ≡ None → Shorter (nested bounded takes) s t =
-    λ bounded takes s t none. record { undone = λ l. absurd cc; takes = λ l. absurd cc; stays = λ l long. ((grind (arith, word_like, sign_like)) ∙ none, refl) } in
-    record {
-      finish = λ s. finish_by s.spot s.brackets;
-      last = λ s. last_by s.spot s.brackets;
-      finished = λ s. (grind (arith, closes));
-      done = λ s. (grind arith);
-      covers = covered bounded takes;
-      shorter = nested_shorter bounded takes;
-    }
+nested_ends bounded takes = record {
+  finish = λ s. finish_by s.spot s.brackets;
+  last = λ s. last_by s.spot s.brackets;
+  finished = λ s. (grind (arith, closes));
+  done = λ s. (grind arith);
+  covers = covered bounded takes;
+  shorter = λ s t none. record { undone = λ l. absurd cc; takes = λ l. absurd cc; stays = λ l long. ((grind (arith, word_like, sign_like)) ∙ none, refl) };
+}
 
 pub expression_laws : Lawful expression
 unfolding expression
@@ -114,11 +108,7 @@ type_shorter s t none =
 
 pub typing_ends : CanEnd typing
 unfolding type_step type_finish type_last is_type_word is_number is_word is_sign is_keyword_of name_value name_in name_of is_utf8 chars encode type_done type_goes_on
-typing_ends =
-    let type_covers : (s : TypeSpot) (t : Lexeme) → type_done s ≡ true → type_goes_on t ≡ false → type_step s t ≡ None = λ s t d free. grind arith in
-    let type_is_done : (s : TypeSpot) → type_done (type_last s) ≡ true = λ s. grind arith in
-    let type_finished : (s : TypeSpot) → run typing (Some s) (type_finish s) ≡ Some (type_last s) = λ s. grind arith in
-    record { finish = type_finish; last = type_last; finished = type_finished; done = type_is_done; covers = type_covers; shorter = type_shorter }
+typing_ends = record { finish = type_finish; last = type_last; finished = λ s. (grind arith); done = λ s. (grind arith); covers = λ s t d free. (grind arith); shorter = type_shorter }
 
 pub type_laws : Lawful type_part
 unfolding type_part
@@ -129,7 +119,7 @@ type_laws = seen_laws type_of (runs_of typing) (machine_laws typing typing_ends)
 -- a closing bracket and a semicolon end each run
 pub run_ends : (bounded : Bool) (b : ℕ) → (b == 41 || b == 93 || b == 59) ≡ true → (t : Lexeme) → is_sign b t ≡ true → not (ends_run bounded t) ≡ false
 unfolding ends_run is_sign
-run_ends bounded b ends t e = let end_sign : (k : TokenKind) (b : ℕ) → (b == 41 || b == 93 || b == 59) ≡ true → is_sign_kind b k ≡ true → is_end_kind k ≡ true = λ k b ends e. grind arith in rw (end_sign t.kind b ends e) refl
+run_ends bounded b ends t e = grind arith
 
 pub expression_ends : Apart (is_sign 59) expression.goes_on
 unfolding expression

@@ -14,14 +14,11 @@ long_bytes bytes e = grind arith
 
 word_by : (k : TokenKind) (w key : List ℕ) → is_far key ≡ true → name_in (name_of k w) ≡ Err true → is_keyword_of k (short_word k) key ≡ is_keyword_of k w key
 unfolding is_keyword_of name_of
-word_by Word w key far e = not-true _ h.1 ∙ sym (by (bytes_eq (str_to_ascii_lowercase w) (str_to_ascii_lowercase key)) refl)
-  where
-    h : (not (nat_lt 63 (length (str_to_ascii_lowercase key))) ≡ true) × (not (str_eq_ignore_ascii_case (codes "a") key) ≡ true)
-    h = and_parts _ _ far
-
-    by : (b : Bool) → bytes_eq (str_to_ascii_lowercase w) (str_to_ascii_lowercase key) ≡ b → b ≡ false
-    by false is = refl
-    by true is = absurd (cc (sym (ap (λ (x : List ℕ). nat_lt 63 (length x)) ((bytes_eq-Decides (str_to_ascii_lowercase w) (str_to_ascii_lowercase key)).0 is)) ∙ long_bytes (str_to_ascii_lowercase w) e, not-true _ h.0))
+word_by Word w key far e =
+    let h : (not (nat_lt 63 (length (str_to_ascii_lowercase key))) ≡ true) × (not (str_eq_ignore_ascii_case (codes "a") key) ≡ true) = and_parts _ _ far in
+    let same : bytes_eq (str_to_ascii_lowercase w) (str_to_ascii_lowercase key) ≡ true → nat_lt 63 (length (str_to_ascii_lowercase key)) ≡ true =
+    λ is. sym (ap (λ (x : List ℕ). nat_lt 63 (length x)) ((bytes_eq-Decides (str_to_ascii_lowercase w) (str_to_ascii_lowercase key)).0 is)) ∙ long_bytes (str_to_ascii_lowercase w) e in
+    not-true _ h.1 ∙ sym (grind (arith, same))
 word_by x w key far e = refl
 
 pub word_agrees : (key : List ℕ) → is_far key ≡ true → Agrees (is_word key)
@@ -51,8 +48,7 @@ literal_agrees t long = refl
 
 pub long_no_number : (t : Lexeme) → IsTooLong t → is_number_kind t.kind ≡ false
 unfolding name_value path_value literal_value name_in name_of literal_of text_in
-long_no_number t (inl e) = grind arith
-long_no_number t (inr e) = grind arith
+long_no_number t long = grind arith
 
 -- ---- values
 
@@ -64,11 +60,7 @@ name_short x w e = absurd cc
 
 pub name_shortens : Shortens name_value
 unfolding name_value path_value literal_value name_in name_of literal_of text_in
-name_shortens = record { long = λ t e. (inl e, name_short t.kind t.word e); none = none }
-  where
-    none : (t : Lexeme) → IsTooLong t → name_value t ≡ Err false → name_value (shortened t) ≡ Err false
-    none t (inl e) f = absurd (cc (e, f))
-    none t (inr e) f = grind arith
+name_shortens = record { long = λ t e. (inl e, name_short t.kind t.word e); none = λ t long f. (grind arith) }
 
 pub no_long_text : (t : Lexeme) → literal_value t ≡ Err true → ⊥
 unfolding literal_value text_in

@@ -1,5 +1,5 @@
 -- The laws of one token, of no token, and of a value seen through another.
-use Rattle.ddl_parts.proofs.Common.{◌≡◌, Bool, true, false, List, [], ◌∷◌, ◌++◌, Result, Ok, Err, cond, refl, sym, ap, subst, ◌∙◌, inl, inr, append-nil, arith, Lexeme, starts, Part, Reading, one, one_at, first_by, seen, seen_at, nothing, wider, passes, mark, IsTooLong, shortened, Like, Lawful, Begins, Avoids}
+use Rattle.ddl_parts.proofs.Common.{◌≡◌, Bool, true, false, List, [], ◌∷◌, ◌++◌, Result, Ok, Err, cond, refl, sym, ap, subst, ◌∙◌, append-nil, arith, Lexeme, starts, Part, Reading, one, one_at, first_by, seen, seen_at, nothing, wider, passes, mark, IsTooLong, shortened, Lawful, Begins, Avoids}
 use Rattle.ddl_parts.proofs.{Steps.Agrees, Steps.starts_neither, Steps.gives, Told.Tells, Told.told, Told.lawful, Told.told_as, Told.told_stopped}
 
 -- ---- one token
@@ -14,28 +14,14 @@ one_tells : {A : Type 0} (value : Lexeme → Result A Bool) → Shortens value �
 one_tells value h t v e [] = record { front = []; parts = refl; fits = (v, t ∷ [], (t, refl, e)); local = λ x behind is u like other. absurd cc; named = λ e. absurd cc }
 one_tells {A} value h t v e (x ∷ ts) = by (value x) refl
   where
-    refused : Bool → Lexeme → List Lexeme → Reading A
-    refused long y other = Err (record { long = long; rest = y ∷ other })
-
-    failed : Bool → Result A Bool
-    failed long = Err long
-
-    again : (long : Bool) → value x ≡ Err long → (u : Lexeme) → Like long x u → (other : List Lexeme) → one_at value (u ∷ other) ≡ refused long u other
-    again long is u (inl same) other = subst (λ (z : Lexeme). one_at value (z ∷ other) ≡ refused long z other) same (ap (first_by x other) is)
-    again long is u (inr l) other =
-        subst (λ (z : Lexeme). one_at value (z ∷ other) ≡ refused long z other) l.2
-        (ap (first_by (shortened x) other) (h.none x l.1 (is ∙ ap failed l.0)) ∙ ap (λ (b : Bool). refused b (shortened x) other) (sym l.0))
-
     by : (r : Result A Bool) → value x ≡ r → Tells (one value) (x ∷ ts) (first_by x ts r)
     by (Ok w) is = record { front = x ∷ []; parts = refl; fits = (x, refl, is); local = λ y behind i u like other. ap (first_by x (u ∷ other)) is; named = λ e. absurd cc }
     by (Err long) is = record {
       front = [];
       parts = refl;
       fits = (v, t ∷ [], (t, refl, e));
-      local = λ y behind i u like other. again long is u (subst (λ (z : Lexeme). Like long z u) (sym cc) like) other;
-      named = λ l.
-          let s = h.long x (is ∙ ap failed l) in
-          record { token = x; behind = ts; is = refl; long = s.0; value = s.1.0; more = []; spells = (shortened x, refl, s.1.1) };
+      local = λ y behind i u like other. grind (arith, h.none);
+      named = λ l. let s = h.long x (cc) in record { token = x; behind = ts; is = refl; long = s.0; value = s.1.0; more = []; spells = (shortened x, refl, s.1.1) };
     }
 
 pub one_laws : {A : Type 0} (value : Lexeme → Result A Bool) → Shortens value → (t : Lexeme) (v : A) → value t ≡ Ok v → Lawful (one value)
@@ -54,14 +40,8 @@ passes_by b = cond b (Ok tt) (Err false)
 pub passes_true : (v : Unit {0}) (b : Bool) → passes_by b ≡ Ok v → b ≡ true
 passes_true v b e = grind arith
 
-never_long : (b : Bool) → passes_by b ≡ Err true → ⊥
-never_long true e = absurd cc
-never_long false e = absurd cc
-
 pub mark_laws : (test : Lexeme → Bool) → Agrees test → (t : Lexeme) → test t ≡ true → Lawful (mark test)
-mark_laws test agrees t e =
-    let passes_false : (b : Bool) → passes_by b ≡ Err false → b ≡ false = λ b e. grind arith in
-    one_laws (passes test) (record { long = λ t e. absurd (never_long (test t) e); none = λ t long e. ap passes_by (agrees t long ∙ passes_false (test t) e) }) t tt (ap passes_by e)
+mark_laws test agrees t e = one_laws (passes test) (record { long = λ t e. absurd (grind arith); none = λ t long e. grind (arith, (agrees t long)) }) t tt (ap passes_by e)
 
 pub mark_begins : (test : Lexeme → Bool) → Begins test (mark test)
 mark_begins test = one_begins (passes test) test (λ t v e. passes_true v (test t) e)

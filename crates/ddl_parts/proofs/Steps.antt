@@ -1,18 +1,12 @@
 -- Steps of a reading, and the first of some tokens.
-use Rattle.ddl_parts.proofs.Common.{◌≡◌, Bool, true, false, ◌||◌, List, [], ◌∷◌, ◌++◌, Result, Ok, refl, ap, arith, Lexeme, starts, never, Stop, Part, Reading, IsTooLong, shortened, Like, Apart, Begins, Avoids}
-
-abbrev pub done : {A : Type 0} → A → Result A Stop
-done x = Ok x
-
-pub ok_is : {A : Type 0} (x y : A) → done x ≡ done y → x ≡ y
-ok_is x y e = cc
+use Rattle.ddl_parts.proofs.Common.{◌≡◌, Bool, true, false, ◌||◌, List, [], ◌∷◌, ◌++◌, Ok, refl, ap, arith, Lexeme, starts, never, Part, Reading, IsTooLong, shortened, Like, Apart, Begins, Avoids}
 
 -- a value that was read, and the rest
 abbrev pub gives : {A : Type 0} → A → List Lexeme → Reading A
 gives v rest = Ok (v, rest)
 
 pub value_is : {A : Type 0} (v w : A) (rest other : List Lexeme) → gives v rest ≡ gives w other → v ≡ w
-value_is {A} v w rest other e = ap (λ (x : A × List Lexeme). x.0) (ok_is (v, rest) (w, other) e)
+value_is {A} v w rest other e = ap (λ (x : A × List Lexeme). x.0) {x = (v, rest)} {y = (w, other)} (cc)
 
 -- ---- the first token
 

@@ -1,6 +1,7 @@
 -- Tokens that are told apart, by their kinds and words.
-use Rattle.ddl_parts.proofs.Common.{◌≡◌, ℕ, Bool, true, false, ◌||◌, ◌&&◌, List, [], ◌∷◌, ◌++◌, refl, ap, ◌∙◌, bytes_eq, arith, ◌==◌, list_any, str_eq_ignore_ascii_case, str_to_ascii_lowercase, bytes_eq-Decides, TokenKind, Word, QuotedName, is_keyword_of, Lexeme, is_word, is_sign, is_sign_kind, never, starts, Part, nothing, Apart, Avoids, Begins, is_name, is_name_kind, is_literal, is_literal_kind, type_goes_on, is_type_word, is_word_kind, stop_words}
+use Rattle.ddl_parts.proofs.Common.{◌≡◌, ℕ, Bool, true, false, ◌||◌, ◌&&◌, List, [], ◌∷◌, ◌++◌, refl, ap, ◌∙◌, arith, ◌==◌, list_any, str_eq_ignore_ascii_case, TokenKind, is_keyword_of, Lexeme, is_word, is_sign, is_sign_kind, never, starts, Part, nothing, Apart, Avoids, Begins, is_name, is_name_kind, is_literal, is_literal_kind, type_goes_on, is_type_word, is_word_kind, stop_words}
 use Rattle.ddl_parts.proofs.{Steps.starts_more, Leads.word_no_sign}
+pub use Rattle.ddl_parts.proofs.Leads.{same_by}
 
 -- what goes on with no token is followed by anything
 pub free : (test : Lexeme → Bool) → Apart test never
@@ -13,13 +14,6 @@ pub avoids_where : {A : Type 0} (test : Lexeme → Bool) (p : Part A) → ((t : 
 avoids_where test p none v ts rest spells free = starts_none test none (ts ++ rest)
 
 -- ---- tokens that are told apart
-
--- whether a token that is one word is another
-pub same_by : (k : TokenKind) (w a b : List ℕ) → is_keyword_of k w a ≡ true → is_keyword_of k w b ≡ str_eq_ignore_ascii_case a b
-unfolding is_keyword_of
-same_by Word w a b e = let same = (bytes_eq-Decides (str_to_ascii_lowercase w) (str_to_ascii_lowercase a)).0 e in ap (λ (x : List ℕ). bytes_eq x (str_to_ascii_lowercase b)) same
-same_by QuotedName w a b e = absurd cc
-same_by x w a b e = absurd cc
 
 pub one_of_words : (key : List ℕ) (t : Lexeme) → is_word key t ≡ true → (ws : List (List ℕ)) → list_any (λ w. is_word w t) ws ≡ list_any (λ w. str_eq_ignore_ascii_case key w) ws
 unfolding is_word

@@ -1,5 +1,5 @@
 -- The tokens of a type: how a step goes on, and those of a qualified name.
-use Rattle.ddl_parts.proofs.Common.{◌≡◌, ℕ, zero, suc, ◌+◌, ◌-◌, ◌≤◌, Bool, true, false, List, [], ◌∷◌, length, take, drop, Option, Some, None, Result, Ok, Err, refl, sym, ap, subst, ◌∙◌, arith, option_and_then, length-drop, ok_or, TypeSpot, Begin, Path, TypeName, ReadError, Lexeme, is_sign, starts, source, name_value, Reading, Runs, run, scan, one_at, seen_at, Fails, typing, type_step, if_name, type_of, type_part}
+use Rattle.ddl_parts.proofs.Common.{◌≡◌, ℕ, suc, ◌+◌, ◌-◌, ◌≤◌, Bool, true, false, List, ◌∷◌, length, take, drop, Option, Some, None, Result, Ok, Err, refl, sym, ap, subst, ◌∙◌, arith, option_and_then, length-drop, ok_or, TypeSpot, Begin, Path, TypeName, ReadError, Lexeme, is_sign, starts, source, name_value, Reading, Runs, run, scan, one_at, seen_at, Fails, typing, type_step, if_name, type_of, type_part}
 use Rattle.ddl_parts.proofs.{Steps.gives, Slices.drop_twice, Machines.run_none, Machines.machine_laws, RunLaws.typing_ends}
 use Rattle.cat_model.specs.declared.type_name.TypeName.TheVariants as type_name
 
@@ -38,44 +38,32 @@ path_names a dot b ts last e h = grind (arith, step_some, name_goes, run_none)
 scanned_runs : (ts taken rest : List Lexeme) → scan typing Begin ts ≡ Ok (taken, rest) → Runs typing taken
 scanned_runs ts taken rest e = let f = (machine_laws typing typing_ends).found ts taken rest e in subst (λ (x : List Lexeme). Runs typing x) (sym f.spells.0) f.spells.1
 
--- the names of a type's tokens, as they are read one by one
-pub record ArePath (ts taken : List Lexeme) : Type 0 where
+-- the names of a type's tokens, as they are read one by one behind each other
+pub record ArePath (ts others taken : List Lexeme) : Type 0 where
   pub schema : List ℕ
   pub schema_is : one_at name_value ts ≡ gives schema (drop 1 ts)
   pub name : List ℕ
-  pub name_is : one_at name_value (drop 2 ts) ≡ gives name (drop 3 ts)
+  pub name_is : one_at name_value others ≡ gives name (drop 1 others)
   pub type_is : type_of taken ≡ type_name.Path (record { schema = schema; name = name })
 
 -- a run of three tokens or more with a dot as the second is a qualified name
-pub path_is : (n : ℕ) (ts rest : List Lexeme) → 3 ≤ n → n ≤ length ts → starts (is_sign 46) (drop 1 ts) ≡ true → scan typing Begin ts ≡ Ok (take n ts, rest) → ArePath ts (take n ts)
+pub path_is : (n : ℕ) (ts rest : List Lexeme) → 3 ≤ n → n ≤ length ts → starts (is_sign 46) (drop 1 ts) ≡ true → scan typing Begin ts ≡ Ok (take n ts, rest) → ArePath ts (drop 2 ts) (take n ts)
 unfolding type_of
-path_is zero ts rest le high e scanned = absurd (omega arith)
-path_is (suc zero) ts rest le high e scanned = absurd (omega arith)
-path_is (suc (suc zero)) ts rest le high e scanned = absurd (omega arith)
-path_is (suc (suc (suc n))) [] rest le high e scanned = absurd (omega arith)
-path_is (suc (suc (suc n))) (a ∷ []) rest le high e scanned = absurd (omega arith)
-path_is (suc (suc (suc n))) (a ∷ dot ∷ []) rest le high e scanned = absurd (omega arith)
 path_is (suc (suc (suc n))) (a ∷ dot ∷ b ∷ ts) rest le high e scanned = grind (arith, scanned_runs, path_names)
+path_is n ts rest le high e scanned = absurd (omega arith)
 
 -- the same by places
 pub path_between : (ts : List Lexeme) (at end : ℕ) (dot : Bool) → (dot ≡ true → at + 3 ≤ end) → (at + 3 ≤ end → dot ≡ starts (is_sign 46) (drop (at + 1) ts)) → dot ≡ true → end ≤ length ts → scan typing Begin (drop at ts) ≡ Ok (take (end - at) (drop at ts), drop end ts)
-    → ArePath (drop at ts) (take (end - at) (drop at ts))
+    → ArePath (drop at ts) (drop (at + 2) ts) (take (end - at) (drop at ts))
 path_between ts at end dot long exact is high e =
-    path_is (end - at) (drop at ts) (drop end ts) (omega (arith, (long is))) (omega (arith, length-drop at ts)) (ap (starts (is_sign 46)) (drop_twice 1 at ts) ∙ sym (exact (long is)) ∙ is) e
+    subst (λ us. ArePath (drop at ts) us (take (end - at) (drop at ts))) (drop_twice 2 at ts)
+    (path_is (end - at) (drop at ts) (drop end ts) (omega (arith, (long is))) (omega (arith, length-drop at ts)) (ap (starts (is_sign 46)) (drop_twice 1 at ts) ∙ sym (exact (long is)) ∙ is) e)
 
 -- another run is words
 pub words_are : (n : ℕ) (ts : List Lexeme) → (3 ≤ n → starts (is_sign 46) (drop 1 ts) ≡ false) → type_of (take n ts) ≡ type_name.Words (source (take n ts))
 unfolding type_of
-words_are zero ts no_dot = refl
-words_are (suc zero) [] no_dot = refl
-words_are (suc zero) (a ∷ ts) no_dot = refl
-words_are (suc (suc zero)) [] no_dot = refl
-words_are (suc (suc zero)) (a ∷ []) no_dot = refl
-words_are (suc (suc zero)) (a ∷ b ∷ ts) no_dot = refl
-words_are (suc (suc (suc n))) [] no_dot = refl
-words_are (suc (suc (suc n))) (a ∷ []) no_dot = refl
-words_are (suc (suc (suc n))) (a ∷ b ∷ []) no_dot = refl
 words_are (suc (suc (suc n))) (a ∷ dot ∷ b ∷ ts) no_dot = let e : is_sign 46 dot ≡ false = no_dot (omega arith) in rw e refl
+words_are n ts no_dot = grind arith
 
 -- the type of the tokens that were scanned
 pub type_is : (ts taken rest : List Lexeme) (t : TypeName) → scan typing Begin ts ≡ Ok (taken, rest) → type_of taken ≡ t → type_part.read ts ≡ Ok (t, rest)
