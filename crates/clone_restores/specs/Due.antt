@@ -7,8 +7,8 @@ use Rattle.cat_model.specs.Values.{Bytes, Named}
 use Rattle.cat_names.specs.Naming.{boot as boot_role}
 use Rattle.command_line.specs.declared.values.Format.{Format}
 use Rattle.command_line.specs.declared.values.Format.TheVariants.{Plain, Custom, Directory}
-use Rattle.ddl_read.specs.declared.fault.DdlFault.{DdlFault}
-use Rattle.ddl_read.specs.declared.located.Located.{Located}
+use Rattle.ddl_read.specs.fault.DdlFault.{DdlFault}
+use Rattle.ddl_read.specs.located.Located.{Located}
 use Rattle.ddl_read.specs.Reading.{statements_of}
 use Rattle.dump_ports.specs.Tree.{Tree}
 use Rattle.entry_choices.specs.declared.options.Options.{Options}

@@ -4,8 +4,8 @@ use Rattle.std.specs.List.{AllByRecursion}
 use Rattle.cat_model.specs.Values.{Bytes}
 use Rattle.cat_names.specs.Naming.{boot as boot_role}
 use Rattle.cat_sound.specs.Fit.{IsFit}
-use Rattle.ddl_laws.specs.Respelling.{said as statements_in}
-use Rattle.ddl_read.specs.declared.located.Located.{Located}
+use Rattle.ddl_read.specs.Spellings.{said as statements_in}
+use Rattle.ddl_read.specs.located.Located.{Located}
 use Rattle.sound_texts.specs.Grammar.{grammar}
 use Rattle.clone_restores.specs.declared.scripts.ScriptWork.{ScriptWork}
 use Rattle.clone_restores.specs.Due.{Restoration, script_made}

@@ -1,15 +1,15 @@
 //! The reader of COMMENT ON.
 ghost use Rattle.std.specs.Prelude.{◌≡◌, drop};
 ghost use Rattle.cat_model.specs.declared.stmt.Stmt.TheVariants.{Comment};
-ghost use Rattle.ddl_parts.specs.Pieces.{GivesPart};
-ghost use Rattle.ddl_admin.specs.Comments.{remark, remark_end, name_remarked, path_remarked, column_remarked, constraint_remarked, commented_object, comment_on};
+ghost use Rattle.ddl_grammar.specs.Pieces.{GivesPart};
+ghost use Rattle.ddl_grammar.specs.Comments.{remark, remark_end, name_remarked, path_remarked, column_remarked, constraint_remarked, commented_object, comment_on};
 
 use cat_model::{Commented, QName, Stmt};
 use copy_text::{Name, Text};
-use ddl_parts::{Parsed, Pieces, qualified_name, read};
+use ddl_pieces::{Parsed, Pieces, qualified_name, read};
 use std::alloc::Global;
 
-#[tactic(auto, unfolding(crate::specs::Comments::remark_end, crate::specs::Comments::remark))]
+#[tactic(auto, unfolding(ddl_grammar::specs::Comments::remark_end, ddl_grammar::specs::Comments::remark))]
 fn remark_end(alloc: Global, pieces: &Pieces<'_>, at: usize) -> Parsed<Option<Text>>
     ensures { GivesPart pieces.now (λ t. t) result (remark_end.read (drop at pieces.now)) }
 {
@@ -24,7 +24,7 @@ fn comment(object: Commented, text: Option<Text>) -> Stmt
 }
 
 /// A name and what is remarked on it.
-#[tactic(auto, unfolding(crate::specs::Comments::name_remarked))]
+#[tactic(auto, unfolding(ddl_grammar::specs::Comments::name_remarked))]
 fn name_remarked(alloc: Global, pieces: &Pieces<'_>, at: usize) -> Parsed<(Name, Option<Text>)>
     ensures { GivesPart pieces.now (λ x. x) result (name_remarked.read (drop at pieces.now)) }
 {
@@ -32,14 +32,14 @@ fn name_remarked(alloc: Global, pieces: &Pieces<'_>, at: usize) -> Parsed<(Name,
 }
 
 /// A path and what is remarked on it.
-#[tactic(auto, unfolding(crate::specs::Comments::path_remarked))]
+#[tactic(auto, unfolding(ddl_grammar::specs::Comments::path_remarked))]
 fn path_remarked(alloc: Global, pieces: &Pieces<'_>, at: usize) -> Parsed<(QName, Option<Text>)>
     ensures { GivesPart pieces.now (λ x. x) result (path_remarked.read (drop at pieces.now)) }
 {
     read!(alloc, pieces, at; q: qualified_name text: remark_end => (q, text))
 }
 
-#[tactic(auto, unfolding(crate::specs::Comments::commented_object, crate::specs::Comments::column_remarked, crate::specs::Comments::constraint_remarked))]
+#[tactic(auto, unfolding(ddl_grammar::specs::Comments::commented_object, ddl_grammar::specs::Comments::column_remarked, ddl_grammar::specs::Comments::constraint_remarked))]
 fn commented_object(alloc: Global, pieces: &Pieces<'_>, at: usize) -> Parsed<Stmt>
     ensures { GivesPart pieces.now (λ s. s) result (commented_object.read (drop at pieces.now)) }
 {
@@ -63,7 +63,7 @@ fn commented_object(alloc: Global, pieces: &Pieces<'_>, at: usize) -> Parsed<Stm
 /// # Errors
 ///
 /// `Halted` tells the first token with which no such statement goes on, `Memory` that memory ran out.
-#[tactic(auto, unfolding(crate::specs::Comments::comment_on))]
+#[tactic(auto, unfolding(ddl_grammar::specs::Comments::comment_on))]
 pub fn comment_on(alloc: Global, pieces: &Pieces<'_>, at: usize) -> Parsed<Stmt>
     ensures { GivesPart pieces.now (λ s. s) result (comment_on.read (drop at pieces.now)) }
 {

@@ -1,15 +1,15 @@
 //! The reader of CREATE DATABASE.
 ghost use Rattle.std.specs.Prelude.{◌≡◌, drop, Some, IfOk};
-ghost use Rattle.ddl_parts.specs.Lexemes.{starts};
-ghost use Rattle.ddl_parts.specs.Parts.{mark};
-ghost use Rattle.ddl_parts.specs.Types.{is_number};
-ghost use Rattle.ddl_parts.specs.Pieces.{GivesPart, GivesPlace};
-ghost use Rattle.ddl_admin.specs.Choices.{any_word};
-ghost use Rattle.ddl_admin.specs.Databases.{word_first, is_bare, own_options, is_option, is_value, further, furthers, utf8, encoded, maybe_encoded, options, create_database};
+ghost use Rattle.ddl_grammar.specs.Lexemes.{starts};
+ghost use Rattle.ddl_grammar.specs.Parts.{mark};
+ghost use Rattle.ddl_grammar.specs.Types.{is_number};
+ghost use Rattle.ddl_grammar.specs.Pieces.{GivesPart, GivesPlace};
+ghost use Rattle.ddl_grammar.specs.Choices.{any_word};
+ghost use Rattle.ddl_grammar.specs.Databases.{word_first, is_bare, own_options, is_option, is_value, further, furthers, utf8, encoded, maybe_encoded, options, create_database};
 
 use cat_model::{Encoding, Stmt};
 use copy_text::Text;
-use ddl_parts::{Halt, Parsed, Pieces, ReadError, read};
+use ddl_pieces::{Halt, Parsed, Pieces, ReadError, read};
 use std::alloc::{AllocError, Global};
 
 /// The bytes of the token at a place.
@@ -23,7 +23,7 @@ fn token_text(alloc: Global, pieces: &Pieces<'_>, at: usize) -> Result<Option<Te
 }
 
 /// Whether the token at a place, which has these bytes, is a bare word: the key word that is spelled so.
-#[tactic(auto, using(crate::proofs::Further::bare_is))]
+#[tactic(auto, using(ddl_grammar_laws::proofs::Further::bare_is))]
 fn is_spelled(pieces: &Pieces<'_>, at: usize, word: &str) -> bool
     requires { Some word.now ≡ word_first (drop at pieces.now) }
     ensures { result ≡ starts is_bare (drop at pieces.now) }
@@ -32,7 +32,7 @@ fn is_spelled(pieces: &Pieces<'_>, at: usize, word: &str) -> bool
 }
 
 /// Whether a bare word stands at a place.
-#[tactic(auto, using(crate::proofs::Further::no_bare))]
+#[tactic(auto, using(ddl_grammar_laws::proofs::Further::no_bare))]
 fn is_bare(alloc: Global, pieces: &Pieces<'_>, at: usize) -> Result<bool, AllocError>
     ensures { IfOk result (λ b. b ≡ starts is_bare (drop at pieces.now)) }
 {
@@ -51,7 +51,7 @@ fn is_own_option(pieces: &Pieces<'_>, at: usize) -> bool
 }
 
 /// Whether a further option is named at a place.
-#[tactic(auto, using(crate::proofs::Further::option_starts))]
+#[tactic(auto, using(ddl_grammar_laws::proofs::Further::option_starts))]
 fn is_option(alloc: Global, pieces: &Pieces<'_>, at: usize) -> Result<bool, AllocError>
     ensures { IfOk result (λ b. b ≡ starts is_option (drop at pieces.now)) }
 {
@@ -61,18 +61,15 @@ fn is_option(alloc: Global, pieces: &Pieces<'_>, at: usize) -> Result<bool, Allo
 }
 
 /// Whether a number stands at a place.
-#[tactic(auto, using(crate::proofs::Further::some_number, crate::proofs::Further::no_number))]
+#[tactic(auto, using(ddl_grammar_laws::proofs::Further::some_number, ddl_grammar_laws::proofs::Further::no_number))]
 fn is_number(pieces: &Pieces<'_>, at: usize) -> bool
     ensures { result ≡ starts is_number (drop at pieces.now) }
 {
-    match pieces.number(at) {
-        Some(_) => true,
-        None => false,
-    }
+    pieces.number(at).is_some()
 }
 
 /// Whether the value of an option stands at a place.
-#[tactic(auto, using(crate::proofs::Further::value_starts))]
+#[tactic(auto, using(ddl_grammar_laws::proofs::Further::value_starts))]
 fn is_value(pieces: &Pieces<'_>, at: usize) -> bool
     ensures { result ≡ starts is_value (drop at pieces.now) }
 {
@@ -86,7 +83,7 @@ fn is_value(pieces: &Pieces<'_>, at: usize) -> bool
 }
 
 /// The name of a further option, and the place behind it.
-#[tactic(auto, using(ddl_numbers::proofs::Places::token_here))]
+#[tactic(auto, using(ddl_pieces::proofs::Places::token_here))]
 fn option_name(alloc: Global, pieces: &Pieces<'_>, at: usize) -> Result<usize, ReadError>
     ensures { GivesPlace pieces.now result ((mark is_option).read (drop at pieces.now)) }
 {
@@ -101,7 +98,7 @@ fn option_name(alloc: Global, pieces: &Pieces<'_>, at: usize) -> Result<usize, R
 }
 
 /// The value of an option, and the place behind it.
-#[tactic(auto, using(ddl_numbers::proofs::Places::token_here))]
+#[tactic(auto, using(ddl_pieces::proofs::Places::token_here))]
 fn option_value(pieces: &Pieces<'_>, at: usize) -> Result<usize, ReadError>
     ensures { GivesPlace pieces.now result ((mark is_value).read (drop at pieces.now)) }
 {
@@ -115,7 +112,7 @@ fn option_value(pieces: &Pieces<'_>, at: usize) -> Result<usize, ReadError>
 }
 
 /// A further option with its value.
-#[tactic(auto, unfolding(crate::specs::Databases::further))]
+#[tactic(auto, unfolding(ddl_grammar::specs::Databases::further))]
 fn further(alloc: Global, pieces: &Pieces<'_>, at: usize) -> Result<usize, ReadError>
     ensures { GivesPlace pieces.now result (further.read (drop at pieces.now)) }
 {
@@ -139,7 +136,7 @@ fn furthers(alloc: Global, pieces: &Pieces<'_>, from: usize) -> Result<usize, Re
 }
 
 /// The literal UTF8.
-#[tactic(auto, using(crate::proofs::Further::utf8_read))]
+#[tactic(auto, using(ddl_grammar_laws::proofs::Further::utf8_read))]
 fn utf8(alloc: Global, pieces: &Pieces<'_>, at: usize) -> Parsed<Encoding>
     ensures { GivesPart pieces.now (λ e. e) result (utf8.read (drop at pieces.now)) }
 {
@@ -158,7 +155,7 @@ fn utf8(alloc: Global, pieces: &Pieces<'_>, at: usize) -> Parsed<Encoding>
 /// # Errors
 ///
 /// `Halted` tells the first token with which no such statement goes on, `Memory` that memory ran out.
-#[tactic(auto, unfolding(crate::specs::Databases::create_database, crate::specs::Databases::options, crate::specs::Databases::maybe_encoded, crate::specs::Databases::encoded))]
+#[tactic(auto, unfolding(ddl_grammar::specs::Databases::create_database, ddl_grammar::specs::Databases::options, ddl_grammar::specs::Databases::maybe_encoded, ddl_grammar::specs::Databases::encoded))]
 pub fn create_database(alloc: Global, pieces: &Pieces<'_>, at: usize) -> Parsed<Stmt>
     ensures { GivesPart pieces.now (λ s. s) result (create_database.read (drop at pieces.now)) }
 {

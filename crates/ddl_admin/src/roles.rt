@@ -1,17 +1,16 @@
 //! Readers of CREATE ROLE and ALTER ROLE.
 ghost use Rattle.std.specs.Prelude.{◌≡◌, drop, codes};
-ghost use Rattle.ddl_parts.specs.Lexemes.{is_word};
-ghost use Rattle.ddl_parts.specs.Parts.{◌▸◌};
-ghost use Rattle.ddl_parts.specs.Leaves.{literal};
-ghost use Rattle.ddl_parts.specs.Pieces.{GivesPart};
-ghost use Rattle.ddl_admin.specs.Choices.{clause, flag};
-ghost use Rattle.ddl_numbers.specs.Numbers.{whole_number};
-ghost use Rattle.ddl_admin.specs.Roles.{create_role, later_flags, role_flags, role_settings, role_changes, alter_role};
+ghost use Rattle.ddl_grammar.specs.Lexemes.{is_word};
+ghost use Rattle.ddl_grammar.specs.Parts.{◌▸◌};
+ghost use Rattle.ddl_grammar.specs.Leaves.{literal};
+ghost use Rattle.ddl_grammar.specs.Pieces.{GivesPart};
+ghost use Rattle.ddl_grammar.specs.Choices.{clause, flag};
+ghost use Rattle.ddl_grammar_laws.specs.Numbers.{whole_number};
+ghost use Rattle.ddl_grammar.specs.Roles.{create_role, later_flags, role_flags, role_settings, role_changes, alter_role};
 
 use cat_model::{RoleChanges, Stmt};
 use copy_text::Text;
-use ddl_numbers::whole_number;
-use ddl_parts::{Parsed, Pieces, read};
+use ddl_pieces::{Parsed, Pieces, read, whole_number};
 use std::alloc::Global;
 
 /// The statement CREATE ROLE, behind these words, and the place behind it.
@@ -19,7 +18,7 @@ use std::alloc::Global;
 /// # Errors
 ///
 /// `Halted` tells the first token with which no such statement goes on, `Memory` that memory ran out.
-#[tactic(auto, unfolding(crate::specs::Roles::create_role))]
+#[tactic(auto, unfolding(ddl_grammar::specs::Roles::create_role))]
 pub fn create_role(alloc: Global, pieces: &Pieces<'_>, at: usize) -> Parsed<Stmt>
     ensures { GivesPart pieces.now (λ s. s) result (create_role.read (drop at pieces.now)) }
 {
@@ -40,7 +39,7 @@ fn flag(pieces: &Pieces<'_>, at: usize, key: &str, denial: &str) -> Parsed<Optio
 }
 
 /// The attributes in their order, no limit and no texts.
-#[tactic(auto, unfolding(crate::specs::Roles::role_flags, crate::specs::Roles::later_flags))]
+#[tactic(auto, unfolding(ddl_grammar::specs::Roles::role_flags, ddl_grammar::specs::Roles::later_flags))]
 fn role_flags(pieces: &Pieces<'_>, at: usize) -> Parsed<RoleChanges>
     ensures { GivesPart pieces.now (λ c. (c.superuser, (c.inherit, (c.create_role, (c.create_db, (c.login, (c.replication, c.bypass_rls))))))) result (role_flags.read (drop at pieces.now)) }
 {
@@ -82,7 +81,7 @@ fn valid_until(alloc: Global, pieces: &Pieces<'_>, at: usize) -> Parsed<Option<T
 /// # Errors
 ///
 /// `Halted` tells the first token with which no such statement goes on, `Memory` that memory ran out.
-#[tactic(auto, unfolding(crate::specs::Roles::alter_role, crate::specs::Roles::role_changes, crate::specs::Roles::role_settings))]
+#[tactic(auto, unfolding(ddl_grammar::specs::Roles::alter_role, ddl_grammar::specs::Roles::role_changes, ddl_grammar::specs::Roles::role_settings))]
 pub fn alter_role(alloc: Global, pieces: &Pieces<'_>, at: usize) -> Parsed<Stmt>
     ensures { GivesPart pieces.now (λ s. s) result (alter_role.read (drop at pieces.now)) }
 {

@@ -1,8 +1,8 @@
 -- What the proofs of this crate start from.
-pub use Rattle.ddl_parts.proofs.Lemmas.{name_in_is, AllByRecursion, AllDigits, AreDigits, Between, Bool, Collected, Err, IsAscii-decimal, IsGap, IsName, IsNext, IsTokenAt, IsUtf8, IsUtf8-append, IsUtf8-from_ascii, IsUtf8-from_is_utf8, IsUtf8-nil, IsWord, Items, LexFault, Lexeme, LiesBehind, List, Literal, Machine, Many, MetaLine, Nest, None, Number, Ok, Option, Part, QName, QuotedName, Result, Runs, Sign, Some, Spells, Token, TokenKind, TypeName, Word, [], and_false, and_from, and_parts, ap, append-nil, append_assoc, are_not_null, arith, behind_kind, behind_not, behind_null, behind_other, between_low, bytes_eq-Decides, cases_Bool, choose, codes, collected_by, cond, decimal, decimal_is_IsNumeral, digit_free, digit_from_value, digit_value, drop, drop-length, drop_at, drop_split, drop_twice, encode_ascii, false, gap, gap_is_passed, if_name, inl, inr, is_inside, is_ok, is_sign_kind, is_utf8-from_IsUtf8, length, length-append, lexeme_of, lexemes, lies_behind, list_all, list_all-append, list_any, literal, literal_is_read, low_scalar, lt-ltb, many, mark, moved, name, name_is_read, named, nat_lt, nat_tests, ne_eqb, negsuc, nest, nested, never, next_at_end, next_found, no_more, not, not-true, nothing, nothing_more, one, option_and_then, or_parts, passes_true, piece_word, pos, preceded, qualified, quoted_is, recursion_from_All, refl, run, run_none, runs_of, scalar, seam, seen, signed_decimal, slice_range, source, spelled, spelling_is_read, start_of, step_by, stop, str_eq_ignore_ascii_case, str_to_ascii_lowercase, subst, suc, sym, take, take_at, token_at, true, typing, wider, word_free, words_apart, zero, ℕ, ℤ, ◌&&◌, ◌++◌, ◌+◌, ◌-◌, ◌<◌, ◌==◌, ◌^◌, ◌then◌, ◌||◌, ◌∙◌, ◌∷◌, ◌≡◌, ◌≢◌, ◌≤◌, ◌⊎◌, ◌▸◌, ◌◂◌}
-unfoldable pub use Rattle.ddl_parts.proofs.Lemmas.{begins_bare, begins_word, chars, collected, collected_within, default_and_null, default_text, encode, ends_run, expression, goes_on, goes_on_behind_dot, in_line, in_word, is_bare, is_blank, is_digit, is_keyword_of, is_number, is_reserved, is_sign, is_type_word, is_utf8, is_word, literal_of, literal_value, marks_escapes, name_in, name_of, name_value, nest_done, nest_step, next_is, next_token_of, quoted, spelling, text_in, type_done, type_of, type_part, type_step, without_not_null, written_kind, written_literal, written_name}
-pub use Rattle.ddl_write.specs.Paths.{joined, only_if}
-pub use Rattle.std.proofs.{lemmas.Bool.ltb-true, Math.Nat.add_assoc}
-unfoldable pub use Rattle.ddl_write.specs.Paths.{path}
-pub use Rattle.ddl_forms.specs.Texts.{IsDefaultText, IsInt, IsPath, IsRunText, IsTextOf, IsType, is_int, semicolon}
-pub use Rattle.ddl_parts.specs.{declared.types.TypeSpot.TheVariants.Begin, declared.runs.Bracket.Bracket, declared.runs.Spot.TheVariants.Closed, declared.runs.Spot.TheVariants.First, declared.runs.Spot.TheVariants.Inside, declared.runs.Spot.TheVariants.LaterNot, declared.types.TypeSpot.TheVariants.Path, declared.pieces.Piece.Piece, declared.runs.Spot.Spot, declared.types.TypeSpot.TypeSpot, Parts.one_more, Parts.passes}
+pub use Rattle.ddl_parts.proofs.Common.{◌≡◌, Bool, true, false, not, ◌&&◌, List, [], ◌∷◌, ◌++◌, refl, arith, and_parts, Lexeme, Part, ℕ, zero, suc, ◌+◌, ◌<◌, ◌≤◌, ◌||◌, length, length-append, append_assoc, append-nil, Some, None, Ok, sym, ap, ◌∙◌, ◌==◌, ◌⊎◌, inl, inr, slice_range, take_at, drop_at, not-true, TokenKind, next_at_end, IsTokenAt, spelled, lexeme_of, lexemes, Collected, semicolon, cond, nat_lt, lt-ltb, nat_tests, ◌-◌, take, drop, Option, Result, Err, subst, or_parts, cases_Bool, drop_split, Word, QuotedName, Literal, Number, Sign, MetaLine, Token, LexFault, LiesBehind, Spells, AreDigits, IsGap, Between, gap, IsNext, next_found, piece_word, quoted_is, word_free, digit_free, lies_behind, spelling_is_read, gap_is_passed, is_sign_kind, collected_by, nothing_more, preceded, add_assoc, list_all, IsUtf8, scalar, low_scalar, and_from, list_all-append, IsUtf8-nil, IsUtf8-append, IsUtf8-from_is_utf8, is_utf8-from_IsUtf8, encode_ascii, ◌≢◌, list_any, AllByRecursion, str_to_ascii_lowercase, str_eq_ignore_ascii_case, bytes_eq-Decides, ne_eqb, recursion_from_All, IsWord, name_is_read, literal_is_read, IsName, option_and_then, drop-length, source, start_of, Machine, run, Runs, name, Items, Many, no_more, one, many, mark, seen, choose, nothing, ◌then◌, QName, never, runs_of, stop, wider, ◌▸◌, ◌◂◌, literal, qualified, IsPath, IsRunText, one_more, passes, IsTextOf, nested, is_ok, TypeName, typing, if_name, named, IsType, codes, Nest, are_not_null, IsDefaultText, ◌^◌, ℤ, pos, negsuc, digit_value, decimal, signed_decimal, AllDigits, decimal_is_IsNumeral, IsAscii-decimal, digit_from_value, IsUtf8-from_ascii, is_int, IsInt, token_at, path_of, flat_map, starts, before_end_mark, lines_nil, IsExpressionText, IsBracketText, map, IsText, ColumnDef, CheckDef, item_of, listing, listed, or_right, Rights, Granted, no_rights, has_rights, Encoding, Utf8, Stmt, comma}
+unfoldable pub use Rattle.ddl_parts.proofs.Common.{next_token_of, spelling, is_sign, collected, collected_within, is_utf8, is_blank, is_digit, begins_word, in_word, marks_escapes, next_is, goes_on, goes_on_behind_dot, chars, encode, in_line, name_of, is_keyword_of, is_reserved, begins_bare, is_bare, quoted, written_name, written_literal, written_kind, is_word, name_in, name_value, text_in, literal_value, nest_step, nest_done, ends_run, expression, default_text, type_step, type_done, is_type_word, is_number, type_of, type_part, default_and_null, without_not_null, is_sound, path_in, path_value, is_literal}
+pub use Rattle.ddl_parts.proofs.{Basics.and_false, Slices.drop_twice, Slices.seam, Slices.between_low, Basics.name_in_is, Basics.run_none, Basics.passes_true, Basics.words_apart, Basics.nest, Slices.token_sound}
+pub use Rattle.ddl_parts.specs.{declared.pieces.Piece.Piece, declared.types.TypeSpot.TypeSpot, declared.types.TypeSpot.TheVariants.Begin, declared.types.TypeSpot.TheVariants.Path, declared.runs.Spot.Spot, declared.runs.Spot.TheVariants.First, declared.runs.Spot.TheVariants.LaterNot, declared.runs.Spot.TheVariants.Closed}
+pub use Rattle.std.proofs.lemmas.Bool.{ltb-true}
+pub use Rattle.ddl_spelling.specs.{Paths.joined, Paths.only_if, Keys.rest_text, Tables.given_default, Tables.table_lines, Sequences.type_words, Sequences.min_text, Sequences.max_text, Roles.flag_text, Roles.limit_text, Roles.given_literal, RightsText.remark_text, RightsText.is_all, RightsText.granted_words, RightsText.granted_name, RightsText.grantee_text}
+unfoldable pub use Rattle.ddl_spelling.specs.{Paths.path, Tables.check_text, Views.space_before, Tables.column_text, Sequences.usual_min, Sequences.usual_max, Sequences.bound, RightsText.with_commas, RightsText.right_list, RightsText.rights_text}

@@ -13,3 +13,4 @@ pub mod Expressions
 pub mod Types
 pub mod Defaults
 pub mod Numbers
+pub use Rattle.ddl_parts.proofs.Basics

@@ -2,7 +2,7 @@
 use Rattle.ddl_forms.proofs.Common.{◌≡◌, ℕ, suc, ◌+◌, ◌<◌, ◌^◌, ℤ, pos, negsuc, true, false, List, [], ◌∷◌, ◌++◌, length, append_assoc, append-nil, Option, Some, None, Ok, refl, sym, ap, subst, ◌∙◌, arith, ◌⊎◌, inl, inr, ◌==◌, list_all, digit_value, decimal, signed_decimal, is_utf8, chars, AllDigits, encode, and_from, lt-ltb, nat_tests, decimal_is_IsNumeral, IsAscii-decimal, digit_from_value, IsUtf8-from_ascii, is_utf8-from_IsUtf8, is_blank, is_digit, next_is, goes_on, Number, Sign, spelling_is_read, Lexeme, spelled, is_sign, mark, seen, ◌then◌, ◌▸◌, is_int, IsInt, ltb-true}
 use Rattle.sql_lex.specs.Bytes.{is_sign as is_sign_byte}
 use Rattle.ddl_forms.proofs.{Standing.Stands, Kept.safe_ends, Kept.spelled-append, Kept.Begun, Tokens.Gap, Tokens.none, Tokens.gap_stands, Tokens.sign_token, Behind.Safe, Behind.admits, RunTexts.safe_behind, Putting.Follows, Putting.IsPut, Putting.followed, Putting.put_as, Putting.one_put, Putting.then_put, Putting.Yields, Written.Written, Written.leaf_as}
-use Rattle.ddl_numbers.specs.Numbers.{count, count_first, count_value, counted, digits_below, opposite, whole_number}
+use Rattle.ddl_parts.specs.Numbers.{count, count_first, count_value, counted, digits_below, opposite, whole_number}
 
 -- ---- digits
 

@@ -1,7 +1,7 @@
 -- The text of a run of a machine is written with the tokens that it has: behind a gap and before other tokens, and what
 -- was read of a text is such a text.
 use Rattle.ddl_forms.proofs.Common.{◌≡◌, ℕ, ◌+◌, ◌-◌, Bool, true, false, List, [], ◌∷◌, ◌++◌, length, length-append, append-nil, take, drop, Option, Some, None, refl, sym, ap, subst, ◌∙◌, arith, option_and_then, drop-length, TokenKind, Sign, MetaLine, Piece, Lexeme, spelled, source, is_sign, is_sign_kind, start_of, Machine, run, Runs, lexeme_of, lexemes, run_none, collected, semicolon}
-use Rattle.ddl_forms.specs.Texts.{IsTextOf}
+use Rattle.ddl_parts.specs.Texts.{IsTextOf}
 use Rattle.ddl_forms.proofs.{Closing.only_last, Standing.is_safe, Standing.Stands, Standing.Stood, Standing.placed, Standing.NoSemicolon, Standing.collects_all, Kept.AllCame, Kept.Plain, Kept.AllPlain, Kept.begun_some, Kept.token_begun, Kept.have_come, Kept.whole_text, Kept.stands_again, Kept.all_stand_again, Kept.spelled-append, Tokens.Gap, Tokens.none as none_before, Tokens.gap_stands}
 
 -- ---- machines

@@ -1,7 +1,7 @@
 -- A type is written with the tokens that it has: words with those of their text, a path with three; and what is read of
 -- a text as a type can be written.
 use Rattle.ddl_forms.proofs.Common.{◌≡◌, ℕ, Bool, true, false, cond, List, [], ◌∷◌, ◌++◌, append-nil, Some, None, Result, Ok, Err, is_ok, refl, sym, ap, subst, ◌∙◌, arith, TokenKind, name_of, is_keyword_of, IsName, QName, TypeName, Lexeme, spelled, source, is_sign, is_sign_kind, is_word, run, Runs, name_in, name_value, qualified, TypeSpot, Begin, Path, typing, type_step, type_done, is_type_word, is_number, if_name, named, type_of, type_part, path, IsPath, IsType, passes_true as passed, run_none}
-use Rattle.ddl_write.specs.Tables.{type_text}
+use Rattle.ddl_spelling.specs.Tables.{type_text}
 use Rattle.ddl_forms.proofs.{Behind.Words, Behind.Safe, Behind.admits, Behind.admitted, Kept.AllCame, Tokens.Gap, Tokens.value_name, RunTexts.plain_runs, RunTexts.IsPlainMachine, RunTexts.not_some, RunTexts.kinds, RunTexts.run_read, Putting.Follows, Putting.IsPut, Putting.same_text, Putting.put_as, Written.Written, Written.leaf_as, Written.path_as, Written.run_put}
 use Rattle.cat_model.specs.declared.type_name.TypeName.TheVariants as type_name
 

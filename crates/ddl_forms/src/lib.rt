@@ -1,2 +1,2 @@
-//! Parts of the grammar with the texts that they are written in: lemmas for the crates of statements' laws.
+//! The parts of statements as texts: written again, they are read as the same.
 #![tactic(auto)]

@@ -1,13 +1,10 @@
 -- The grammar of statements has the laws of a part: what is read is spelled so, what is spelled so is read, and where
 -- reading stops nothing goes on.
-use Rattle.ddl_laws.proofs.Common.{grammar, ◌≡◌, Bool, true, false, ◌||◌, List, [], ◌∷◌, Some, None, refl, ap, codes, ℕ, arith, ◌++◌, append-nil, append_assoc, Ok, Err, sym, ◌∙◌, not, Option, subst, not-true, not-false, is_utf8, chars, encode, ◌==◌, is_some, is_keyword_of, name_of, literal_of, Lexeme, is_word, is_sign, source, starts, Part, Reading, ◌then◌, Many, no_more, many, ◌◂◌, Lawful, Apart, Avoids, comma, name_in, name_value, is_name, qualified, literal, is_literal, text_in, literal_value, many_laws, a_word, a_sign, name_laws, qualified_laws, sign_is, words_apart, qualified_begins, literal_laws, literal_begins, word_no_sign, sign_no_word, signs_apart, free, stop_no_type, sign_no_name, sign_no_literal, Headed, lawful_seen, lawful_ended, lawful_next, headed_sign, headed_seen, lawful_unless, lawful_word, lawful_sign, headed_word, lawful_either, headed_next, lawful_choose, lawful_then, one_word, lawful_worded, one_sign, ◌also◌, sign_kind, names_of, columns, rest_goes_on, deferral, action, on_delete, reactions, key_rest, foreign_rest, TokenKind, Literal, whole_number, sequence_clauses, sequence_of, create_sequence, expression, nest_step, nest_done, ends_run, default_text, Inside, short_word, whole_path, path_in, path_of, path_value, word_agrees, sign_agrees, name_agrees, literal_agrees, name_shortens, guarded_shortens, refused_shortens, word_no_text, starts-append, expression_laws, expression_ends, expression_ends_bracket, default_text_laws, run_ends, one_of_laws, one_of_avoids, one_of_avoids_others, new_owner, owned_by, its_role, its_column, sequence_changed, sequence_change, altered_sequence, view_and_body, create_view, replace_view, bracketed, index_made, index_body, index_parts, index_of, unique_index_of, create_index, create_unique_index, view_branch, more_relations, one_laws, one_begins, seen_avoids, mark_begins, Check, Owner, check_body, primary_of, primary_body, unique_of, unique_body, foreign_of, foreign_body, constraint_body, added, new_default, own_change, table_change, table_changed, only_value, only_name, other_value, other_name, other_path, in_schema, key_word, behind_only, only_changed, altered_table, listed_laws, CheckDef, create_enum, enum_of, attributes, typed, checking, domain_of, create_domain, parted, table_elements, table_of, create_table, named_check_is, checks_apart, typed_laws, attributes_end, sign_end, column_ends, elements_apart, named_check_free, LexFault, QName, lexemes, collected, whole_number_laws, literal_path, truth, set_value, some_columns, copy_from, create_role, alter_role, create_database, create_schema, created, new_check, its_owner, one_more_check, domain_changed, domain_change, altered_domain, name_and_owner, path_and_owner, owned_name, owned_path, altered, set_config, catalog_calls, selected, equals_or_to, setting, more_commands, command, statement, no_clauses, with_clauses}
-use Rattle.ddl_parts.proofs.{Lemmas.listed, Lemmas.lawful_maybe, Lemmas.avoids_maybe, Lemmas.or_parts, Lemmas.word_no_sign, Lemmas.never, Simple.nothing_laws}
-use Rattle.ddl_parts.specs.Parts.{one_more, mark, one_of, ◌▸◌}
-use Rattle.ddl_admin.proofs.{CommentLaws.comment_on_laws, RoleLaws.create_role_laws, RoleLaws.alter_role_laws, DatabaseLaws.create_database_laws}
-use Rattle.ddl_laws.proofs.Computing.{reads}
-use Rattle.ddl_read.proofs.{ColumnLaws.names_apart, RestLaws.begun_by_laws, RestLaws.kept_laws, SequenceLaws.clauses_apart}
-use Rattle.ddl_read.specs.{AlterGrammar.path_of as its_path, Clauses.semicolon, Rests.behind_on, Rests.maybe, Rests.nothing_more, Rests.set_columns, SequenceGrammar.begins_clause}
-use Rattle.ddl_rights.proofs.GrantLaws.{granted_laws, revoked_laws}
+use Rattle.ddl_laws.proofs.Common.{grammar, ◌≡◌, Bool, true, false, ◌||◌, List, [], ◌∷◌, Some, None, refl, ap, codes, ℕ, arith, ◌++◌, append_assoc, Ok, Err, ◌∙◌, not, not-true, not-false, is_utf8, chars, encode, ◌==◌, is_keyword_of, name_of, literal_of, Lexeme, is_word, is_sign, source, starts, Part, ◌then◌, Many, no_more, many, ◌◂◌, Lawful, Apart, Avoids, comma, name_in, name_value, is_name, qualified, literal, is_literal, text_in, literal_value, many_laws, a_word, a_sign, name_laws, qualified_laws, sign_is, words_apart, qualified_begins, literal_laws, literal_begins, word_no_sign, sign_no_word, signs_apart, free, stop_no_type, sign_no_name, sign_no_literal, Headed, lawful_seen, lawful_ended, lawful_next, headed_sign, headed_seen, lawful_unless, lawful_word, lawful_sign, headed_word, lawful_either, headed_next, lawful_choose, lawful_then, one_word, lawful_worded, one_sign, ◌also◌, sign_kind, names_of, columns, rest_goes_on, deferral, action, on_delete, reactions, key_rest, foreign_rest, TokenKind, Literal, whole_number, sequence_clauses, sequence_of, create_sequence, expression, nest_step, nest_done, ends_run, default_text, Inside, short_word, path_of, path_value, word_agrees, sign_agrees, name_agrees, literal_agrees, name_shortens, guarded_shortens, refused_shortens, word_no_text, starts-append, expression_laws, expression_ends, expression_ends_bracket, default_text_laws, run_ends, one_of_laws, one_of_avoids, one_of_avoids_others, new_owner, owned_by, its_role, its_column, sequence_changed, sequence_change, altered_sequence, view_and_body, create_view, replace_view, bracketed, index_made, index_body, index_parts, index_of, unique_index_of, create_index, create_unique_index, view_branch, more_relations, one_laws, one_begins, seen_avoids, mark_begins, Check, Owner, check_body, primary_of, primary_body, unique_of, unique_body, foreign_of, foreign_body, constraint_body, added, new_default, own_change, table_change, table_changed, only_value, only_name, other_value, other_name, other_path, in_schema, key_word, behind_only, only_changed, altered_table, listed_laws, CheckDef, create_enum, enum_of, attributes, typed, checking, domain_of, create_domain, parted, table_elements, table_of, create_table, named_check_is, checks_apart, typed_laws, attributes_end, sign_end, column_ends, elements_apart, named_check_free, QName, whole_number_laws, literal_path, truth, set_value, some_columns, copy_from, create_role, alter_role, create_database, create_schema, created, new_check, its_owner, one_more_check, domain_changed, domain_change, altered_domain, name_and_owner, path_and_owner, owned_name, owned_path, altered, set_config, catalog_calls, selected, equals_or_to, setting, more_commands, command, statement, no_clauses, with_clauses, listed, lawful_maybe, avoids_maybe, or_parts, never}
+use Rattle.ddl_relation_texts.proofs.Simple.{nothing_laws}
+use Rattle.ddl_scripts.specs.{Parts.one_more, Parts.mark, Parts.one_of, Parts.◌▸◌, AlterGrammar.path_of as its_path, Clauses.semicolon, Rests.behind_on, Rests.maybe, Rests.nothing_more, Rests.set_columns, SequenceGrammar.begins_clause}
+use Rattle.ddl_grammar_laws.proofs.{CommentLaws.comment_on_laws, RoleLaws.create_role_laws, RoleLaws.alter_role_laws, DatabaseLaws.create_database_laws, ColumnLaws.names_apart, RestLaws.begun_by_laws, RestLaws.kept_laws, SequenceLaws.clauses_apart, GrantLaws.granted_laws, GrantLaws.revoked_laws}
+use Rattle.ddl_scripts.proofs.{Computing.reads, Meanings.other_is, Meanings.only_is}
 use Rattle.cat_model.specs.declared.stmt.Stmt.TheVariants as stmt
 use Rattle.cat_model.specs.declared.grant.Owned.TheVariants as owned
 
@@ -115,14 +112,6 @@ table_change_laws = lawful_choose (headed_seen Owner new_owner_is) own_change_la
 abbrev is_no_only : Lexeme → Bool
 is_no_only t = not (is_word (codes "only") t)
 
-pub only_is : (t : Lexeme) (v : List ℕ) → only_value t ≡ Ok v → (is_word (codes "only") t ≡ true) × (name_value t ≡ Ok v)
-unfolding only_value
-only_is t v e = grind arith
-
-pub other_is : (t : Lexeme) (v : List ℕ) → other_value t ≡ Ok v → (is_word (codes "only") t ≡ false) × (name_value t ≡ Ok v)
-unfolding other_value
-other_is t v e = grind arith
-
 only_name_is : Headed (is_word (codes "only")) only_name
 unfolding only_value is_word is_keyword_of name_value name_in name_of is_utf8 chars encode
 only_name_is = record { agrees = word_agrees (codes "only") refl; laws = one_laws only_value (guarded_shortens (is_word (codes "only")) name_value (λ t. Err false) only_value (word_agrees (codes "only") refl) name_shortens refused_shortens (λ t. refl)) (a_word (codes "only")) (codes "only") refl; begins = one_begins only_value (is_word (codes "only")) (λ t v e. (only_is t v e).0) }
@@ -179,23 +168,6 @@ short_path x w e = absurd cc
 literal_path_laws : Lawful literal_path
 unfolding reads path_value literal_value
 literal_path_laws = one_laws path_value (grind (arith, short_path, word_no_text)) a_literal_path (record { schema = codes "a"; name = codes "b" }) refl
-
--- a text's path is what all of its tokens spell, with no fault behind them
-abbrev pub SpellsPath : List ℕ → QName → Type 0
-SpellsPath text q = ((collected text 0).fault ≡ None) × qualified.Spells q (lexemes text (collected text 0).pieces)
-
-pub path_found : (text : List ℕ) (q : QName) → path_in text ≡ Ok q → SpellsPath text q
-unfolding path_in
-path_found text q e =
-    let ts = lexemes text (collected text 0).pieces in
-    let whole : (o : Option LexFault) (r : Reading QName) → whole_path (is_some o) r ≡ Ok q → (o ≡ None) × (r ≡ Ok (q, [])) = λ o r e. grind arith in
-    let h = whole (collected text 0).fault (qualified.read ts) e in
-    let f = qualified_laws.found ts q [] h.1 in
-    (h.0, subst (qualified.Spells q) (sym (f.parts ∙ append-nil f.front)) f.spells)
-
-pub path_only : (text : List ℕ) (q : QName) → SpellsPath text q → path_in text ≡ Ok q
-unfolding path_in
-path_only text q h = cc
 
 -- ---- the statement
 

@@ -1,12 +1,18 @@
 pub mod Common
-pub mod Computing
 pub mod GrammarLaws
-pub mod Paths
-pub mod Relations
-mod Tables
-mod Admin
-mod Rights
-mod Sequences
-mod Whole
+pub mod Whole
 pub mod ReadingLaws
 pub mod Respelled
+pub use Rattle.ddl_relation_texts.proofs.Behind
+pub use Rattle.ddl_relation_texts.proofs.Closing
+pub use Rattle.ddl_scripts.proofs.Computing
+pub use Rattle.ddl_relation_texts.proofs.Expressions
+pub use Rattle.ddl_relation_texts.proofs.Kept
+pub use Rattle.ddl_relation_texts.proofs.Paths
+pub use Rattle.ddl_relation_texts.proofs.Putting
+pub use Rattle.ddl_relation_texts.proofs.Relations
+pub use Rattle.ddl_relation_texts.proofs.RunLaws
+pub use Rattle.ddl_relation_texts.proofs.Standing
+pub use Rattle.ddl_relation_texts.proofs.Tokens
+pub use Rattle.ddl_relation_texts.proofs.Types
+pub use Rattle.ddl_relation_texts.proofs.Written

@@ -1,9 +1,9 @@
 -- A text reads as statements exactly where it is read so, and a fault is the first: reading fails where a text fails at a
 -- fault, at the same place.
-use Rattle.ddl_laws.proofs.Common.{◌≡◌, ℕ, zero, suc, ◌+◌, Bool, true, false, List, [], ◌∷◌, ◌++◌, Option, Some, None, Result, Ok, Err, refl, sym, ap, ◌∙◌, length, ◌-◌, ◌<◌, ◌≤◌, subst, arith, append-nil, inl, inr, ◌⊎◌, Token, LexFault, next_token_of, Stmt, Piece, Lexeme, is_sign, is_sign_kind, is_word, start_of, lexeme_of, lexemes, value_of, gives, Collected, collected, collected_within, collected_by, semicolon, statement, command, none as no_gap, Closes, only_last, nothing_left, collected_has, spelling, is_keyword_of, lies_behind, Stop, Reading, Located, DdlFault, Wrong, meta_line, rows_bounds, ◌>>=◌, Whole, whole, whole_of, completed, line_in, line_at, line_fault, line_said, statements_at, listed, first_start, fault_of, statement_of, statements_by, statements_within, statements_of, fault_by, shortened, Stopped, IsStatement, IsLine, line_token, Reads, all_read, one_read, line_read, IsLongThere, IsStuck, FailsAt, no_token, stuck, no_rows, bad_line, later, later_line}
+use Rattle.ddl_laws.proofs.Common.{◌≡◌, ℕ, zero, suc, ◌+◌, Bool, true, false, List, [], ◌∷◌, ◌++◌, Option, Some, None, Result, Ok, Err, refl, sym, ap, ◌∙◌, length, ◌-◌, ◌<◌, ◌≤◌, subst, arith, append-nil, inl, inr, ◌⊎◌, Token, LexFault, next_token_of, Stmt, Piece, Lexeme, is_sign, is_sign_kind, is_word, start_of, lexeme_of, lexemes, value_of, gives, Collected, collected, collected_within, collected_by, semicolon, statement, command, none as no_gap, Closes, only_last, nothing_left, collected_has, spelling, is_keyword_of, lies_behind, Stop, Reading, Located, DdlFault, Wrong, meta_line, rows_bounds, ◌>>=◌, Whole, whole, whole_of, completed, line_in, line_at, line_fault, line_said, statements_at, first_start, fault_of, statement_of, statements_by, statements_within, statements_of, fault_by, shortened, Stopped, IsStatement, IsLine, line_token, Reads, all_read, one_read, line_read, IsLongThere, IsStuck, FailsAt, no_token, stuck, no_rows, bad_line, later, later_line}
+use Rattle.ddl_scripts.specs.Reading.{listed, told, no_more}
 use Rattle.std.proofs.lemmas.List.{append_cancel_right}
 use Rattle.ddl_laws.proofs.{Whole.statement_as, GrammarLaws.statement_laws}
-use Rattle.ddl_read.specs.{Reading.told, Reading.no_more}
 use Rattle.cat_model.specs.declared.stmt.Stmt.TheVariants as stmt
 
 pub statement_closes : Closes semicolon statement

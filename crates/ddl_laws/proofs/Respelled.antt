@@ -1,12 +1,9 @@
 -- Written statements, joined, read as the same statements; and what is read of a text can be written.
-use Rattle.ddl_laws.proofs.Common.{and_parts, and_from, or_right, drop_all, list_all-append, IsUtf8-append, IsUtf8-from_is_utf8, is_utf8-from_IsUtf8, ◌≡◌, ℕ, suc, ◌+◌, Bool, true, cond, ◌-◌, List, [], ◌∷◌, ◌++◌, length, length-append, append_assoc, append-nil, Option, Some, None, Result, Ok, refl, sym, ap, subst, ◌∙◌, arith, ◌⊎◌, inl, inr, codes, ◌≤◌, ◌==◌, slice_index, list_all, is_utf8, IsUtf8, chars, encode, Token, LexFault, next_token_of, spelling as token_text, IsMetaLine, goes_on, token_at, written_kind, next_at_end, spelling_is_read, Piece, Lexeme, spelled, is_sign, start_of, name_value, is_name, is_name_kind, lexeme_of, lexemes, Collected, collected, collected_within, collected_by, nothing_more, preceded, name_begins, IsLine, IsStatement, Reads, all_read, one_read, line_read, line_token, a_name, Gap, passed, space, name_no_sign, name_means, none, newline, IsName, is_blank, in_line, next_is, begins_line, doubled, quoted, written_name, MetaLine, connect_text, unknown, named, stands_alone, one_name, name_alone, connected, command_len, said_by, meta_line, Stmt, Located, semicolon, statement, Whole, whole, with_rows, completed, first_start, listed, statements_of, listed as listed_before, DdlFault, AreRows, rows_behind, rows_read_back, read_are_rows, end_mark, QName, nothing_follows, joined-append, IsWritable, AllWritable, spellings, said, ends_with, only_last, Stood, placed, collects, columns, AllCame, have_come, came_token}
-use Rattle.ddl_parts.proofs.Common.{IsTokenAt}
-use Rattle.ddl_parts.proofs.Lemmas.{newline as line_feed}
-use Rattle.ddl_write.specs.Spelling.{spelling}
-use Rattle.ddl_forms.proofs.{Passed.both_passed, Passed.feed_passed, Passed.comment_passed, Tokens.passes}
-use Rattle.ddl_laws.proofs.{ReadingLaws.collected_first, ReadingLaws.statement_closes, ReadingLaws.exact, ReadingLaws.only, ReadingLaws.ends_past, ReadingLaws.line_past, Paths.name_utf8, Whole.command_as, Whole.statement_as, Whole.IsSpelled, Whole.spelled_so, Whole.copy_head, Whole.copy_is, Whole.copy_spelled, Whole.both_behind}
-use Rattle.ddl_laws.specs.{Laying.Lays, Laying.no_more, Laying.empty_line, Laying.comment_line, Laying.statement_text, Laying.comment}
-use Rattle.ddl_lines.proofs.LineNames.{said_is_a_name}
+use Rattle.ddl_laws.proofs.Common.{and_parts, and_from, or_right, drop_all, list_all-append, IsUtf8-append, IsUtf8-from_is_utf8, is_utf8-from_IsUtf8, ◌≡◌, ℕ, suc, ◌+◌, Bool, true, cond, ◌-◌, List, [], ◌∷◌, ◌++◌, length, length-append, append_assoc, append-nil, Option, Some, None, Result, Ok, refl, sym, ap, subst, ◌∙◌, arith, ◌⊎◌, inl, inr, codes, ◌≤◌, ◌==◌, slice_index, list_all, is_utf8, IsUtf8, chars, encode, Token, LexFault, next_token_of, spelling as token_text, IsMetaLine, goes_on, token_at, written_kind, next_at_end, spelling_is_read, Piece, Lexeme, spelled, is_sign, start_of, name_value, is_name, is_name_kind, lexeme_of, lexemes, Collected, collected, collected_within, collected_by, nothing_more, preceded, name_begins, IsLine, IsStatement, Reads, all_read, one_read, line_read, line_token, a_name, Gap, passed, space, name_no_sign, name_means, none, IsName, is_blank, in_line, next_is, begins_line, doubled, quoted, written_name, MetaLine, connect_text, unknown, named, stands_alone, one_name, name_alone, connected, command_len, said_by, meta_line, Stmt, Located, semicolon, statement, Whole, whole, with_rows, completed, first_start, statements_of, DdlFault, AreRows, rows_behind, rows_read_back, read_are_rows, end_mark, QName, nothing_follows, joined-append, IsWritable, AllWritable, spellings, said, ends_with, only_last, Stood, placed, collects, columns, AllCame, have_come, came_token, IsTokenAt, newline as line_feed}
+use Rattle.ddl_relation_texts.proofs.{Tokens.newline, Passed.both_passed, Passed.feed_passed, Passed.comment_passed, Tokens.passes, Paths.name_utf8}
+use Rattle.ddl_scripts.specs.{Reading.listed, Reading.listed as listed_before, Spelling.spelling, Laying.Lays, Laying.no_more, Laying.empty_line, Laying.comment_line, Laying.statement_text, Laying.comment}
+use Rattle.ddl_laws.proofs.{ReadingLaws.collected_first, ReadingLaws.statement_closes, ReadingLaws.exact, ReadingLaws.only, ReadingLaws.ends_past, ReadingLaws.line_past, Whole.command_as, Whole.statement_as, Whole.IsSpelled, Whole.spelled_so, Whole.copy_head, Whole.copy_is, Whole.copy_spelled, Whole.both_behind}
+use Rattle.ddl_scripts.proofs.LineNames.{said_is_a_name}
 use Rattle.cat_model.specs.declared.stmt.Stmt.TheVariants as stmt
 
 -- the line without its line feed

@@ -1,20 +1,20 @@
 -- A statement as one composition of its kinds: which statements can be written, and that its text is its spelling behind
 -- a gap.
-use Rattle.ddl_laws.proofs.Common.{ℕ, List, Some, None, refl, codes, ◌≡◌, suc, Bool, true, false, [], ◌∷◌, ◌++◌, append_assoc, Option, sym, ap, ◌∙◌, inl, inr, create_role, create_view, replace_view, index_of, create_index, unique_index_of, create_unique_index, its_role, its_column, create_schema, created, name_and_owner, path_and_owner, altered, selected, command, statement, its_owner, one_more_check, Gap, none, space, Written, Kinds, is_key, dot_as, word_as, ending as end_mark_as, mark_as, name_as, path_as, then_as, end_as, seen_as, choose_as, kind_as, led_as, or_as, IsWritable, quoted, doubled, written_name, written_literal, IsName, end_mark, QName, Utf8, Stmt, Constraint, Check, Primary, Unique, Foreign, TableChange, Owner, Default, Added, table_changed, key_word, path, joined, owned_object, schema_text, set_text, setting_text, owner_text, domain_check_text, enum_text, domain_text, table_text, check_text, sequence_text, owned_by_text, value_text, view_text, key_text, foreign_text, added_check_text, index_text, grant_text, revoke_text, comment_text, role_text, changes_text, member_text, database_text, IsPath, comment_on, sequence_of, usual_min, usual_max, create_sequence, arith, bound_or, ℤ}
-use Rattle.ddl_parts.proofs.Lemmas.{newline}
-use Rattle.ddl_write.specs.{Paths.listed, Paths.ending, Spelling.spelling, Views.default_text, RowsText.copy_text}
-use Rattle.ddl_laws.proofs.{Relations.new_owner_as, Relations.altered_domain_as, Relations.altered_sequence_as, Relations.setting_as, Relations.set_config_as, Relations.set_value_as, Relations.view_and_body_as, Relations.index_parts_as, Relations.copy_from_as, Relations.altered_table_as, Relations.constraint_body_as, Relations.own_change_as, Tables.create_enum_as, Tables.create_domain_as, Tables.create_table_as, Tables.lines_end, Admin.alter_role_as, Admin.create_database_as, Admin.commented_object_as, Rights.granted_as, Rights.revoked_as, Rights.membership_as, Rights.to_as, Rights.from_as, Rights.opening_name, Rights.wanting, Rights.role_wanted, Rights.role_fit, Rights.role_spelled, Rights.rights_opened, Rights.rights_spelled, Sequences.Values, Sequences.written, Sequences.clauses_as, Sequences.writable, Sequences.said, Sequences.bound_of}
+use Rattle.ddl_laws.proofs.Common.{ℕ, List, Some, None, refl, codes, ◌≡◌, suc, Bool, true, false, [], ◌∷◌, ◌++◌, append_assoc, Option, sym, ap, ◌∙◌, inl, inr, create_role, create_view, replace_view, index_of, create_index, unique_index_of, create_unique_index, its_role, its_column, create_schema, created, name_and_owner, path_and_owner, altered, selected, command, statement, its_owner, one_more_check, Gap, none, space, Written, Kinds, is_key, dot_as, word_as, ending as end_mark_as, mark_as, name_as, path_as, then_as, end_as, seen_as, choose_as, kind_as, led_as, or_as, IsWritable, quoted, doubled, written_name, written_literal, IsName, end_mark, QName, Utf8, Stmt, Constraint, Check, Primary, Unique, Foreign, TableChange, Owner, Default, Added, table_changed, key_word, path, joined, owned_object, schema_text, set_text, setting_text, owner_text, domain_check_text, enum_text, domain_text, table_text, check_text, sequence_text, owned_by_text, value_text, view_text, key_text, foreign_text, added_check_text, index_text, grant_text, revoke_text, comment_text, role_text, changes_text, member_text, database_text, IsPath, comment_on, sequence_of, usual_min, usual_max, create_sequence, arith, bound_or, ℤ, newline}
+use Rattle.ddl_relation_texts.specs.{Paths.listed, Paths.ending, Views.default_text}
+use Rattle.ddl_scripts.specs.{Spelling.spelling, RowsText.copy_text}
+use Rattle.ddl_relation_texts.proofs.{Relations.new_owner_as, Relations.altered_domain_as, Relations.altered_sequence_as, Relations.setting_as, Relations.set_config_as, Relations.set_value_as, Relations.view_and_body_as, Relations.index_parts_as, Relations.copy_from_as, Relations.altered_table_as, Relations.constraint_body_as, Relations.own_change_as, Tables.create_enum_as, Tables.create_domain_as, Tables.create_table_as, Tables.lines_end, Sequences.Values, Sequences.written, Sequences.clauses_as, Sequences.writable, Sequences.said, Sequences.bound_of}
+use Rattle.ddl_admin_texts.proofs.{Admin.alter_role_as, Admin.create_database_as, Admin.commented_object_as, Rights.granted_as, Rights.revoked_as, Rights.membership_as, Rights.to_as, Rights.from_as, Rights.opening_name, Rights.wanting, Rights.role_wanted, Rights.role_fit, Rights.role_spelled, Rights.rights_opened, Rights.rights_spelled}
 use Rattle.cat_model.specs.declared.grant.Owned.TheVariants as owned
 use Rattle.cat_model.specs.declared.stmt.Stmt.TheVariants as stmt
 use Rattle.cat_model.specs.declared.grant.Commented.TheVariants as commented
-use Rattle.std.specs.Option.{unwrap_or}
+use Rattle.std.specs.{Option.unwrap_or, Ordering.int_eq}
 use Rattle.cat_model.specs.{declared.constraint.SequenceKind.TheVariants.BigInt, declared.constraint.SequenceKind.SequenceKind}
-use Rattle.std.specs.Ordering.{int_eq}
 
 -- ---- the kinds, behind their first words
 
 unfoldable pub created_as : Kinds IsWritable created
-unfolding created create_schema create_role create_view replace_view create_index create_unique_index is_key create_enum_as create_domain_as create_table_as create_database_as view_and_body_as index_parts_as create_sequence clauses_as
+unfolding created create_schema create_role create_view replace_view create_index create_unique_index is_key create_enum_as create_domain_as create_table_as create_database_as view_and_body_as index_parts_as create_sequence
 created_as =
     let again = led_as (word_as space (codes "REPLACE") refl) (led_as (word_as space (codes "VIEW") refl) (kind_as (λ x. stmt.ReplaceView x.0 x.1) view_and_body_as (λ x is. is)) refl) refl in
     or_as (led_as (word_as space (codes "SCHEMA") refl) (kind_as stmt.CreateSchema (end_as (name_as space) refl) (λ n is. is)) refl) (or_as (led_as (word_as space (codes "TYPE") refl) create_enum_as refl)

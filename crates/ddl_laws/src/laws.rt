@@ -1,26 +1,22 @@
 //! Laws of the definitions, each the contract of a function that does nothing.
 ghost use Rattle.std.specs.Prelude.{◌≡◌, ◌↔◌, ℕ, List, [], ◌∷◌, None, Ok, Err};
 ghost use Rattle.cat_model.specs.declared.object.QName.{QName};
-ghost use Rattle.ddl_parts.specs.Collecting.{collected};
-ghost use Rattle.ddl_parts.specs.Leaves.{qualified};
-ghost use Rattle.ddl_parts.specs.Pieces.{lexemes};
-ghost use Rattle.ddl_parts.specs.Laws.{Lawful};
-ghost use Rattle.ddl_read.specs.AlterGrammar.{constraint_body};
-ghost use Rattle.ddl_read.specs.RelationGrammar.{index_body};
-ghost use Rattle.ddl_parts.specs.Shortened.{path_in};
-ghost use Rattle.ddl_read.specs.declared.located.Located.{Located};
-ghost use Rattle.ddl_read.specs.declared.fault.DdlFault.{DdlFault};
-ghost use Rattle.ddl_read.specs.Reading.{statements_of};
-ghost use Rattle.ddl_laws.specs.Readings.{Reads, FailsAt};
+ghost use Rattle.ddl_scripts.specs.Collecting.{collected};
+ghost use Rattle.ddl_scripts.specs.Leaves.{qualified};
+ghost use Rattle.ddl_scripts.specs.Pieces.{lexemes};
+ghost use Rattle.ddl_relation_texts.specs.Laws.{Lawful};
+ghost use Rattle.ddl_scripts.specs.AlterGrammar.{constraint_body};
+ghost use Rattle.ddl_scripts.specs.RelationGrammar.{index_body};
+ghost use Rattle.ddl_scripts.specs.Shortened.{path_in};
+ghost use Rattle.ddl_scripts.specs.declared.located.Located.{Located};
+ghost use Rattle.ddl_scripts.specs.declared.fault.DdlFault.{DdlFault};
+ghost use Rattle.ddl_scripts.specs.Reading.{statements_of};
+ghost use Rattle.ddl_scripts.specs.Readings.{Reads, FailsAt};
 ghost use Rattle.cat_model.specs.declared.stmt.Stmt.{Stmt};
-ghost use Rattle.ddl_write.specs.Spelling.{spelling};
-ghost use Rattle.ddl_laws.specs.Respelling.{IsWritable, AllWritable, spellings, said};
-ghost use Rattle.ddl_laws.specs.Laying.{Lays};
-ghost use Rattle.ddl_laws.specs.Examples.{WorkedExamples};
-ghost use Rattle.ddl_laws.specs.AlterExamples.{AlterExamples};
-ghost use Rattle.ddl_laws.specs.SequenceExamples.{SequenceExamples};
-ghost use Rattle.ddl_laws.specs.CopyExamples.{CopyExamples};
-ghost use Rattle.ddl_laws.specs.RightsExamples.{RightsExamples};
+ghost use Rattle.ddl_scripts.specs.Spelling.{spelling};
+ghost use Rattle.ddl_scripts.specs.Respelling.{IsWritable, AllWritable};
+ghost use Rattle.ddl_scripts.specs.Spellings.{spellings, said};
+ghost use Rattle.ddl_scripts.specs.Laying.{Lays};
 
 /// A text is read as statements exactly where it reads as them, so that it reads as one list at most.
 pub fn reading_is_exact()
@@ -45,31 +41,6 @@ pub fn definitions_have_their_laws()
 pub fn a_path_is_all_tokens_of_its_literal()
     ensures { (text : List ℕ) (q : QName) → (path_in text ≡ Ok q)
         ↔ ((collected text 0).fault ≡ None) × qualified.Spells q (lexemes text (collected text 0).pieces) }
-{}
-
-/// The definitions give what is known of some texts.
-pub fn the_definitions_meet_the_examples()
-    ensures { WorkedExamples }
-{}
-
-/// The same of texts that alter tables.
-pub fn altered_tables_meet_the_examples()
-    ensures { AlterExamples }
-{}
-
-/// The same of texts that create sequences.
-pub fn sequences_meet_the_examples()
-    ensures { SequenceExamples }
-{}
-
-/// The same of texts with COPY, and with lines that begin with a backslash.
-pub fn copies_and_lines_meet_the_examples()
-    ensures { CopyExamples }
-{}
-
-/// The same of texts that grant rights and roles, or take rights away.
-pub fn grants_meet_the_examples()
-    ensures { RightsExamples }
 {}
 
 /// Statements that are written one after another read as these statements: so the spelling of a statement reads as it.

@@ -1,4 +1,4 @@
-//! Laws of the grammar of statements: what reading gives, and that what is written reads back.
+//! Laws of reading and writing statements.
 #![tactic(auto)]
 
 pub mod laws;

@@ -1,11 +1,8 @@
 -- The tokens of a statement: those from a place up to the first semicolon.
 -- Where there is none, they go up to the end of the text or up to its first fault.
 use Rattle.std.specs.Prelude.{ℕ, zero, suc, List, [], ◌∷◌, length, ◌+◌, Option, Some, None, Result, Ok, Err, if◌then◌else◌}
-use Rattle.sql_lex.specs.declared.token.Token.{Token}
-use Rattle.sql_lex.specs.declared.fault.LexFault.{LexFault}
-use Rattle.sql_lex.specs.Next.{next_token_of}
-use Rattle.ddl_parts.specs.declared.pieces.Piece.{Piece}
-use Rattle.ddl_parts.specs.Lexemes.{is_sign_kind}
+use Rattle.sql_lex.specs.{declared.token.Token.Token, declared.fault.LexFault.LexFault, Next.next_token_of}
+use Rattle.ddl_parts.specs.{declared.pieces.Piece.Piece, Lexemes.is_sign_kind}
 
 -- the tokens, the end of the last, and the fault behind them, if there is one
 pub record Collected : Type 0 where

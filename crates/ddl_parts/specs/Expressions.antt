@@ -1,16 +1,9 @@
 -- Expressions: runs of tokens with balanced brackets, without semicolons and lines that begin with a backslash.
 -- The default of a column or a domain also ends, outside brackets, before a comma and the words DEFAULT, CONSTRAINT
 -- and NOT NULL.
-use Rattle.std.specs.Prelude.{ℕ, Bool, true, false, ◌||◌, ◌&&◌, not, ◌==◌, ◌-◌, List, [], ◌∷◌, length, take, drop, Option, Some, None, if◌then◌else◌, codes}
-use Rattle.std.specs.Option.{option_map}
-use Rattle.sql_lex.specs.declared.token.TokenKind.{TokenKind}
-use Rattle.sql_lex.specs.declared.token.TokenKind.TheVariants.{Sign, MetaLine}
-use Rattle.ddl_parts.specs.declared.runs.Bracket.{Bracket}
-use Rattle.ddl_parts.specs.declared.runs.Bracket.TheVariants.{Round, Square}
-use Rattle.ddl_parts.specs.declared.runs.Spot.{Spot}
-use Rattle.ddl_parts.specs.declared.runs.Spot.TheVariants.{First, FirstNot, LaterNot, Inside, Closed}
-use Rattle.ddl_parts.specs.Lexemes.{Lexeme, is_word, is_sign, source}
-use Rattle.ddl_parts.specs.Parts.{Part, Machine, runs_of, seen}
+use Rattle.std.specs.{Prelude.ℕ, Prelude.Bool, Prelude.true, Prelude.false, Prelude.◌||◌, Prelude.◌&&◌, Prelude.not, Prelude.◌==◌, Prelude.◌-◌, Prelude.List, Prelude.[], Prelude.◌∷◌, Prelude.length, Prelude.take, Prelude.drop, Prelude.Option, Prelude.Some, Prelude.None, Prelude.if◌then◌else◌, Prelude.codes, Option.option_map}
+use Rattle.sql_lex.specs.{declared.token.TokenKind.TokenKind, declared.token.TokenKind.TheVariants.Sign, declared.token.TokenKind.TheVariants.MetaLine}
+use Rattle.ddl_parts.specs.{declared.runs.Bracket.Bracket, declared.runs.Bracket.TheVariants.Round, declared.runs.Bracket.TheVariants.Square, declared.runs.Spot.Spot, declared.runs.Spot.TheVariants.First, declared.runs.Spot.TheVariants.FirstNot, declared.runs.Spot.TheVariants.LaterNot, declared.runs.Spot.TheVariants.Inside, declared.runs.Spot.TheVariants.Closed, Lexemes.Lexeme, Lexemes.is_word, Lexemes.is_sign, Lexemes.source, Parts.Part, Parts.Machine, Parts.runs_of, Parts.seen}
 
 -- the open brackets, the innermost first, and the spot
 pub record Nest : Type 0 where

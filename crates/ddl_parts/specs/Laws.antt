@@ -1,9 +1,7 @@
 -- What holds of a part of the grammar, so that its reader and its spelling say the same.
 -- Each part that is built by the combinators has these laws, where its own parts have them and can be told apart.
 use Rattle.std.specs.Prelude.{◌≡◌, ◌⊎◌, Bool, true, false, List, ◌∷◌, ◌++◌, Ok, Err}
-use Rattle.ddl_parts.specs.Lexemes.{Lexeme, starts}
-use Rattle.ddl_parts.specs.Parts.{Stop, Part}
-use Rattle.ddl_parts.specs.Shortened.{IsTooLong, shortened}
+use Rattle.ddl_parts.specs.{Lexemes.Lexeme, Lexemes.starts, Parts.Stop, Parts.Part, Shortened.IsTooLong, Shortened.shortened}
 
 -- a token itself, or where nothing hangs on its length, a shorter one in its place
 abbrev pub Like : Bool → Lexeme → Lexeme → Type 0

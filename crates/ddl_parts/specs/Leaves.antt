@@ -1,13 +1,8 @@
 -- The parts of one token with a value, and names of two parts.
-use Rattle.std.specs.Prelude.{ℕ, Bool, true, false, ◌||◌, ◌==◌, nat_lt, List, [], ◌∷◌, length, Option, Some, None, Result, Ok, Err, if◌then◌else◌}
-use Rattle.std.specs.List.{list_any}
-use Rattle.std.specs.Str.{is_utf8}
-use Rattle.sql_lex.specs.declared.token.TokenKind.{TokenKind}
-use Rattle.sql_lex.specs.declared.token.TokenKind.TheVariants.{Word, QuotedName, Literal, Number}
-use Rattle.sql_lex.specs.Meaning.{name_of, literal_of}
+use Rattle.std.specs.{Prelude.ℕ, Prelude.Bool, Prelude.true, Prelude.false, Prelude.◌||◌, Prelude.◌==◌, Prelude.nat_lt, Prelude.List, Prelude.[], Prelude.◌∷◌, Prelude.length, Prelude.Option, Prelude.Some, Prelude.None, Prelude.Result, Prelude.Ok, Prelude.Err, Prelude.if◌then◌else◌, List.list_any, Str.is_utf8}
+use Rattle.sql_lex.specs.{declared.token.TokenKind.TokenKind, declared.token.TokenKind.TheVariants.Word, declared.token.TokenKind.TheVariants.QuotedName, declared.token.TokenKind.TheVariants.Literal, declared.token.TokenKind.TheVariants.Number, Meaning.name_of, Meaning.literal_of}
 use Rattle.cat_model.specs.declared.object.QName.{QName}
-use Rattle.ddl_parts.specs.Lexemes.{Lexeme, is_sign}
-use Rattle.ddl_parts.specs.Parts.{Part, one, seen, ◌then◌, ◌▸◌}
+use Rattle.ddl_parts.specs.{Lexemes.Lexeme, Lexemes.is_sign, Parts.Part, Parts.one, Parts.seen, Parts.◌then◌, Parts.◌▸◌}
 
 -- A name has 1 to 63 bytes, none of them 0. `true` says that it has too many.
 unfoldable pub name_in : Option (List ℕ) → Result (List ℕ) Bool

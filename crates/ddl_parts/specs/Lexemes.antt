@@ -1,9 +1,7 @@
 -- A token with its bytes, and the text of a run of them.
 -- Between two tokens stand white space and comments: the gap of the second.
 use Rattle.std.specs.Prelude.{ℕ, Bool, false, ◌==◌, List, [], ◌∷◌, ◌++◌, Option, Some, None}
-use Rattle.sql_lex.specs.declared.token.TokenKind.{TokenKind}
-use Rattle.sql_lex.specs.declared.token.TokenKind.TheVariants.{Sign}
-use Rattle.sql_lex.specs.Meaning.{is_keyword_of}
+use Rattle.sql_lex.specs.{declared.token.TokenKind.TokenKind, declared.token.TokenKind.TheVariants.Sign, Meaning.is_keyword_of}
 
 -- a token, what stands before it, and where its first byte stands
 pub record Lexeme : Type 0 where

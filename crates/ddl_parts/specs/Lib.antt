@@ -8,3 +8,5 @@ pub mod Collecting
 pub mod Expressions
 pub mod Types
 pub mod Lists
+pub mod Numbers
+pub mod Texts

@@ -1,7 +1,6 @@
 -- Lists with commas between their items.
 use Rattle.std.specs.Prelude.{Bool, true, false, ◌||◌, List}
-use Rattle.ddl_parts.specs.Lexemes.{Lexeme, is_sign}
-use Rattle.ddl_parts.specs.Parts.{Part, Items, many, ◌▸◌}
+use Rattle.ddl_parts.specs.{Lexemes.Lexeme, Lexemes.is_sign, Parts.Part, Parts.Items, Parts.many, Parts.◌▸◌}
 
 abbrev pub comma : Lexeme → Bool
 comma = is_sign 44

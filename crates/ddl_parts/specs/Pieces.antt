@@ -1,14 +1,8 @@
 -- Tokens of a text, one after another, and what the code's readers answer.
-use Rattle.std.specs.Prelude.{◌≡◌, ℕ, ◌-◌, ◌≤◌, Bool, true, false, ◌&&◌, ◌==◌, nat_le, nat_lt, List, [], ◌∷◌, length, map, take, drop, slice_range, Option, Some, None, Result, Ok, Err, ⊤, if◌then◌else◌}
-use Rattle.std.specs.List.{list_all}
-use Rattle.std.specs.Str.{is_utf8}
+use Rattle.std.specs.{Prelude.◌≡◌, Prelude.ℕ, Prelude.◌-◌, Prelude.◌≤◌, Prelude.Bool, Prelude.true, Prelude.false, Prelude.◌&&◌, Prelude.◌==◌, Prelude.nat_le, Prelude.nat_lt, Prelude.List, Prelude.[], Prelude.◌∷◌, Prelude.length, Prelude.map, Prelude.take, Prelude.drop, Prelude.slice_range, Prelude.Option, Prelude.Some, Prelude.None, Prelude.Result, Prelude.Ok, Prelude.Err, Prelude.⊤, Prelude.if◌then◌else◌, List.list_all, Str.is_utf8}
 use Rattle.sql_lex.specs.Meaning.{spelling}
-use Rattle.ddl_parts.specs.declared.pieces.Piece.{Piece}
-use Rattle.ddl_parts.specs.declared.fault.Halt.{Halt}
-use Rattle.ddl_parts.specs.declared.fault.ReadError.{ReadError}
+use Rattle.ddl_parts.specs.{declared.pieces.Piece.Piece, declared.fault.Halt.Halt, declared.fault.ReadError.ReadError, Lexemes.Lexeme, Lexemes.starts, Parts.Stop, Parts.Reading, Parts.mark}
 use Rattle.ddl_parts.specs.declared.fault.ReadError.TheVariants as errors
-use Rattle.ddl_parts.specs.Lexemes.{Lexeme, starts}
-use Rattle.ddl_parts.specs.Parts.{Stop, Reading, mark}
 
 abbrev pub lexeme_of : List ℕ → Piece → Lexeme
 lexeme_of text p = record { gap = slice_range text p.from p.token.start; kind = p.token.kind; word = spelling text p.token; start = p.token.start }

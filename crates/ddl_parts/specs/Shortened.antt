@@ -1,14 +1,9 @@
 -- Tokens that are too long, and what stands in the place of one where a shorter name does.
 -- A token is too long where it is a name but for its length, or the literal of a path but for the length of a name in it.
 use Rattle.std.specs.Prelude.{◌≡◌, ◌⊎◌, ℕ, Bool, true, false, List, [], ◌∷◌, Result, Ok, Err, is_some, codes}
-use Rattle.sql_lex.specs.declared.token.TokenKind.{TokenKind}
-use Rattle.sql_lex.specs.declared.token.TokenKind.TheVariants.{QuotedName, Literal}
+use Rattle.sql_lex.specs.{declared.token.TokenKind.TokenKind, declared.token.TokenKind.TheVariants.QuotedName, declared.token.TokenKind.TheVariants.Literal}
 use Rattle.cat_model.specs.declared.object.QName.{QName}
-use Rattle.ddl_parts.specs.Lexemes.{Lexeme}
-use Rattle.ddl_parts.specs.Parts.{Reading}
-use Rattle.ddl_parts.specs.Pieces.{lexemes}
-use Rattle.ddl_parts.specs.Collecting.{Collected, collected}
-use Rattle.ddl_parts.specs.Leaves.{name_value, literal_value, qualified}
+use Rattle.ddl_parts.specs.{Lexemes.Lexeme, Parts.Reading, Pieces.lexemes, Collecting.Collected, Collecting.collected, Leaves.name_value, Leaves.literal_value, Leaves.qualified}
 
 -- ---- a path in a literal
 

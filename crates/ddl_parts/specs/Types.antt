@@ -1,16 +1,10 @@
 -- The types of columns and domains: words, one of which numbers in brackets may follow, and brackets without anything
 -- for arrays; or a qualified name.
-use Rattle.std.specs.Prelude.{ℕ, Bool, true, false, ◌||◌, ◌&&◌, not, List, [], ◌∷◌, Option, Some, None, Result, Ok, Err, is_ok, if◌then◌else◌, codes}
-use Rattle.std.specs.List.{list_any}
-use Rattle.sql_lex.specs.declared.token.TokenKind.{TokenKind}
-use Rattle.sql_lex.specs.declared.token.TokenKind.TheVariants.{Word, Number}
+use Rattle.std.specs.{Prelude.ℕ, Prelude.Bool, Prelude.true, Prelude.false, Prelude.◌||◌, Prelude.◌&&◌, Prelude.not, Prelude.List, Prelude.[], Prelude.◌∷◌, Prelude.Option, Prelude.Some, Prelude.None, Prelude.Result, Prelude.Ok, Prelude.Err, Prelude.is_ok, Prelude.if◌then◌else◌, Prelude.codes, List.list_any}
+use Rattle.sql_lex.specs.{declared.token.TokenKind.TokenKind, declared.token.TokenKind.TheVariants.Word, declared.token.TokenKind.TheVariants.Number}
 use Rattle.cat_model.specs.declared.type_name.TypeName.{TypeName}
 use Rattle.cat_model.specs.declared.type_name.TypeName.TheVariants as type_name
-use Rattle.ddl_parts.specs.declared.types.TypeSpot.{TypeSpot}
-use Rattle.ddl_parts.specs.declared.types.TypeSpot.TheVariants.{Begin, FirstWord, Schema, Dotted, Path, Words, Opened, Counted, Further, Behind, Array, Ended}
-use Rattle.ddl_parts.specs.Lexemes.{Lexeme, is_word, is_sign, source}
-use Rattle.ddl_parts.specs.Parts.{Part, Machine, runs_of, seen}
-use Rattle.ddl_parts.specs.Leaves.{name_value}
+use Rattle.ddl_parts.specs.{declared.types.TypeSpot.TypeSpot, declared.types.TypeSpot.TheVariants.Begin, declared.types.TypeSpot.TheVariants.FirstWord, declared.types.TypeSpot.TheVariants.Schema, declared.types.TypeSpot.TheVariants.Dotted, declared.types.TypeSpot.TheVariants.Path, declared.types.TypeSpot.TheVariants.Words, declared.types.TypeSpot.TheVariants.Opened, declared.types.TypeSpot.TheVariants.Counted, declared.types.TypeSpot.TheVariants.Further, declared.types.TypeSpot.TheVariants.Behind, declared.types.TypeSpot.TheVariants.Array, declared.types.TypeSpot.TheVariants.Ended, Lexemes.Lexeme, Lexemes.is_word, Lexemes.is_sign, Lexemes.source, Parts.Part, Parts.Machine, Parts.runs_of, Parts.seen, Leaves.name_value}
 
 -- words that follow a type and are none of its words
 abbrev pub stop_words : List (List ℕ)

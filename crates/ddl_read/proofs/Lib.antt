@@ -1,7 +1,3 @@
 pub mod Common
+pub mod OneToken
 pub mod Statements
-pub mod TableLaws
-pub mod RestLaws
-pub mod SequenceLaws
-pub mod ColumnLaws
-pub mod ValueLaws

@@ -1,9 +1,8 @@
 -- A text read statement by statement: those so far and those behind are those of the text.
 use Rattle.ddl_read.proofs.Common.{some_left, ◌≡◌, ℕ, suc, ◌+◌, ◌-◌, ◌<◌, ◌≤◌, false, List, [], ◌∷◌, ◌++◌, length, Option, Some, None, Result, Ok, Err, refl, ap, ◌∙◌, arith, append_assoc, append-nil, LexFault, Token, next_token_of, spelling, Stmt, Piece, is_word, is_sign, lexeme_of, lexemes, value_of, Collected, collected, collected_within, collected_by, Reading, Whole, whole, whole_of, begins_statement, stray_in, stray, told, line_at, line_said, statements_at, listed, first_start, no_more, statement_of, statements_by, statements_within, statements_of}
-use Rattle.ddl_lines.specs.MetaLines.{meta_line}
-use Rattle.ddl_read.specs.{Grammar.command, Grammar.statement, declared.fault.DdlFault.TheVariants.Unknown, declared.located.Located.Located, declared.fault.DdlFault.DdlFault, declared.fault.ReadStmtsError.ReadStmtsError, Reading.◌>>=◌, Reading.Fails}
+use Rattle.ddl_scripts.specs.{MetaLines.meta_line, Grammar.command, Grammar.statement, declared.fault.DdlFault.TheVariants.Unknown, declared.located.Located.Located, declared.fault.DdlFault.DdlFault, declared.fault.ReadStmtsError.ReadStmtsError, Reading.◌>>=◌, Reading.Fails}
 use Rattle.cat_model.specs.declared.stmt.Stmt.TheVariants as stmt
-use Rattle.ddl_read.specs.declared.fault.ReadStmtsError.TheVariants as errors
+use Rattle.ddl_scripts.specs.declared.fault.ReadStmtsError.TheVariants as errors
 
 -- statements so far, before what is read behind them
 abbrev pub behind : List Located → Result (List Located) DdlFault → Result (List Located) DdlFault

@@ -1,20 +1,18 @@
 //! Readers of the kinds of statement, each behind the words that tell it apart.
 ghost use Rattle.std.specs.Prelude.{drop};
-ghost use Rattle.ddl_parts.specs.Pieces.{GivesPart, GivesValue, value_of};
-ghost use Rattle.ddl_read.specs.Grammar.{created, altered_domain, altered, selected, setting, command, statement};
+ghost use Rattle.ddl_scripts.specs.Pieces.{GivesPart, GivesValue, value_of};
+ghost use Rattle.ddl_scripts.specs.Grammar.{created, altered_domain, altered, selected, setting, command, statement};
 
-use crate::alters::{altered_table, new_owner};
-use crate::copying::copy_from;
-use crate::relations::{altered_sequence, created_relation};
-use crate::tables::{create_domain, create_enum, create_table, named_check};
-use crate::values::set_value;
 use cat_model::{CheckDef, Owned, Stmt};
-use ddl_admin::{alter_role, comment_on, create_database, create_role};
-use ddl_parts::{Parsed, Pieces, ReadError, qualified_name, read};
-use ddl_rights::{granted, revoked};
+use ddl_admin::{alter_role, comment_on, create_database, create_role, granted, revoked};
+use ddl_pieces::{Parsed, Pieces, ReadError, qualified_name, read};
+use ddl_relations::{
+    altered_sequence, altered_table, copy_from, create_domain, create_enum, create_table,
+    created_relation, named_check, new_owner, set_value,
+};
 use std::alloc::Global;
 
-#[tactic(auto, unfolding(crate::specs::Grammar::created, crate::specs::Grammar::create_schema))]
+#[tactic(auto, unfolding(ddl_grammar::specs::Grammar::created, ddl_grammar::specs::Grammar::create_schema))]
 fn created(alloc: Global, pieces: &Pieces<'_>, at: usize) -> Parsed<Stmt>
     ensures { GivesPart pieces.now (λ s. s) result (created.read (drop at pieces.now)) }
 {
@@ -28,7 +26,7 @@ fn created(alloc: Global, pieces: &Pieces<'_>, at: usize) -> Parsed<Stmt>
         -> created_relation)
 }
 
-#[tactic(auto, unfolding(crate::specs::Grammar::altered_domain, crate::specs::Grammar::domain_change, crate::specs::Grammar::new_check))]
+#[tactic(auto, unfolding(ddl_grammar::specs::Grammar::altered_domain, ddl_grammar::specs::Grammar::domain_change, ddl_grammar::specs::Grammar::new_check))]
 fn altered_domain(alloc: Global, pieces: &Pieces<'_>, at: usize) -> Parsed<Stmt>
     ensures { GivesPart pieces.now (λ s. s) result (altered_domain.read (drop at pieces.now)) }
 {
@@ -37,7 +35,7 @@ fn altered_domain(alloc: Global, pieces: &Pieces<'_>, at: usize) -> Parsed<Stmt>
         "add" (CheckDef { name, text }): named_check; => Stmt::AddDomainCheck { q, name, text })
 }
 
-#[tactic(auto, unfolding(crate::specs::Grammar::altered, crate::specs::Grammar::name_and_owner, crate::specs::Grammar::path_and_owner))]
+#[tactic(auto, unfolding(ddl_grammar::specs::Grammar::altered, ddl_grammar::specs::Grammar::name_and_owner, ddl_grammar::specs::Grammar::path_and_owner))]
 fn altered(alloc: Global, pieces: &Pieces<'_>, at: usize) -> Parsed<Stmt>
     ensures { GivesPart pieces.now (λ s. s) result (altered.read (drop at pieces.now)) }
 {
@@ -52,7 +50,7 @@ fn altered(alloc: Global, pieces: &Pieces<'_>, at: usize) -> Parsed<Stmt>
         "role" -> alter_role)
 }
 
-#[tactic(auto, unfolding(crate::specs::Grammar::selected, crate::specs::Grammar::set_config))]
+#[tactic(auto, unfolding(ddl_grammar::specs::Grammar::selected, ddl_grammar::specs::Grammar::set_config))]
 fn selected(alloc: Global, pieces: &Pieces<'_>, at: usize) -> Parsed<Stmt>
     ensures { GivesPart pieces.now (λ s. s) result (selected.read (drop at pieces.now)) }
 {
@@ -61,7 +59,7 @@ fn selected(alloc: Global, pieces: &Pieces<'_>, at: usize) -> Parsed<Stmt>
         "setval" -> set_value)
 }
 
-#[tactic(auto, unfolding(crate::specs::Grammar::setting, crate::specs::Grammar::equals_or_to))]
+#[tactic(auto, unfolding(ddl_grammar::specs::Grammar::setting, ddl_grammar::specs::Grammar::equals_or_to))]
 fn setting(alloc: Global, pieces: &Pieces<'_>, at: usize) -> Parsed<Stmt>
     ensures { GivesPart pieces.now (λ s. s) result (setting.read (drop at pieces.now)) }
 {
@@ -70,7 +68,7 @@ fn setting(alloc: Global, pieces: &Pieces<'_>, at: usize) -> Parsed<Stmt>
         "to" value: .expression; => Stmt::Set { name, value })
 }
 
-#[tactic(auto, unfolding(crate::specs::Grammar::command))]
+#[tactic(auto, unfolding(ddl_grammar::specs::Grammar::command))]
 fn command(alloc: Global, pieces: &Pieces<'_>, at: usize) -> Parsed<Stmt>
     ensures { GivesPart pieces.now (λ s. s) result (command.read (drop at pieces.now)) }
 {
@@ -86,7 +84,7 @@ fn command(alloc: Global, pieces: &Pieces<'_>, at: usize) -> Parsed<Stmt>
 }
 
 /// The statement at the front of the tokens; an empty one is None.
-#[tactic(auto, unfolding(crate::specs::Grammar::statement))]
+#[tactic(auto, unfolding(ddl_grammar::specs::Grammar::statement))]
 pub(crate) fn statement(alloc: Global, pieces: &Pieces<'_>) -> Result<Option<Stmt>, ReadError>
     ensures { GivesValue pieces.now (λ s. s) result (value_of (statement.read pieces.now)) }
 {

@@ -1,23 +1,12 @@
 //! Statements of SQL, read exactly by their grammar.
 #![tactic(auto)]
 
-mod alters;
-mod columns;
-mod copying;
-mod fault;
 mod kinds;
 mod let_go;
-mod located;
+mod meta_lines;
 mod reading;
-mod relations;
-mod rests;
-mod sequences;
-mod tables;
-mod values;
 
-pub use alters::{Constraint, constraint_body};
-pub use fault::{DdlFault, ReadStmtsError};
+pub use ddl_scripts::{DdlFault, Located, ReadStmtsError};
 pub use let_go::let_go_statements;
-pub use located::Located;
+pub use meta_lines::meta_line;
 pub use reading::read_stmts;
-pub use relations::{Index, index_body};

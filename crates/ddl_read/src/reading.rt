@@ -1,17 +1,16 @@
 //! The statements of a text, one after another.
 ghost use Rattle.std.specs.Prelude.{◌≡◌, ◌<◌, ◌≤◌, ◌+◌, ◌^◌, ◌++◌, [], length, drop, true, IfOk, IfSome, OnOk};
-ghost use Rattle.ddl_parts.specs.Pieces.{lexemes};
-ghost use Rattle.ddl_parts.specs.Lexemes.{is_sign_kind, start_of};
-ghost use Rattle.ddl_read.specs.Reading.{Adds, AddsLine, Gives, completed, error_of, fault_by, first_start, begins_statement, line_at, line_said, listed, no_more, statement_of, statements_of, stray, whole, whole_of};
-ghost use Rattle.ddl_lines.specs.MetaLines.{meta_line};
+ghost use Rattle.ddl_scripts.specs.Pieces.{lexemes};
+ghost use Rattle.ddl_scripts.specs.Lexemes.{is_sign_kind, start_of};
+ghost use Rattle.ddl_scripts.specs.Reading.{Adds, AddsLine, Gives, completed, error_of, fault_by, first_start, begins_statement, line_at, line_said, listed, no_more, statement_of, statements_of, stray, whole, whole_of};
+ghost use Rattle.ddl_scripts.specs.MetaLines.{meta_line};
 ghost use Rattle.sql_lex.specs.Meaning.{spelling};
 
-use crate::fault::{DdlFault, ReadStmtsError};
 use crate::kinds::statement;
-use crate::located::Located;
+use crate::meta_lines::meta_line;
 use cat_model::{Items, Stmt};
-use ddl_lines::{MetaError, Rows, RowsError, meta_line, rows_behind};
-use ddl_parts::{Piece, Pieces, ReadError, Run, collect};
+use ddl_pieces::{Piece, Pieces, ReadError, Run, collect, is_sign_kind};
+use ddl_scripts::{DdlFault, Located, MetaError, ReadStmtsError, Rows, RowsError, rows_behind};
 use sql_lex::{LexFault, Token, TokenKind, is_keyword, next_token};
 use std::alloc::{AllocError, Global};
 
@@ -46,7 +45,7 @@ fn error_of(
 }
 
 /// The statement at the front of the tokens, or the fault of the text; an empty one is None.
-#[tactic(auto, unfolding(crate::specs::Reading::statement_of))]
+#[tactic(auto, unfolding(ddl_scripts::specs::Reading::statement_of))]
 fn one_statement(
     alloc: Global,
     len: usize,
@@ -124,7 +123,7 @@ fn add_statement(
 }
 
 /// The next token, where it is a line that begins with a backslash.
-#[tactic(auto, unfolding(crate::specs::Reading::line_at))]
+#[tactic(auto, unfolding(ddl_scripts::specs::Reading::line_at))]
 fn line_at(text: &[u8], at: usize) -> Option<Token>
     requires { at ≤ length text.now }
     ensures exact { result ≡ line_at text.now at }
@@ -139,24 +138,14 @@ fn line_at(text: &[u8], at: usize) -> Option<Token>
     }
 }
 
-/// Whether tokens of this kind end a statement.
-fn is_end(kind: TokenKind) -> bool
-    ensures { result ≡ is_sign_kind 59 kind }
-{
-    match kind {
-        TokenKind::Sign(sign) => b';' == sign,
-        _ => false,
-    }
-}
-
 /// Whether a token begins a statement, or is an empty one.
-#[tactic(auto, unfolding(crate::specs::Reading::begins_statement))]
+#[tactic(auto, unfolding(ddl_scripts::specs::Reading::begins_statement))]
 fn begins_statement(text: &[u8], token: Token) -> bool
     requires low { token.start ≤ token.end }
     requires high { token.end ≤ length text.now }
     ensures { result ≡ begins_statement token.kind (spelling text.now token) }
 {
-    is_end(token.kind)
+    is_sign_kind(token.kind, b';')
         || is_keyword(text, token, "create")
         || is_keyword(text, token, "alter")
         || is_keyword(text, token, "select")
@@ -168,7 +157,7 @@ fn begins_statement(text: &[u8], token: Token) -> bool
 }
 
 /// The place of the next token, where no statement begins with it.
-#[tactic(auto, unfolding(crate::specs::Reading::stray))]
+#[tactic(auto, unfolding(ddl_scripts::specs::Reading::stray))]
 fn stray(text: &[u8], at: usize) -> Option<usize>
     requires { at ≤ length text.now }
     ensures { result ≡ stray text.now at }

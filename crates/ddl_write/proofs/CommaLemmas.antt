@@ -2,7 +2,8 @@
 use Rattle.std.proofs.Common.{◌≡◌, ℕ, Bool, true, false, List, [], ◌∷◌, ◌++◌, refl, ap, ◌∙◌, append_assoc, ◌+◌, ◌<◌, length, take, get_or, ◌&&◌, ◌||◌, codes}
 use Rattle.std.proofs.{lemmas.Grind.flat_map-append, lemmas.List.append-nil, lemmas.List.take_more}
 use Rattle.std.specs.List.{flat_map}
-use Rattle.ddl_write.specs.{Paths.only_if, RightsText.word_there, RightsText.with_commas, declared.rights.Right.Right}
+use Rattle.ddl_spelling.specs.{Paths.only_if, RightsText.word_there, RightsText.with_commas}
+use Rattle.ddl_write.specs.declared.rights.Right.{Right}
 
 pub no_commas : with_commas [] ≡ []
 unfolding with_commas

@@ -3,7 +3,7 @@ use Rattle.std.proofs.Common.{◌≡◌, ℕ, ◌<◌, ◌-◌, ◌++◌, List, 
 use Rattle.std.proofs.{lemmas.List.Folds.flat_map-map, lemmas.Grind.flat_map-append, lemmas.List.take_all}
 use Rattle.std.specs.List.{flat_map}
 use Rattle.sql_lex.specs.Written.{written_name}
-use Rattle.ddl_write.specs.{Paths.listed, Tables.lines}
+use Rattle.ddl_spelling.specs.{Paths.listed, Tables.lines}
 
 -- all but the first item
 abbrev pub rest : {A : Type 0} → List A → List A

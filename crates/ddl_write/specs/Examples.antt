@@ -1,16 +1,14 @@
 -- Worked examples: statements with their texts, as PostgreSQL's dumps have them.
 use Rattle.std.specs.Prelude.{◌≡◌, ℕ, pos, negsuc, true, false, List, [], ◌∷◌, Some, None, codes}
-use Rattle.cat_model.specs.declared.object.QName.{QName}
+use Rattle.cat_model.specs.{declared.object.QName.QName, declared.grant.Rights.Rights, declared.stmt.Stmt.Stmt}
 use Rattle.cat_model.specs.declared.constraint.SequenceKind.TheVariants as sequences
 use Rattle.cat_model.specs.declared.constraint.Encoding.TheVariants as encodings
 use Rattle.cat_model.specs.declared.type_name.TypeName.TheVariants as types
-use Rattle.cat_model.specs.declared.grant.Rights.{Rights}
 use Rattle.cat_model.specs.declared.grant.Granted.TheVariants as on
 use Rattle.cat_model.specs.declared.grant.Grantee.TheVariants as grantee
 use Rattle.cat_model.specs.declared.grant.Commented.TheVariants as commented
-use Rattle.cat_model.specs.declared.stmt.Stmt.{Stmt}
 use Rattle.cat_model.specs.declared.stmt.Stmt.TheVariants as stmt
-use Rattle.ddl_write.specs.Spelling.{spelling}
+use Rattle.ddl_spelling.specs.Spelling.{spelling}
 
 abbrev pub public : List ℕ → QName
 public name = record { schema = codes "public"; name = name }

@@ -1,18 +1,9 @@
 -- What a piece of a statement's text stands for.
-use Rattle.std.specs.Prelude.{ℕ, List, ◌++◌, map}
-use Rattle.std.specs.List.{flat_map}
-use Rattle.std.specs.Fmt.{signed_decimal}
+use Rattle.std.specs.{Prelude.ℕ, Prelude.List, Prelude.◌++◌, Prelude.map, List.flat_map, Fmt.signed_decimal}
 use Rattle.sql_lex.specs.Written.{written_name, written_literal}
 use Rattle.ddl_write.specs.declared.words.Piece.{Piece}
 use Rattle.ddl_write.specs.declared.words.Piece.TheVariants as pieces
-use Rattle.ddl_write.specs.Paths.{path, listed, only_if}
-use Rattle.ddl_write.specs.Sequences.{min_text, max_text}
-use Rattle.ddl_write.specs.Keys.{rest_text}
-use Rattle.ddl_write.specs.RightsText.{remark_text, rights_text, granted_words, granted_name, grantee_text}
-use Rattle.ddl_write.specs.Roles.{flag_text, limit_text, given_literal, given_name}
-use Rattle.ddl_write.specs.Views.{space_before}
-use Rattle.ddl_write.specs.Tables.{type_text, given_default, check_text, lines}
-use Rattle.ddl_write.specs.Spelling.{owned_object}
+use Rattle.ddl_spelling.specs.{Paths.path, Paths.listed, Paths.only_if, Sequences.min_text, Sequences.max_text, Keys.rest_text, RightsText.remark_text, RightsText.rights_text, RightsText.granted_words, RightsText.granted_name, RightsText.grantee_text, Roles.flag_text, Roles.limit_text, Roles.given_literal, Roles.given_name, Views.space_before, Tables.type_text, Tables.given_default, Tables.check_text, Tables.lines, Spelling.owned_object}
 
 abbrev pub text_of : Piece → List ℕ
 text_of (pieces.Words words) = words.now

@@ -12,11 +12,9 @@ mod fault;
 pub mod laws;
 mod lists;
 mod rights;
-mod sequences;
 mod views;
 mod words;
 mod writing;
 
 pub use fault::WriteStmtError;
-pub use sequences::{usual_max, usual_min};
 pub use writing::write_stmt;

@@ -3,8 +3,8 @@ ghost use Rattle.std.specs.Prelude.{◌≡◌, ◌++◌, map, codes, OnOk};
 ghost use Rattle.std.specs.List.{flat_map};
 ghost use Rattle.sql_lex.specs.Written.{written_name, written_literal};
 ghost use Rattle.ddl_write.specs.Outcome.{Extends};
-ghost use Rattle.ddl_write.specs.Paths.{listed};
-ghost use Rattle.ddl_write.specs.Tables.{check_text, column_text, lines, table_lines};
+ghost use Rattle.ddl_spelling.specs.Paths.{listed};
+ghost use Rattle.ddl_spelling.specs.Tables.{check_text, column_text, lines, table_lines};
 
 use crate::words::Written;
 use cat_model::{CheckDef, ColumnDef};
@@ -52,7 +52,7 @@ impl Put for CheckDef {
 impl Put for ColumnDef {
     ghost text = { column_text };
 
-    #[tactic(auto, unfolding(crate::specs::Tables::column_text))]
+    #[tactic(auto, unfolding(ddl_spelling::specs::Tables::column_text))]
     fn put(&self, out: &mut Vec<u8>) -> Written {
         put!(out; Name(&self.name), Words(b" "), TypeName(&self.type_name), Default(&self.default),
             OnlyIf(self.not_null, b" NOT NULL"))
@@ -60,7 +60,7 @@ impl Put for ColumnDef {
 }
 
 /// A name for a check, and its expression in brackets.
-#[tactic(auto, unfolding(crate::specs::Tables::check_text))]
+#[tactic(auto, unfolding(ddl_spelling::specs::Tables::check_text))]
 pub(crate) fn put_check(name: &Name, text: &Text, out: &mut Vec<u8>) -> Written
     ensures ok { OnOk result (out.new.items ≡ out.old.items ++ check_text name.now text.now) }
     ensures kept { Extends out.old.items out.new.items }
@@ -93,7 +93,7 @@ pub(crate) fn put_each<T: Put>(words: &[u8], items: &[T], out: &mut Vec<u8>) -> 
 }
 
 /// Names with commas, in brackets.
-#[tactic(auto, unfolding(crate::specs::Paths::listed))]
+#[tactic(auto, unfolding(ddl_spelling::specs::Paths::listed))]
 pub(crate) fn put_names(names: &[Name], out: &mut Vec<u8>) -> Written
     ensures ok { OnOk result (out.new.items ≡ out.old.items ++ listed names.now) }
     ensures kept { Extends out.old.items out.new.items }
@@ -110,7 +110,7 @@ pub(crate) fn put_names(names: &[Name], out: &mut Vec<u8>) -> Written
 }
 
 /// Items with commas, each in a line.
-#[tactic(auto, unfolding(crate::specs::Tables::lines))]
+#[tactic(auto, unfolding(ddl_spelling::specs::Tables::lines))]
 pub(crate) fn put_lines<T: Put>(items: &[T], out: &mut Vec<u8>) -> Written
     ensures ok { OnOk result (out.new.items ≡ out.old.items ++ lines (map T.text items.now)) }
     ensures kept { Extends out.old.items out.new.items }

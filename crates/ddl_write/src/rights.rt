@@ -2,8 +2,8 @@
 ghost use Rattle.std.specs.Prelude.{◌≡◌, ◌++◌, ◌||◌, ◌&&◌, codes, OnOk, IfOk};
 ghost use Rattle.std.specs.List.{flat_map};
 ghost use Rattle.ddl_write.specs.Outcome.{Extends};
-ghost use Rattle.ddl_write.specs.Paths.{only_if};
-ghost use Rattle.ddl_write.specs.RightsText.{row_rights, is_all, word_there, with_commas, right_list, rights_text};
+ghost use Rattle.ddl_spelling.specs.Paths.{only_if};
+ghost use Rattle.ddl_spelling.specs.RightsText.{row_rights, is_all, word_there, with_commas, right_list, rights_text};
 
 use crate::words::Written;
 use cat_model::{Granted, Rights};
@@ -17,7 +17,7 @@ fn row_rights(rights: Rights) -> bool
 }
 
 /// Whether these are all rights of the object's kind.
-#[tactic(auto, unfolding(crate::specs::RightsText::is_all))]
+#[tactic(auto, unfolding(ddl_spelling::specs::RightsText::is_all))]
 fn is_all(object: &Granted, r: Rights) -> bool
     ensures { result ≡ is_all object.now r }
 {
@@ -64,7 +64,7 @@ fn put_each_right(rights: &[Right<'_>], out: &mut Vec<u8>) -> Written
 }
 
 /// ALL, where these are all rights of the object's kind, else their words with commas.
-#[tactic(auto, unfolding(crate::specs::RightsText::rights_text, crate::specs::RightsText::right_list))]
+#[tactic(auto, unfolding(ddl_spelling::specs::RightsText::rights_text, ddl_spelling::specs::RightsText::right_list))]
 pub(crate) fn put_rights(object: &Granted, rights: Rights, out: &mut Vec<u8>) -> Written
     ensures ok { OnOk result (out.new.items ≡ out.old.items ++ rights_text object.now rights) }
     ensures kept { Extends out.old.items out.new.items }

@@ -3,18 +3,18 @@ ghost use Rattle.std.specs.Prelude.{◌≡◌, ◌++◌, OnOk};
 ghost use Rattle.std.specs.Fmt.{signed_decimal};
 ghost use Rattle.std.specs.List.{flat_map};
 ghost use Rattle.sql_lex.specs.Written.{written_name, written_literal};
-ghost use Rattle.ddl_write.specs.Keys.{rest_text};
-ghost use Rattle.ddl_write.specs.Paths.{path};
-ghost use Rattle.ddl_write.specs.Sequences.{bound, max_text, min_text};
+ghost use Rattle.ddl_spelling.specs.Keys.{rest_text};
+ghost use Rattle.ddl_spelling.specs.Paths.{path};
+ghost use Rattle.ddl_spelling.specs.Sequences.{bound, max_text, min_text};
 ghost use Rattle.ddl_write.specs.Pieces.{text_of};
 ghost use Rattle.ddl_write.specs.Outcome.{Extends};
 
 use crate::lists::{Put, put_check, put_each, put_lines, put_names};
 use crate::rights::put_rights;
-use crate::sequences::{is_usual_max, is_usual_min};
 use crate::views::space_before;
 use cat_model::{CheckDef, Granted, Grantee, Owned, QName, Rights, SequenceKind, TypeName};
 use copy_text::{Name, Text};
+use ddl_spelling::{is_usual_max, is_usual_min};
 use itoa::Buffer;
 use sql_lex::{write_literal, write_name};
 use std::alloc::AllocError;
@@ -100,7 +100,7 @@ fn put_named(words: &[u8], name: &Name, out: &mut Vec<u8>) -> Written
 }
 
 /// Words and a qualified name.
-#[tactic(auto, unfolding(crate::specs::Paths::path))]
+#[tactic(auto, unfolding(ddl_spelling::specs::Paths::path))]
 fn put_path(words: &[u8], q: &QName, out: &mut Vec<u8>) -> Written
     ensures ok { OnOk result (out.new.items ≡ out.old.items ++ (words.now ++ path q.now)) }
     ensures kept { Extends out.old.items out.new.items }
@@ -140,7 +140,7 @@ fn put_number(words: &[u8], number: i64, out: &mut Vec<u8>) -> Written
 }
 
 /// Words without a number where it is the usual one, else other words and the number.
-#[tactic(auto, unfolding(crate::specs::Sequences::bound))]
+#[tactic(auto, unfolding(ddl_spelling::specs::Sequences::bound))]
 fn put_bound(usual: bool, without: &[u8], words: &[u8], number: &i64, out: &mut Vec<u8>) -> Written
     ensures ok { OnOk result (out.new.items ≡ out.old.items ++ bound usual without.now words.now number.now) }
     ensures kept { Extends out.old.items out.new.items }
@@ -173,7 +173,7 @@ fn put_max(kind: SequenceKind, step: &i64, number: &i64, out: &mut Vec<u8>) -> W
 impl<'a> Put for Piece<'a> {
     ghost text = { text_of };
 
-    #[tactic(auto, unfolding(crate::specs::Tables::type_text, crate::specs::Spelling::owned_object))]
+    #[tactic(auto, unfolding(ddl_spelling::specs::Tables::type_text, ddl_spelling::specs::Spelling::owned_object))]
     fn put(&self, out: &mut Vec<u8>) -> Written {
         match *self {
             Piece::OnlyIf(false, _)

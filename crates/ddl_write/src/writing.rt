@@ -1,13 +1,13 @@
 //! Statements as texts.
 ghost use Rattle.std.specs.Prelude.{◌≡◌, ◌++◌, OnOk, OnErr};
-ghost use Rattle.ddl_write.specs.Spelling.{spelling, domain_check_text};
-ghost use Rattle.ddl_write.specs.Keys.{key_text, foreign_text, index_text};
-ghost use Rattle.ddl_write.specs.RightsText.{comment_text};
-ghost use Rattle.ddl_write.specs.Roles.{changes_text, truth, inherit_text, encoding_text, database_text};
-ghost use Rattle.ddl_write.specs.RowsText.{copy_text};
-ghost use Rattle.ddl_write.specs.Sequences.{called_words, type_words, sequence_text, value_text};
-ghost use Rattle.ddl_write.specs.Tables.{enum_text, domain_text, table_text};
-ghost use Rattle.ddl_write.specs.Views.{view_text, default_text};
+ghost use Rattle.ddl_spelling.specs.Spelling.{spelling, domain_check_text};
+ghost use Rattle.ddl_spelling.specs.Keys.{key_text, foreign_text, index_text};
+ghost use Rattle.ddl_spelling.specs.RightsText.{comment_text};
+ghost use Rattle.ddl_spelling.specs.Roles.{changes_text, truth, inherit_text, encoding_text, database_text};
+ghost use Rattle.ddl_spelling.specs.RowsText.{copy_text};
+ghost use Rattle.ddl_spelling.specs.Sequences.{called_words, type_words, sequence_text, value_text};
+ghost use Rattle.ddl_spelling.specs.Tables.{enum_text, domain_text, table_text};
+ghost use Rattle.ddl_spelling.specs.Views.{view_text, default_text};
 ghost use Rattle.ddl_write.specs.Outcome.{Extends};
 
 use crate::fault::WriteStmtError;
@@ -40,7 +40,7 @@ pub fn write_stmt(stmt: &Stmt, out: &mut Vec<u8>) -> Result<(), WriteStmtError>
 }
 
 /// The same, where an error may leave some of the text.
-#[tactic(auto, unfolding(crate::specs::Spelling::spelling, crate::specs::Spelling::schema_text, crate::specs::Spelling::setting_text, crate::specs::Roles::role_text, crate::specs::Roles::connect_text, crate::specs::Sequences::owned_by_text, crate::specs::Keys::added_check_text, crate::specs::Spelling::set_text, crate::specs::RightsText::grant_text, crate::specs::RightsText::revoke_text, crate::specs::Spelling::owner_text, crate::specs::Roles::member_text))]
+#[tactic(auto, unfolding(ddl_spelling::specs::Spelling::spelling, ddl_spelling::specs::Spelling::schema_text, ddl_spelling::specs::Spelling::setting_text, ddl_spelling::specs::Roles::role_text, ddl_spelling::specs::Roles::connect_text, ddl_spelling::specs::Sequences::owned_by_text, ddl_spelling::specs::Keys::added_check_text, ddl_spelling::specs::Spelling::set_text, ddl_spelling::specs::RightsText::grant_text, ddl_spelling::specs::RightsText::revoke_text, ddl_spelling::specs::Spelling::owner_text, ddl_spelling::specs::Roles::member_text))]
 fn put_stmt(stmt: &Stmt, out: &mut Vec<u8>) -> Written
     ensures ok { OnOk result (out.new.items ≡ out.old.items ++ spelling stmt.now) }
     ensures kept { Extends out.old.items out.new.items }
@@ -153,7 +153,7 @@ fn put_stmt(stmt: &Stmt, out: &mut Vec<u8>) -> Written
     }
 }
 
-#[tactic(auto, unfolding(crate::specs::Tables::enum_text))]
+#[tactic(auto, unfolding(ddl_spelling::specs::Tables::enum_text))]
 fn put_enum<'a>(q: &'a QName, labels: &'a [Text], out: &mut Vec<u8>) -> Written
     ensures ok { OnOk result (out.new.items ≡ out.old.items ++ enum_text q.now labels.now) }
     ensures kept { Extends out.old.items out.new.items }
@@ -161,7 +161,7 @@ fn put_enum<'a>(q: &'a QName, labels: &'a [Text], out: &mut Vec<u8>) -> Written
     put!(out; Words(b"CREATE TYPE "), Path(q), Words(b" AS ENUM ("), Labels(labels), Words(b");\n"))
 }
 
-#[tactic(auto, unfolding(crate::specs::Tables::domain_text))]
+#[tactic(auto, unfolding(ddl_spelling::specs::Tables::domain_text))]
 fn put_domain<'a>(
     q: &'a QName,
     base: &'a TypeName,
@@ -177,7 +177,7 @@ fn put_domain<'a>(
         OnlyIf(not_null, b" NOT NULL"), Default(default), Checks(b"\n\t", checks), Words(b";\n"))
 }
 
-#[tactic(auto, unfolding(crate::specs::Tables::table_text))]
+#[tactic(auto, unfolding(ddl_spelling::specs::Tables::table_text))]
 fn put_table(q: &QName, columns: &[ColumnDef], checks: &[CheckDef], out: &mut Vec<u8>) -> Written
     ensures ok { OnOk result (out.new.items ≡ out.old.items ++ table_text q.now columns.now checks.now) }
     ensures kept { Extends out.old.items out.new.items }
@@ -188,7 +188,7 @@ fn put_table(q: &QName, columns: &[ColumnDef], checks: &[CheckDef], out: &mut Ve
     Ok(())
 }
 
-#[tactic(auto, unfolding(crate::specs::Sequences::sequence_text))]
+#[tactic(auto, unfolding(ddl_spelling::specs::Sequences::sequence_text))]
 fn put_sequence<'a>(
     q: &'a QName,
     kind: SequenceKind,
@@ -209,7 +209,7 @@ fn put_sequence<'a>(
         Words(b"\n    CACHE "), Number(cache), OnlyIf(cycle, b"\n    CYCLE"), Words(b";\n"))
 }
 
-#[tactic(auto, unfolding(crate::specs::Sequences::value_text))]
+#[tactic(auto, unfolding(ddl_spelling::specs::Sequences::value_text))]
 fn put_value<'a>(q: &'a QName, value: &'a i64, called: bool, out: &mut Vec<u8>) -> Written
     ensures ok { OnOk result (out.new.items ≡ out.old.items ++ value_text q.now value.now called) }
     ensures kept { Extends out.old.items out.new.items }
@@ -219,7 +219,7 @@ fn put_value<'a>(q: &'a QName, value: &'a i64, called: bool, out: &mut Vec<u8>) 
 }
 
 /// CREATE VIEW or CREATE OR REPLACE VIEW, by its first words.
-#[tactic(auto, unfolding(crate::specs::Views::view_text))]
+#[tactic(auto, unfolding(ddl_spelling::specs::Views::view_text))]
 fn put_view<'a>(words: &'a [u8], q: &'a QName, body: &'a Text, out: &mut Vec<u8>) -> Written
     ensures ok { OnOk result (out.new.items ≡ out.old.items ++ view_text words.now q.now body.now) }
     ensures kept { Extends out.old.items out.new.items }
@@ -227,7 +227,7 @@ fn put_view<'a>(words: &'a [u8], q: &'a QName, body: &'a Text, out: &mut Vec<u8>
     put!(out; Words(words), Path(q), Words(b" AS\n"), Body(body), Words(b";\n"))
 }
 
-#[tactic(auto, unfolding(crate::specs::Views::default_text))]
+#[tactic(auto, unfolding(ddl_spelling::specs::Views::default_text))]
 fn put_default<'a>(q: &'a QName, column: &'a Name, text: &'a Text, out: &mut Vec<u8>) -> Written
     ensures ok { OnOk result (out.new.items ≡ out.old.items ++ default_text q.now column.now text.now) }
     ensures kept { Extends out.old.items out.new.items }
@@ -237,7 +237,7 @@ fn put_default<'a>(q: &'a QName, column: &'a Name, text: &'a Text, out: &mut Vec
 }
 
 /// ADD CONSTRAINT .. PRIMARY KEY or UNIQUE, by these words.
-#[tactic(auto, unfolding(crate::specs::Keys::key_text))]
+#[tactic(auto, unfolding(ddl_spelling::specs::Keys::key_text))]
 fn put_key<'a>(
     words: &'a [u8],
     q: &'a QName,
@@ -253,7 +253,7 @@ fn put_key<'a>(
         Words(words), Names(columns), Rest(rest), Words(b";\n"))
 }
 
-#[tactic(auto, unfolding(crate::specs::Keys::foreign_text))]
+#[tactic(auto, unfolding(ddl_spelling::specs::Keys::foreign_text))]
 fn put_foreign<'a>(
     q: &'a QName,
     name: &'a Name,
@@ -272,7 +272,7 @@ fn put_foreign<'a>(
 }
 
 /// CREATE INDEX or CREATE UNIQUE INDEX, by its first words.
-#[tactic(auto, unfolding(crate::specs::Keys::index_text))]
+#[tactic(auto, unfolding(ddl_spelling::specs::Keys::index_text))]
 fn put_index<'a>(
     words: &'a [u8],
     q: &'a QName,
@@ -289,7 +289,7 @@ fn put_index<'a>(
 }
 
 /// COPY with its rows; no columns stand for all.
-#[tactic(auto, unfolding(crate::specs::RowsText::copy_text))]
+#[tactic(auto, unfolding(ddl_spelling::specs::RowsText::copy_text))]
 fn put_copy<'a>(q: &'a QName, columns: &'a [Name], rows: &'a [u8], out: &mut Vec<u8>) -> Written
     ensures ok { OnOk result (out.new.items ≡ out.old.items ++ copy_text q.now columns.now rows.now) }
     ensures kept { Extends out.old.items out.new.items }
@@ -302,7 +302,7 @@ fn put_copy<'a>(q: &'a QName, columns: &'a [Name], rows: &'a [u8], out: &mut Vec
     }
 }
 
-#[tactic(auto, unfolding(crate::specs::Spelling::domain_check_text))]
+#[tactic(auto, unfolding(ddl_spelling::specs::Spelling::domain_check_text))]
 fn put_domain_check<'a>(q: &'a QName, name: &'a Name, text: &'a Text, out: &mut Vec<u8>) -> Written
     ensures ok { OnOk result (out.new.items ≡ out.old.items ++ domain_check_text q.now name.now text.now) }
     ensures kept { Extends out.old.items out.new.items }
@@ -310,7 +310,7 @@ fn put_domain_check<'a>(q: &'a QName, name: &'a Name, text: &'a Text, out: &mut 
     put!(out; Words(b"ALTER DOMAIN "), Path(q), Words(b"\n    ADD "), Check(name, text), Words(b";\n"))
 }
 
-#[tactic(auto, unfolding(crate::specs::Roles::changes_text))]
+#[tactic(auto, unfolding(ddl_spelling::specs::Roles::changes_text))]
 fn put_changes<'a>(name: &'a Name, changes: &'a RoleChanges, out: &mut Vec<u8>) -> Written
     ensures ok { OnOk result (out.new.items ≡ out.old.items ++ changes_text name.now changes.now) }
     ensures kept { Extends out.old.items out.new.items }
@@ -324,7 +324,7 @@ fn put_changes<'a>(name: &'a Name, changes: &'a RoleChanges, out: &mut Vec<u8>) 
         GivenLiteral(b" VALID UNTIL ", &changes.valid_until), Words(b";\n"))
 }
 
-#[tactic(auto, unfolding(crate::specs::Roles::database_text))]
+#[tactic(auto, unfolding(ddl_spelling::specs::Roles::database_text))]
 fn put_database<'a>(name: &'a Name, encoding: Option<Encoding>, out: &mut Vec<u8>) -> Written
     ensures ok { OnOk result (out.new.items ≡ out.old.items ++ database_text name.now encoding) }
     ensures kept { Extends out.old.items out.new.items }
@@ -333,7 +333,7 @@ fn put_database<'a>(name: &'a Name, encoding: Option<Encoding>, out: &mut Vec<u8
         Words(encoding_words(encoding)), Words(b";\n"))
 }
 
-#[tactic(auto, unfolding(crate::specs::RightsText::comment_text))]
+#[tactic(auto, unfolding(ddl_spelling::specs::RightsText::comment_text))]
 fn put_comment<'a>(object: &'a Commented, text: &'a Option<Text>, out: &mut Vec<u8>) -> Written
     ensures ok { OnOk result (out.new.items ≡ out.old.items ++ comment_text object.now text.now) }
     ensures kept { Extends out.old.items out.new.items }

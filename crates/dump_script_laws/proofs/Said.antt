@@ -13,10 +13,10 @@ use Rattle.cat_rows.specs.declared.catalogue.Catalogue.{Catalogue}
 use Rattle.cat_rows.specs.declared.roles.DatabaseRow.{DatabaseRow}
 use Rattle.copy_text.specs.Texts.{IsName}
 use Rattle.cat_model.specs.declared.grant.Owned.{Owned}
-use Rattle.ddl_lines.specs.CopyRows.{AreRows}
+use Rattle.ddl_laws.specs.Rows.{AreRows}
 use Rattle.grant_laws.specs.Items.{kind_on, IsRoleName}
 use Rattle.ddl_laws.specs.Respelling.{AllWritable}
-use Rattle.ddl_rights.specs.Writable.{IsObject}
+use Rattle.ddl_laws.specs.Writable.{IsObject}
 use Rattle.dep_sort.specs.Ordering.{Sorted}
 use Rattle.graph_parts.specs.declared.object.Obj.{Obj}
 use Rattle.graph_parts.specs.declared.object.ObjKind.{ObjKind}

@@ -2,9 +2,9 @@
 use Rattle.std.proofs.Common.{◌≡◌, Bool, List, Ok, ◌∙◌}
 use Rattle.std.specs.Str.{IsUtf8}
 use Rattle.cat_rows.specs.declared.catalogue.Catalogue.{Catalogue}
-use Rattle.ddl_laws.specs.Respelling.{said}
-use Rattle.ddl_read.specs.declared.located.Located.{Located}
-use Rattle.ddl_read.specs.Reading.{statements_of}
+use Rattle.ddl_laws.specs.Spellings.{said}
+use Rattle.ddl_laws.specs.located.Located.{Located}
+use Rattle.ddl_laws.specs.Reading.{statements_of}
 use Rattle.dep_sort.specs.Ordering.{Sorted, due}
 use Rattle.dump_toc.specs.Toc.{toc_of, toc}
 use Rattle.fmt_text.specs.Script.{script}

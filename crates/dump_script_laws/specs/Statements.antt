@@ -11,7 +11,7 @@ use Rattle.cat_model.specs.Values.{Bytes}
 use Rattle.cat_rows.specs.declared.catalogue.Catalogue.{Catalogue}
 use Rattle.cat_rows.specs.declared.types.TypeRow.{TypeRow}
 use Rattle.cat_book.specs.Chains.{type_of, is_domain_letter}
-use Rattle.ddl_lines.specs.CopyRows.{AreRows}
+use Rattle.ddl_laws.specs.Rows.{AreRows}
 use Rattle.dep_sort.specs.Ordering.{Sorted}
 use Rattle.dump_grants.specs.Stmts.{grant_stmts}
 use Rattle.dump_rows.specs.Rows.{columns_of}

@@ -18,7 +18,7 @@ pub fn put_name(words: &[u8], name: &Name, out: &mut Vec<u8>) -> Result<(), Allo
 }
 
 /// Appends words and a path.
-#[tactic(auto, unfolding(ddl_write::specs::Paths::path))]
+#[tactic(auto, unfolding(ddl_spelling::specs::Paths::path))]
 pub fn put_path(words: &[u8], q: &QName, out: &mut Vec<u8>) -> Result<(), AllocError>
     ensures { OnOk result (out.new.items ≡ out.old.items ++ (words.now ++ path q.now)) }
 {
@@ -29,7 +29,7 @@ pub fn put_path(words: &[u8], q: &QName, out: &mut Vec<u8>) -> Result<(), AllocE
 }
 
 /// Appends words and a type.
-#[tactic(auto, unfolding(ddl_write::specs::Tables::type_text))]
+#[tactic(auto, unfolding(ddl_spelling::specs::Tables::type_text))]
 pub(crate) fn put_type(
     words: &[u8],
     type_name: &TypeName,

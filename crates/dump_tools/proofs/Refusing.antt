@@ -13,8 +13,8 @@ use Rattle.folder_io.specs.Folders.{bytes_of, catalogue_of}
 use Rattle.folder_rows.specs.Reading.{data_of}
 use Rattle.cat_rows.specs.declared.table.SysTable.TheVariants.{PgNamespace}
 use Rattle.cat_model.specs.Values.{Bytes}
-use Rattle.ddl_read.specs.declared.fault.DdlFault.{DdlFault}
-use Rattle.ddl_read.specs.declared.located.Located.{Located}
+use Rattle.ddl_read.specs.fault.DdlFault.{DdlFault}
+use Rattle.ddl_read.specs.located.Located.{Located}
 use Rattle.ddl_read.specs.Reading.{statements_of}
 use Rattle.schema_folders.specs.declared.schemas.SchemaRow.{SchemaRow}
 use Rattle.tool_words.specs.declared.outcome.Limit.{Limit}

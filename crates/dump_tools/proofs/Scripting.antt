@@ -4,7 +4,7 @@ use Rattle.std.proofs.lemmas.List.{take-append-drop}
 use Rattle.std.proofs.lemmas.Bool.{le-leb}
 use Rattle.dump_ports.specs.Tree.{Tree}
 use Rattle.cat_model.specs.Values.{Bytes}
-use Rattle.ddl_read.specs.declared.located.Located.{Located}
+use Rattle.ddl_read.specs.located.Located.{Located}
 use Rattle.tool_words.specs.declared.outcome.Limit.{Limit}
 use Rattle.tool_words.specs.declared.outcome.Limit.TheVariants.{Script}
 use Rattle.tool_words.specs.declared.outcome.Outcome.{Outcome}

@@ -14,17 +14,17 @@ use Rattle.std.specs.Result.{result_ok}
 use Rattle.cat_rows.specs.declared.catalogue.Catalogue.{Catalogue}
 use Rattle.cat_names.specs.Naming.{boot as boot_role}
 use Rattle.cat_sound.specs.Fit.{IsFit}
-use Rattle.ddl_laws.specs.Respelling.{said as statements_in}
+use Rattle.ddl_read.specs.Spellings.{said as statements_in}
 use Rattle.sound_texts.specs.Grammar.{grammar}
 use Rattle.cat_model.specs.declared.words.What.TheVariants.{Unbuilt}
-use Rattle.ddl_read.specs.declared.fault.DdlFault.{DdlFault}
+use Rattle.ddl_read.specs.fault.DdlFault.{DdlFault}
 use Rattle.ddl_read.specs.Reading.{statements_of}
 use Rattle.openings.specs.Openings.{opened, opened_folder, export_named}
 use Rattle.saved_folders.specs.Folders.{Texts, folder_saved as folder_stored}
 use Rattle.saved_folders.specs.Exports.{ReadsAs}
 use Rattle.cat_same.specs.Verdicts.{IsLeastDifference}
 use Rattle.schema_folders.specs.declared.schemas.SchemaRow.{SchemaRow}
-use Rattle.ddl_read.specs.declared.located.Located.{Located}
+use Rattle.ddl_read.specs.located.Located.{Located}
 use Rattle.tool_words.specs.declared.outcome.Limit.{Limit}
 use Rattle.tool_words.specs.declared.outcome.Limit.TheVariants.{Script as ScriptLimit, Archive as ArchiveLimit}
 use Rattle.tool_words.specs.declared.outcome.Outcome.{Outcome}

@@ -2,7 +2,7 @@
 ghost use Rattle.std.specs.Prelude.{◌≡◌, ℕ, ◌⊎◌, Bool, List, Option, Some, None, true, false, IfOk, IfErr, IfSome, OnOk, OnErr, Result, Ok, Err};
 ghost use Rattle.std.specs.Result.{result_ok};
 ghost use Rattle.tool_words.specs.declared.words.Teller.{Teller};
-ghost use Rattle.ddl_read.specs.declared.located.Located.{Located as TheLocated};
+ghost use Rattle.ddl_read.specs.located.Located.{Located as TheLocated};
 ghost use Rattle.dump_ports.specs.Tree.{Tree};
 ghost use Rattle.cat_model.specs.Values.{Bytes};
 ghost use Rattle.cat_names.specs.Naming.{boot as boot_role};

@@ -3,9 +3,9 @@ use Rattle.std.proofs.Common.{◌≡◌, ℕ, Bool, List, Option, Some, Ok}
 use Rattle.dump_ports.specs.Tree.{Tree}
 use Rattle.cat_model.specs.Values.{Bytes}
 use Rattle.cat_names.specs.Naming.{boot}
-use Rattle.ddl_read.specs.declared.located.Located.{Located}
-use Rattle.ddl_read.specs.Reading.{statements_of}
-use Rattle.ddl_laws.specs.Respelling as laws
+use Rattle.ddl_laws.specs.located.Located.{Located}
+use Rattle.ddl_laws.specs.Reading.{statements_of}
+use Rattle.ddl_laws.specs.Spellings as laws
 use Rattle.ddl_laws.proofs.Respelled.{read_is_writable}
 use Rattle.exports.specs.Exports.{Exported}
 use Rattle.openings.specs.Openings.{opened_folder, export_named}

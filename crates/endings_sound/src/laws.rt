@@ -3,8 +3,8 @@ ghost use Rattle.std.specs.Prelude.{◌≡◌, ℕ, Bool, List, Option, Some, Ok
 ghost use Rattle.dump_ports.specs.Tree.{Tree};
 ghost use Rattle.cat_model.specs.Values.{Bytes};
 ghost use Rattle.cat_names.specs.Naming.{boot};
-ghost use Rattle.ddl_read.specs.declared.located.Located.{Located};
-ghost use Rattle.ddl_read.specs.Reading.{statements_of};
+ghost use Rattle.ddl_laws.specs.located.Located.{Located};
+ghost use Rattle.ddl_laws.specs.Reading.{statements_of};
 ghost use Rattle.exports.specs.Exports.{Exported};
 ghost use Rattle.openings.specs.Openings.{opened_folder, export_named};
 ghost use Rattle.opening_sound.specs.Export.{CanBeExported};

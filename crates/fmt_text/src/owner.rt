@@ -111,7 +111,7 @@ pub fn owned_object(alloc: Global, entry: &Entry) -> Result<Option<Owned>, Alloc
 }
 
 /// Appends the statement that gives an object to a role.
-#[tactic(auto, unfolding(ddl_write::specs::Spelling::spelling))]
+#[tactic(auto, unfolding(ddl_spelling::specs::Spelling::spelling))]
 fn put_owner_to(object: Owned, role: Name, out: &mut Vec<u8>) -> Result<(), AllocError>
     ensures ok { OnOk result (out.new.items ≡ out.old.items ++ owner_text object role) }
     ensures kept { Extends out.old.items out.new.items }

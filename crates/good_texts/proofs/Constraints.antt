@@ -18,35 +18,35 @@ use Rattle.cat_model.specs.declared.stmt.Stmt.{Stmt}
 use Rattle.cat_model.specs.declared.stmt.Stmt.TheVariants as stmt
 use Rattle.cat_sound.specs.Itself.{check_of, IsConstraint, IsOfKind}
 use Rattle.cat_model.specs.Values.{Bytes}
-use Rattle.ddl_parts.specs.Collecting.{Collected, collected, collected_within, collected_by}
-use Rattle.ddl_parts.specs.Expressions.{nested}
-use Rattle.ddl_parts.specs.Lexemes.{Lexeme, start_of, is_word}
-use Rattle.ddl_parts.specs.Parts.{Part, mark, seen, branch, one_of, ◌▸◌}
-use Rattle.ddl_parts.specs.Pieces.{lexemes}
-use Rattle.ddl_parts.specs.declared.pieces.Piece.{Piece}
-use Rattle.ddl_forms.specs.Texts.{semicolon}
-use Rattle.ddl_forms.proofs.Closing.{ends_with, only_last}
-use Rattle.ddl_forms.proofs.Expressions.{expression_as}
-use Rattle.ddl_forms.proofs.Putting.{IsPut, nothing_follows, joined-append}
-use Rattle.ddl_forms.proofs.Standing.{Stood, placed}
-use Rattle.ddl_forms.proofs.Tokens.{none, space, newline}
-use Rattle.ddl_forms.proofs.Written.{Written, heard_as, is_key, name_as, path_as, then_as, lead_as, close_as, word_as, word_then, choose_as, seen_as, ending_as}
-use Rattle.ddl_read.specs.declared.alters.Constraint.{Constraint}
-use Rattle.ddl_read.specs.declared.alters.Constraint.TheVariants.{Check, Primary, Unique, Foreign as ForeignKey}
-use Rattle.ddl_read.specs.declared.alters.TableChange.TheVariants.{Added}
+use Rattle.ddl_laws.specs.Collecting.{Collected, collected, collected_within, collected_by}
+use Rattle.ddl_laws.specs.Expressions.{nested}
+use Rattle.ddl_laws.specs.Lexemes.{Lexeme, start_of, is_word}
+use Rattle.ddl_laws.specs.Parts.{Part, mark, seen, branch, one_of, ◌▸◌}
+use Rattle.ddl_laws.specs.Pieces.{lexemes}
+use Rattle.ddl_laws.specs.pieces.Piece.{Piece}
+use Rattle.ddl_laws.specs.Texts.{semicolon}
+use Rattle.ddl_laws.proofs.Closing.{ends_with, only_last}
+use Rattle.ddl_laws.proofs.Expressions.{expression_as}
+use Rattle.ddl_laws.proofs.Putting.{IsPut, nothing_follows, joined-append}
+use Rattle.ddl_laws.proofs.Standing.{Stood, placed}
+use Rattle.ddl_laws.proofs.Tokens.{none, space, newline}
+use Rattle.ddl_laws.proofs.Written.{Written, heard_as, is_key, name_as, path_as, then_as, lead_as, close_as, word_as, word_then, choose_as, seen_as, ending_as}
+use Rattle.ddl_laws.specs.alters.Constraint.{Constraint}
+use Rattle.ddl_laws.specs.alters.Constraint.TheVariants.{Check, Primary, Unique, Foreign as ForeignKey}
+use Rattle.ddl_laws.specs.alters.TableChange.TheVariants.{Added}
 use Rattle.ddl_laws.proofs.GrammarLaws.{deferral_laws, reactions_laws}
-use Rattle.ddl_read.specs.declared.fault.DdlFault.{DdlFault}
-use Rattle.ddl_read.specs.AlterGrammar.{added, added_of, own_change, behind_only, key_word, only_changed, altered_table, constrained}
-use Rattle.ddl_read.specs.Grammar.{altered, command, statement, owned_name, owned_path, altered_domain, created, selected, setting}
-use Rattle.ddl_read.specs.RelationGrammar.{altered_sequence}
-use Rattle.ddl_read.specs.CopyGrammar.{copy_from}
-use Rattle.ddl_rights.specs.Grants.{granted, revoked}
-use Rattle.ddl_admin.specs.Comments.{comment_on}
-use Rattle.ddl_admin.specs.Roles.{alter_role}
+use Rattle.ddl_laws.specs.fault.DdlFault.{DdlFault}
+use Rattle.ddl_laws.specs.AlterGrammar.{added, added_of, own_change, behind_only, key_word, only_changed, altered_table, constrained}
+use Rattle.ddl_laws.specs.Grammar.{altered, command, statement, owned_name, owned_path, altered_domain, created, selected, setting}
+use Rattle.ddl_laws.specs.RelationGrammar.{altered_sequence}
+use Rattle.ddl_laws.specs.CopyGrammar.{copy_from}
+use Rattle.ddl_laws.specs.Grants.{granted, revoked}
+use Rattle.ddl_laws.specs.Comments.{comment_on}
+use Rattle.ddl_laws.specs.Roles.{alter_role}
 use Rattle.cat_model.specs.declared.grant.Owned.TheVariants as owned
-use Rattle.ddl_read.specs.Reading.{Whole, whole, completed, first_start, listed}
-use Rattle.ddl_write.specs.Paths.{path, joined, listed as names_listed}
-use Rattle.ddl_write.specs.Keys.{rest_text}
+use Rattle.ddl_laws.specs.Reading.{Whole, whole, completed, first_start, listed}
+use Rattle.ddl_laws.specs.Paths.{path, joined, listed as names_listed}
+use Rattle.ddl_laws.specs.Keys.{rest_text}
 use Rattle.ddl_laws.specs.Readings.{IsStatement, Reads, all_read, one_read}
 use Rattle.ddl_laws.proofs.ReadingLaws.{collected_first, only, statement_closes}
 use Rattle.ddl_laws.proofs.Relations.{constraint_body_as, only_name_as, columns_as, key_rest_as, foreign_rest_as}

@@ -13,28 +13,28 @@ use Rattle.cat_model.specs.declared.object.QName.{QName}
 use Rattle.cat_model.specs.declared.type_name.TypeName.{TypeName}
 use Rattle.cat_model.specs.declared.value.Index.{Index}
 use Rattle.cat_model.specs.Values.{Bytes}
-use Rattle.ddl_parts.specs.declared.pieces.Piece.{Piece}
-use Rattle.ddl_parts.specs.Collecting.{collected}
-use Rattle.ddl_parts.specs.Expressions.{nested, expression, default_text}
-use Rattle.ddl_parts.specs.Laws.{Lawful}
-use Rattle.ddl_parts.specs.Leaves.{name}
-use Rattle.ddl_parts.specs.Lexemes.{Lexeme, starts, start_of, is_sign, is_sign_kind, spelled}
-use Rattle.ddl_parts.specs.Parts.{Part}
-use Rattle.ddl_parts.specs.Pieces.{lexeme_of, lexemes}
-use Rattle.ddl_parts.specs.Types.{type_part}
-use Rattle.ddl_parts.proofs.RunLaws.{default_text_laws, type_laws}
-use Rattle.ddl_forms.specs.Texts.{semicolon, IsPath, IsExpressionText, IsBracketText}
-use Rattle.ddl_forms.proofs.Behind.{Behind, admits, Anything, Words, Safe, End}
-use Rattle.ddl_forms.proofs.Closing.{ends_with, only_last}
-use Rattle.ddl_forms.proofs.Expressions.{nested_plain}
-use Rattle.ddl_forms.proofs.Kept.{AllCame, have_come, whole_text}
-use Rattle.ddl_forms.proofs.Putting.{nothing_follows}
-use Rattle.ddl_forms.proofs.Standing.{Stood, placed, NoSemicolon, IsCollected, collects, collects_all}
-use Rattle.ddl_forms.proofs.Tokens.{none, space}
-use Rattle.ddl_forms.proofs.Types.{type_as}
-use Rattle.ddl_forms.proofs.Written.{Written, is_key, run_as, name_as, path_as, then_as, lead_as, word_as, word_then, end_as, choose_as, seen_as}
-use Rattle.ddl_write.specs.Paths.{path, joined}
-use Rattle.ddl_write.specs.Tables.{type_text}
+use Rattle.ddl_laws.specs.pieces.Piece.{Piece}
+use Rattle.ddl_laws.specs.Collecting.{collected}
+use Rattle.ddl_laws.specs.Expressions.{nested, expression, default_text}
+use Rattle.ddl_laws.specs.Laws.{Lawful}
+use Rattle.ddl_laws.specs.Leaves.{name}
+use Rattle.ddl_laws.specs.Lexemes.{Lexeme, starts, start_of, is_sign, is_sign_kind, spelled}
+use Rattle.ddl_laws.specs.Parts.{Part}
+use Rattle.ddl_laws.specs.Pieces.{lexeme_of, lexemes}
+use Rattle.ddl_laws.specs.Types.{type_part}
+use Rattle.ddl_laws.proofs.RunLaws.{default_text_laws, type_laws}
+use Rattle.ddl_laws.specs.Texts.{semicolon, IsPath, IsExpressionText, IsBracketText}
+use Rattle.ddl_laws.proofs.Behind.{Behind, admits, Anything, Words, Safe, End}
+use Rattle.ddl_laws.proofs.Closing.{ends_with, only_last}
+use Rattle.ddl_laws.proofs.Expressions.{nested_plain}
+use Rattle.ddl_laws.proofs.Kept.{AllCame, have_come, whole_text}
+use Rattle.ddl_laws.proofs.Putting.{nothing_follows}
+use Rattle.ddl_laws.proofs.Standing.{Stood, placed, NoSemicolon, IsCollected, collects, collects_all}
+use Rattle.ddl_laws.proofs.Tokens.{none, space}
+use Rattle.ddl_laws.proofs.Types.{type_as}
+use Rattle.ddl_laws.proofs.Written.{Written, is_key, run_as, name_as, path_as, then_as, lead_as, word_as, word_then, end_as, choose_as, seen_as}
+use Rattle.ddl_laws.specs.Paths.{path, joined}
+use Rattle.ddl_laws.specs.Tables.{type_text}
 use Rattle.row_texts.specs.declared.index_text.IndexText.{IndexText}
 use Rattle.row_texts.specs.DefaultTexts.{default_said}
 use Rattle.row_texts.specs.IndexTexts.{Named, named_index, index_of, index_text as index_text_part, is_bracketed, if_bracketed, index_said}

@@ -7,8 +7,8 @@ use Rattle.cat_model.specs.declared.value.Constraint.{Constraint}
 use Rattle.cat_model.specs.declared.value.Index.{Index}
 use Rattle.cat_model.specs.Values.{Bytes}
 use Rattle.sql_lex.specs.Written.{written_name}
-use Rattle.ddl_write.specs.Keys.{rest_text}
-use Rattle.ddl_write.specs.Paths.{path, listed}
+use Rattle.ddl_laws.specs.Keys.{rest_text}
+use Rattle.ddl_laws.specs.Paths.{path, listed}
 
 -- a body with its semicolon
 abbrev pub body_text : Bytes → Bytes

@@ -12,7 +12,7 @@ ghost use Rattle.cat_model.specs.Values.{Bytes};
 ghost use Rattle.cat_sound.specs.Itself.{check_of, IsConstraint};
 ghost use Rattle.cat_naming.specs.Constraints.{constraint_value};
 ghost use Rattle.constraint_table.specs.Said.{statement_said};
-ghost use Rattle.ddl_write.specs.Tables.{type_text};
+ghost use Rattle.ddl_laws.specs.Tables.{type_text};
 ghost use Rattle.row_texts.specs.DefaultTexts.{default_said};
 ghost use Rattle.row_texts.specs.IndexTexts.{index_said};
 ghost use Rattle.row_texts.specs.TypeTexts.{type_named};

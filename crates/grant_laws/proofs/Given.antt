@@ -16,9 +16,9 @@ use Rattle.cat_model.specs.Lexemes.{same_text}
 use Rattle.cat_model.specs.Values.{Bytes}
 use Rattle.cat_names.specs.declared.rights.GrantKind.{GrantKind}
 use Rattle.cat_names.specs.Rights.{is_empty_list}
-use Rattle.ddl_laws.specs.Respelling.{AllWritable}
-use Rattle.ddl_rights.specs.RightsGrammar.{within, kind_rights}
-use Rattle.ddl_rights.specs.Writable.{kind_of, IsObject, AreRights, IsGrantee}
+use Rattle.ddl_grammar.specs.Respelling.{AllWritable}
+use Rattle.ddl_grammar.specs.RightsGrammar.{within, kind_rights}
+use Rattle.ddl_grammar.specs.Writable.{kind_of, IsObject, AreRights, IsGrantee}
 use Rattle.dump_grants.specs.Held.{all_rights, public_rights, is_plain}
 use Rattle.dump_grants.specs.Holders.{gives, is_name, is_of_role, is_of_public, is_nobody, given, owner_item, public_item, to_other, role_item, name_less, role_items}
 use Rattle.dump_grants.specs.Stmts.{granting, item_stmts, owner_stmts, lacking, public_stmts, role_stmts, all_stmts, are_default, grant_stmts}

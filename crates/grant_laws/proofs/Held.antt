@@ -12,7 +12,7 @@ use Rattle.cat_model.specs.Grants.{no_rights, rights_less}
 use Rattle.cat_names.specs.declared.rights.GrantKind.{GrantKind}
 use Rattle.cat_names.specs.declared.rights.GrantKind.TheVariants as on
 use Rattle.cat_names.specs.Rights.{has_privilege}
-use Rattle.ddl_rights.specs.RightsGrammar.{within}
+use Rattle.ddl_grammar.specs.RightsGrammar.{within}
 use Rattle.dump_grants.specs.Held.{all_rights, code, is_held, is_optional, rights_by, item_of, no_item}
 
 -- each right is one that the kind of object has

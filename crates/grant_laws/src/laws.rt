@@ -5,8 +5,8 @@ ghost use Rattle.acl_text.specs.declared.list.AclItem.{AclItem};
 ghost use Rattle.cat_model.specs.declared.grant.Granted.{Granted};
 ghost use Rattle.cat_model.specs.declared.stmt.Stmt.{Stmt};
 ghost use Rattle.cat_model.specs.Values.{Bytes};
-ghost use Rattle.ddl_laws.specs.Respelling.{AllWritable};
-ghost use Rattle.ddl_rights.specs.Writable.{IsObject};
+ghost use Rattle.ddl_grammar.specs.Respelling.{AllWritable};
+ghost use Rattle.ddl_grammar.specs.Writable.{IsObject};
 ghost use Rattle.dump_grants.specs.Stmts.{grant_stmts};
 ghost use Rattle.grant_laws.specs.Items.{kind_on, IsRoleName, IsItem};
 

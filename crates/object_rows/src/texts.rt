@@ -1,8 +1,8 @@
 //! The texts that rows hold.
 ghost use Rattle.std.specs.Prelude.{◌≡◌, ◌++◌, [], IfOk, Some, OnOk, string_bytes, codes};
-ghost use Rattle.ddl_write.specs.Keys.{rest_text};
-ghost use Rattle.ddl_write.specs.Paths.{path, listed};
-ghost use Rattle.ddl_write.specs.Tables.{type_text};
+ghost use Rattle.ddl_spelling.specs.Keys.{rest_text};
+ghost use Rattle.ddl_spelling.specs.Paths.{path, listed};
+ghost use Rattle.ddl_spelling.specs.Tables.{type_text};
 ghost use Rattle.good_texts.specs.Rows.{body_text, index_words, index_text, key_said, foreign_said, check_said, constraint_text};
 ghost use Rattle.row_texts.specs.SequenceTypes.{sequence_kind};
 
@@ -21,7 +21,7 @@ fn path_text(alloc: Global, q: &QName) -> Result<Text, AllocError>
 }
 
 /// A type as it is named.
-#[tactic(auto, unfolding(ddl_write::specs::Tables::type_text))]
+#[tactic(auto, unfolding(ddl_spelling::specs::Tables::type_text))]
 pub(crate) fn type_text(alloc: Global, name: &TypeName) -> Result<Text, AllocError>
     ensures { IfOk result (λ text. text ≡ type_text name.now) }
 {

@@ -2,8 +2,8 @@
 ghost use Rattle.std.specs.Prelude.{◌≡◌, ◌++◌, OnOk, IfOk, string_bytes, codes};
 ghost use Rattle.std.specs.List.{flat_map};
 ghost use Rattle.copy_text.specs.Texts.{IsText};
-ghost use Rattle.ddl_write.specs.Keys.{rest_text};
-ghost use Rattle.ddl_write.specs.Paths.{path, listed};
+ghost use Rattle.ddl_spelling.specs.Keys.{rest_text};
+ghost use Rattle.ddl_spelling.specs.Paths.{path, listed};
 ghost use Rattle.sql_lex.specs.Written.{written_name};
 
 use cat_model::QName;
@@ -63,7 +63,7 @@ pub(crate) fn put_name(
 }
 
 /// Words and a qualified name.
-#[tactic(auto, unfolding(ddl_write::specs::Paths::path))]
+#[tactic(auto, unfolding(ddl_spelling::specs::Paths::path))]
 pub(crate) fn put_path(
     alloc: Global,
     words: &str,
@@ -87,7 +87,7 @@ fn put_more_names(alloc: Global, names: &[Name], out: &mut String) -> Result<(),
 }
 
 /// Names with commas, in brackets.
-#[tactic(auto, unfolding(ddl_write::specs::Paths::listed))]
+#[tactic(auto, unfolding(ddl_spelling::specs::Paths::listed))]
 pub(crate) fn put_names(alloc: Global, names: &[Name], out: &mut String) -> Result<(), AllocError>
     ensures { OnOk result (string_bytes out.new ≡ string_bytes out.old ++ listed names.now) }
 {

@@ -6,7 +6,7 @@ use Rattle.cat_model.specs.declared.object.QName.{QName}
 use Rattle.cat_model.specs.declared.words.What.{What}
 use Rattle.cat_model.specs.Values.{Bytes}
 use Rattle.cat_rows.specs.declared.catalogue.Catalogue.{Catalogue}
-use Rattle.ddl_read.specs.declared.fault.DdlFault.{DdlFault}
+use Rattle.ddl_laws.specs.fault.DdlFault.{DdlFault}
 use Rattle.dump_toc.specs.Toc.{toc_of, toc}
 use Rattle.dump_script_laws.proofs.Lists.{got_has}
 use Rattle.dump_script_laws.proofs.Orders.{is_dump, toc_is}

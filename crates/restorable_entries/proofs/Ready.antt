@@ -16,7 +16,7 @@ use Rattle.cat_rows.specs.declared.roles.DatabaseRow.{DatabaseRow}
 use Rattle.cat_rows.specs.declared.table.SysTable.TheVariants as table
 use Rattle.cat_rows.specs.RowCells.{database_cells}
 use Rattle.ddl_laws.specs.Respelling.{IsWritable, AllWritable}
-use Rattle.ddl_rights.specs.Writable.{IsObject}
+use Rattle.ddl_laws.specs.Writable.{IsObject}
 use Rattle.dep_sort.specs.Ordering.{Sorted}
 use Rattle.graph_parts.specs.declared.object.Obj.{Obj}
 use Rattle.graph_parts.specs.declared.object.ObjKind.{ObjKind}

@@ -6,10 +6,10 @@ use Rattle.cat_model.specs.declared.grant.Owned.{Owned}
 use Rattle.cat_model.specs.declared.stmt.Stmt.{Stmt}
 use Rattle.cat_model.specs.Values.{Bytes}
 use Rattle.ddl_laws.specs.Laying.{no_more}
-use Rattle.ddl_laws.specs.Respelling.{said}
-use Rattle.ddl_read.specs.declared.fault.DdlFault.{DdlFault}
-use Rattle.ddl_read.specs.declared.located.Located.{Located}
-use Rattle.ddl_read.specs.Reading.{statements_of}
+use Rattle.ddl_laws.specs.Spellings.{said}
+use Rattle.ddl_laws.specs.fault.DdlFault.{DdlFault}
+use Rattle.ddl_laws.specs.located.Located.{Located}
+use Rattle.ddl_laws.specs.Reading.{statements_of}
 use Rattle.fmt_text.specs.Owners.{kind_of, name_in, object_of, owned_object}
 use Rattle.fmt_text.specs.Parts.{is_of_session, is_table_data, text_or_none, body}
 use Rattle.restore_plan.specs.declared.step.Step.{Step}

@@ -3,7 +3,7 @@ use Rattle.std.proofs.Common.{ℕ, List, [], ◌∷◌, ◌++◌, codes, refl}
 use Rattle.cat_model.specs.declared.stmt.Stmt.{Stmt}
 use Rattle.cat_model.specs.declared.stmt.Stmt.TheVariants as stmt
 use Rattle.ddl_laws.proofs.Computing.{reads}
-use Rattle.ddl_read.specs.declared.located.Located.{Located}
+use Rattle.ddl_laws.specs.located.Located.{Located}
 use Rattle.restorable_entries.proofs.Running.{Reads}
 
 abbrev alone : Stmt → ℕ → List Located

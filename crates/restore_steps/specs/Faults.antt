@@ -6,7 +6,7 @@ use Rattle.std.specs.Option.{option_map}
 use Rattle.std.specs.Str.{bytes_eq}
 use Rattle.cat_model.specs.declared.words.What.{What}
 use Rattle.cat_model.specs.declared.words.What.TheVariants as what
-use Rattle.ddl_read.specs.declared.fault.DdlFault.{DdlFault}
+use Rattle.ddl_read.specs.fault.DdlFault.{DdlFault}
 use Rattle.restore_plan.specs.declared.step.Step.{Step}
 use Rattle.restore_plan.specs.declared.entry.Entry as planned
 use Rattle.toc_entry.specs.declared.entry.Entry.{Entry}

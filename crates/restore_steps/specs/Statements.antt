@@ -5,8 +5,8 @@ use Rattle.std.specs.Str.{bytes_eq}
 use Rattle.cat_model.specs.declared.grant.Owned.{Owned}
 use Rattle.cat_model.specs.declared.stmt.Stmt.{Stmt}
 use Rattle.cat_model.specs.declared.stmt.Stmt.TheVariants as stmt
-use Rattle.ddl_read.specs.declared.fault.DdlFault.{DdlFault}
-use Rattle.ddl_read.specs.declared.located.Located.{Located}
+use Rattle.ddl_read.specs.fault.DdlFault.{DdlFault}
+use Rattle.ddl_read.specs.located.Located.{Located}
 use Rattle.ddl_read.specs.Reading.{statements_of}
 use Rattle.fmt_text.specs.Owners.{name_in, owned_object}
 use Rattle.restore_plan.specs.declared.kind.Kind.{Kind}

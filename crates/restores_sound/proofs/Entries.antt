@@ -5,10 +5,10 @@ use Rattle.cat_model.specs.declared.grant.Owned.{Owned}
 use Rattle.cat_model.specs.declared.words.What.{What}
 use Rattle.cat_sound.specs.Fit.{IsFit}
 use Rattle.cat_sound.proofs.Lists.{all-append}
-use Rattle.ddl_read.specs.declared.fault.DdlFault.{DdlFault}
-use Rattle.ddl_read.specs.declared.located.Located.{Located}
-use Rattle.ddl_read.specs.Reading.{statements_of}
-use Rattle.ddl_laws.specs.Respelling.{said}
+use Rattle.ddl_laws.specs.fault.DdlFault.{DdlFault}
+use Rattle.ddl_laws.specs.located.Located.{Located}
+use Rattle.ddl_laws.specs.Reading.{statements_of}
+use Rattle.ddl_laws.specs.Spellings.{said}
 use Rattle.ddl_laws.proofs.Respelled.{read_is_writable}
 use Rattle.restore_plan.specs.declared.entry.Entry as planned
 use Rattle.restore_plan.specs.declared.step.Step.{Step}

@@ -5,10 +5,10 @@ use Rattle.sql_lex.specs.declared.fault.LexFault.{LexFault}
 use Rattle.sql_lex.specs.Next.{◌>>=◌, listed, next_token_of, tokens_within, tokens_of}
 use Rattle.sql_lex.proofs.Passing.{next_at_end, lies_behind}
 use Rattle.cat_model.specs.Values.{Bytes}
-use Rattle.ddl_parts.specs.declared.pieces.Piece.{Piece}
-use Rattle.ddl_parts.specs.Collecting.{Collected, preceded, nothing_more, collected_by, collected_within, collected}
-use Rattle.ddl_parts.specs.Lexemes.{Lexeme, is_sign_kind}
-use Rattle.ddl_parts.specs.Pieces.{lexeme_of, lexemes}
+use Rattle.ddl_part_laws.specs.pieces.Piece.{Piece}
+use Rattle.ddl_part_laws.specs.Collecting.{Collected, preceded, nothing_more, collected_by, collected_within, collected}
+use Rattle.ddl_part_laws.specs.Lexemes.{Lexeme, is_sign_kind}
+use Rattle.ddl_part_laws.specs.Pieces.{lexeme_of, lexemes}
 use Rattle.row_texts.specs.Tokens.{pieces_from, are_none, is_ended_once, tokens_behind, all_tokens, is_no_token, is_end}
 
 -- what was collected, where it is all

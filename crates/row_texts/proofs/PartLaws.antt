@@ -3,19 +3,19 @@ use Rattle.std.proofs.Common.{Bool, true, false, refl, codes, [], ◌∷◌}
 use Rattle.cat_model.specs.declared.object.QName.{QName}
 use Rattle.cat_model.specs.declared.constraint.SequenceKind.TheVariants.{SmallInt, Integer, BigInt}
 use Rattle.cat_model.specs.Values.{Bytes}
-use Rattle.ddl_parts.specs.Expressions.{expression}
-use Rattle.ddl_parts.specs.Laws.{Lawful, Begins}
-use Rattle.ddl_parts.specs.Leaves.{name, qualified}
-use Rattle.ddl_parts.specs.Lexemes.{is_word, never}
-use Rattle.ddl_parts.specs.Parts.{Part, choose, ◌then◌, ◌▸◌}
-use Rattle.ddl_parts.proofs.Steps.{avoids_never}
-use Rattle.ddl_parts.proofs.Simple.{nothing_laws, seen_laws, seen_begins}
-use Rattle.ddl_parts.proofs.Sequence.{then_laws, lead_begins}
-use Rattle.ddl_parts.proofs.Choice.{choose_apart}
-use Rattle.ddl_parts.proofs.Shorter.{word_agrees}
-use Rattle.ddl_parts.proofs.Leads.{name_laws, qualified_laws, word_laws, ended_laws, words_apart}
-use Rattle.ddl_parts.proofs.RunLaws.{expression_laws, expression_ends}
-use Rattle.ddl_parts.proofs.Tables.{one_of_laws}
+use Rattle.ddl_part_laws.specs.Expressions.{expression}
+use Rattle.ddl_part_laws.specs.Laws.{Lawful, Begins}
+use Rattle.ddl_part_laws.specs.Leaves.{name, qualified}
+use Rattle.ddl_part_laws.specs.Lexemes.{is_word, never}
+use Rattle.ddl_part_laws.specs.Parts.{Part, choose, ◌then◌, ◌▸◌}
+use Rattle.ddl_part_laws.proofs.Steps.{avoids_never}
+use Rattle.ddl_part_laws.proofs.Simple.{nothing_laws, seen_laws, seen_begins}
+use Rattle.ddl_part_laws.proofs.Sequence.{then_laws, lead_begins}
+use Rattle.ddl_part_laws.proofs.Choice.{choose_apart}
+use Rattle.ddl_part_laws.proofs.Shorter.{word_agrees}
+use Rattle.ddl_part_laws.proofs.{Leads.name_laws, Leads.qualified_laws, Leads.word_laws, Leads.ended_laws, Basics.words_apart}
+use Rattle.ddl_part_laws.proofs.RunLaws.{expression_laws, expression_ends}
+use Rattle.ddl_part_laws.proofs.Tables.{one_of_laws}
 use Rattle.row_texts.specs.IndexTexts.{Named, named_index, index_of, index_part, index_text}
 use Rattle.row_texts.specs.SequenceTypes.{type_word, sequence_type}
 use Rattle.row_texts.specs.ViewTexts.{view_text}

@@ -5,11 +5,11 @@ use Rattle.std.specs.Option.{option_and_then}
 use Rattle.std.proofs.lemmas.List.{drop_all}
 use Rattle.std.proofs.lemmas.Bool.Decides.{leb_tells}
 use Rattle.cat_model.specs.Values.{Bytes}
-use Rattle.ddl_parts.specs.declared.fault.ReadError.{ReadError}
-use Rattle.ddl_parts.specs.Laws.{Lawful}
-use Rattle.ddl_parts.specs.Lexemes.{Lexeme}
-use Rattle.ddl_parts.specs.Parts.{Part, Reading}
-use Rattle.ddl_parts.specs.Pieces.{GivesPart}
+use Rattle.ddl_part_laws.specs.fault.ReadError.{ReadError}
+use Rattle.ddl_part_laws.specs.Laws.{Lawful}
+use Rattle.ddl_part_laws.specs.Lexemes.{Lexeme}
+use Rattle.ddl_part_laws.specs.Parts.{Part, Reading}
+use Rattle.ddl_part_laws.specs.Pieces.{GivesPart}
 use Rattle.row_texts.specs.Tokens.{all_tokens}
 use Rattle.row_texts.specs.Texts.{if_no_more, all_read, whole, SpellsWhole}
 

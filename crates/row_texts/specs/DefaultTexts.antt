@@ -2,7 +2,7 @@
 -- Outside brackets it has no comma, no DEFAULT, no CONSTRAINT and no NOT NULL.
 use Rattle.std.specs.Prelude.{Bool, Option, is_some}
 use Rattle.cat_model.specs.Values.{Bytes}
-use Rattle.ddl_parts.specs.Expressions.{default_text}
+use Rattle.ddl_part_laws.specs.Expressions.{default_text}
 use Rattle.row_texts.specs.Texts.{whole}
 
 unfoldable pub default_said : Bytes → Option Bytes

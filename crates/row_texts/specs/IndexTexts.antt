@@ -4,10 +4,10 @@ use Rattle.std.specs.Prelude.{Bool, true, false, ◌==◌, [], ◌∷◌, Option
 use Rattle.std.specs.Option.{option_and_then}
 use Rattle.cat_model.specs.declared.object.QName.{QName}
 use Rattle.cat_model.specs.Values.{Bytes}
-use Rattle.ddl_parts.specs.Expressions.{expression}
-use Rattle.ddl_parts.specs.Leaves.{name, qualified}
-use Rattle.ddl_parts.specs.Lexemes.{is_word}
-use Rattle.ddl_parts.specs.Parts.{Part, seen, choose, ◌then◌, ◌▸◌}
+use Rattle.ddl_part_laws.specs.Expressions.{expression}
+use Rattle.ddl_part_laws.specs.Leaves.{name, qualified}
+use Rattle.ddl_part_laws.specs.Lexemes.{is_word}
+use Rattle.ddl_part_laws.specs.Parts.{Part, seen, choose, ◌then◌, ◌▸◌}
 use Rattle.row_texts.specs.declared.index_text.IndexText.{IndexText}
 use Rattle.row_texts.specs.Texts.{whole}
 

@@ -4,8 +4,8 @@ use Rattle.std.specs.Prelude.{[], ◌∷◌, Option, codes}
 use Rattle.cat_model.specs.declared.constraint.SequenceKind.{SequenceKind}
 use Rattle.cat_model.specs.declared.constraint.SequenceKind.TheVariants.{SmallInt, Integer, BigInt}
 use Rattle.cat_model.specs.Values.{Bytes}
-use Rattle.ddl_parts.specs.Lexemes.{never}
-use Rattle.ddl_parts.specs.Parts.{Part, Branch, one_of, nothing}
+use Rattle.ddl_part_laws.specs.Lexemes.{never}
+use Rattle.ddl_part_laws.specs.Parts.{Part, Branch, one_of, nothing}
 use Rattle.row_texts.specs.Texts.{whole}
 
 -- a word that stands for a type

@@ -3,8 +3,8 @@
 use Rattle.std.specs.Prelude.{◌≡◌, List, [], ◌∷◌, Option, Some, None, Ok, Err}
 use Rattle.std.specs.Option.{option_and_then}
 use Rattle.cat_model.specs.Values.{Bytes}
-use Rattle.ddl_parts.specs.Lexemes.{Lexeme}
-use Rattle.ddl_parts.specs.Parts.{Part, Reading}
+use Rattle.ddl_part_laws.specs.Lexemes.{Lexeme}
+use Rattle.ddl_part_laws.specs.Parts.{Part, Reading}
 use Rattle.row_texts.specs.Tokens.{all_tokens}
 
 abbrev pub if_no_more : {A : Type 0} → A → List Lexeme → Option A

@@ -5,9 +5,9 @@ use Rattle.sql_lex.specs.declared.token.Token.{Token}
 use Rattle.sql_lex.specs.declared.fault.LexFault.{LexFault}
 use Rattle.sql_lex.specs.Next.{next_token_of, tokens_of}
 use Rattle.cat_model.specs.Values.{Bytes}
-use Rattle.ddl_parts.specs.declared.pieces.Piece.{Piece}
-use Rattle.ddl_parts.specs.Lexemes.{Lexeme, is_sign_kind}
-use Rattle.ddl_parts.specs.Pieces.{lexemes}
+use Rattle.ddl_part_laws.specs.pieces.Piece.{Piece}
+use Rattle.ddl_part_laws.specs.Lexemes.{Lexeme, is_sign_kind}
+use Rattle.ddl_part_laws.specs.Pieces.{lexemes}
 
 -- each token with the end of the one before it
 abbrev pub pieces_from : ℕ → List Token → List Piece

@@ -3,7 +3,7 @@
 use Rattle.std.specs.Prelude.{Option}
 use Rattle.cat_model.specs.declared.type_name.TypeName.{TypeName}
 use Rattle.cat_model.specs.Values.{Bytes}
-use Rattle.ddl_parts.specs.Types.{type_part}
+use Rattle.ddl_part_laws.specs.Types.{type_part}
 use Rattle.row_texts.specs.Texts.{whole}
 
 unfoldable pub type_named : Bytes → Option TypeName

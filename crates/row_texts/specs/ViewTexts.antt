@@ -2,9 +2,9 @@
 -- The body is kept from its first token to its last, without the semicolon.
 use Rattle.std.specs.Prelude.{Option}
 use Rattle.cat_model.specs.Values.{Bytes}
-use Rattle.ddl_parts.specs.Expressions.{expression}
-use Rattle.ddl_parts.specs.Lexemes.{is_sign}
-use Rattle.ddl_parts.specs.Parts.{Part, ◌◂◌}
+use Rattle.ddl_part_laws.specs.Expressions.{expression}
+use Rattle.ddl_part_laws.specs.Lexemes.{is_sign}
+use Rattle.ddl_part_laws.specs.Parts.{Part, ◌◂◌}
 use Rattle.row_texts.specs.Texts.{whole}
 
 unfoldable pub view_text : Part Bytes

@@ -1,13 +1,13 @@
 //! Texts of indexes.
 ghost use Rattle.std.specs.Prelude.{◌≡◌, drop, IfOk};
-ghost use Rattle.ddl_parts.specs.Pieces.{GivesPart};
+ghost use Rattle.ddl_part_laws.specs.Pieces.{GivesPart};
 ghost use Rattle.row_texts.specs.Texts.{whole};
 ghost use Rattle.row_texts.specs.IndexTexts.{index_part, index_text, is_bracketed, if_bracketed, index_said};
 
 use crate::tokens::{all_read, all_tokens};
 use cat_model::QName;
 use copy_text::{Name, Text};
-use ddl_parts::{Pieces, ReadError, qualified_name};
+use ddl_pieces::{Pieces, ReadError, qualified_name};
 use std::alloc::{AllocError, Global};
 
 /// What the text of an index says.

@@ -1,11 +1,11 @@
 //! Texts of the types of sequences.
 ghost use Rattle.std.specs.Prelude.{◌≡◌, drop, IfOk};
-ghost use Rattle.ddl_parts.specs.Pieces.{GivesPart};
+ghost use Rattle.ddl_part_laws.specs.Pieces.{GivesPart};
 ghost use Rattle.row_texts.specs.SequenceTypes.{sequence_type, sequence_kind};
 
 use crate::tokens::{all_read, all_tokens};
 use cat_model::SequenceKind;
-use ddl_parts::{Pieces, ReadError};
+use ddl_pieces::{Pieces, ReadError};
 use std::alloc::{AllocError, Global};
 
 // A word that is the type of a sequence.

@@ -1,12 +1,12 @@
 //! All tokens of a text, and what was read of them as a whole.
 ghost use Rattle.std.specs.Prelude.{◌≡◌, ◌≤◌, length, Err, IfOk, OnErr};
-ghost use Rattle.ddl_parts.specs.declared.fault.ReadError.TheVariants as errors;
-ghost use Rattle.ddl_parts.specs.Parts.{Reading};
-ghost use Rattle.ddl_parts.specs.Pieces.{GivesPart};
+ghost use Rattle.ddl_part_laws.specs.fault.ReadError.TheVariants as errors;
+ghost use Rattle.ddl_part_laws.specs.Parts.{Reading};
+ghost use Rattle.ddl_part_laws.specs.Pieces.{GivesPart};
 ghost use Rattle.row_texts.specs.Tokens.{is_end, all_tokens};
 ghost use Rattle.row_texts.specs.Texts.{all_read};
 
-use ddl_parts::{Pieces, ReadError, Run, collect};
+use ddl_pieces::{Pieces, ReadError, Run, collect};
 use sql_lex::next_token;
 use std::alloc::{AllocError, Global};
 

@@ -1,11 +1,11 @@
 //! Texts of views.
 ghost use Rattle.std.specs.Prelude.{◌≡◌, drop, IfOk};
-ghost use Rattle.ddl_parts.specs.Pieces.{GivesPart};
+ghost use Rattle.ddl_part_laws.specs.Pieces.{GivesPart};
 ghost use Rattle.row_texts.specs.ViewTexts.{view_text, view_body};
 
 use crate::tokens::{all_read, all_tokens};
 use copy_text::Text;
-use ddl_parts::{Pieces, ReadError};
+use ddl_pieces::{Pieces, ReadError};
 use std::alloc::{AllocError, Global};
 
 // A body with a semicolon behind it.

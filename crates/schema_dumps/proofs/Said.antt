@@ -20,9 +20,9 @@ use Rattle.cat_rows.specs.declared.catalogue.Catalogue.{Catalogue}
 use Rattle.cat_rows.specs.declared.roles.AuthidRow.{AuthidRow}
 use Rattle.cat_rows.specs.declared.roles.DatabaseRow.{DatabaseRow}
 use Rattle.cat_rows.specs.declared.schemas.NamespaceRow.{NamespaceRow}
-use Rattle.ddl_laws.specs.Respelling.{said}
-use Rattle.ddl_read.specs.declared.located.Located.{Located}
-use Rattle.ddl_read.specs.Reading.{statements_of}
+use Rattle.ddl_scripts.specs.Spellings.{said}
+use Rattle.ddl_scripts.specs.declared.located.Located.{Located}
+use Rattle.ddl_scripts.specs.Reading.{statements_of}
 use Rattle.dep_sort.specs.Cut.{cut}
 use Rattle.dep_sort.specs.Ordering.{Sorted, due}
 use Rattle.dep_sort.specs.Sound.{IsOrder}

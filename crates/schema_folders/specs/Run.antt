@@ -9,7 +9,7 @@ use Rattle.cat_model.specs.Effects.{effect}
 use Rattle.cat_model.specs.References.{is_system}
 use Rattle.cat_model.specs.Trees.{run}
 use Rattle.cat_model.specs.Values.{Bytes, Named}
-use Rattle.ddl_read.specs.declared.located.Located.{Located}
+use Rattle.ddl_read.specs.located.Located.{Located}
 use Rattle.schema_folders.specs.declared.schemas.SchemaRow.{SchemaRow}
 use Rattle.schema_folders.specs.declared.schemas.SchemaCause.{SchemaCause}
 use Rattle.schema_folders.specs.declared.schemas.SchemaCause.TheVariants as why

@@ -12,11 +12,11 @@ use Rattle.cat_model.specs.declared.grant.Owned.{Owned}
 use Rattle.cat_model.specs.declared.grant.Owned.TheVariants as owned
 use Rattle.cat_model.specs.declared.stmt.Stmt.{Stmt}
 use Rattle.cat_model.specs.declared.stmt.Stmt.TheVariants as stmt
-use Rattle.ddl_read.specs.declared.located.Located.{Located}
-use Rattle.ddl_read.specs.Reading.{statements_of}
-use Rattle.ddl_write.specs.Spelling.{spelling, owner_text}
+use Rattle.ddl_laws.specs.located.Located.{Located}
+use Rattle.ddl_laws.specs.Reading.{statements_of}
+use Rattle.ddl_laws.specs.Spelling.{spelling, owner_text}
 use Rattle.ddl_laws.specs.Laying.{Lays, no_more, empty_line, statement_text}
-use Rattle.ddl_laws.specs.Respelling.{IsPath, IsOwnedName, said}
+use Rattle.ddl_laws.specs.{Respelling.IsPath, Respelling.IsOwnedName, Spellings.said}
 use Rattle.fmt_text.specs.declared.owner.OwnedKind.{OwnedKind}
 use Rattle.fmt_text.specs.declared.owner.OwnedKind.TheVariants as kinds
 use Rattle.fmt_text.specs.Owners.{name_in, joined, path_of, object_of, owned_object, given, owner_part}

@@ -5,11 +5,11 @@ use Rattle.sql_lex.specs.Written.{begins_bare, in_bare, is_bare, doubled, quoted
 use Rattle.sql_lex.specs.Bytes.{is_digit}
 use Rattle.cat_model.specs.declared.stmt.Stmt.{Stmt}
 use Rattle.cat_model.specs.declared.stmt.Stmt.TheVariants as stmt
-use Rattle.ddl_read.specs.declared.located.Located.{Located}
-use Rattle.ddl_read.specs.Reading.{statements_of}
-use Rattle.ddl_write.specs.Spelling.{set_text, setting_text, spelling}
+use Rattle.ddl_laws.specs.located.Located.{Located}
+use Rattle.ddl_laws.specs.Reading.{statements_of}
+use Rattle.ddl_laws.specs.Spelling.{set_text, setting_text, spelling}
 use Rattle.ddl_laws.specs.Laying.{Lays, no_more, empty_line, statement_text}
-use Rattle.ddl_laws.specs.Respelling.{AllWritable, said}
+use Rattle.ddl_laws.specs.{Respelling.AllWritable, Spellings.said}
 use Rattle.ddl_laws.proofs.Computing.{reads}
 use Rattle.fmt_text.specs.Script.{session}
 use Rattle.script_laws.specs.Scripts.{session_statements}

@@ -7,11 +7,11 @@ use Rattle.std.specs.Str.{IsUtf8}
 use Rattle.cat_model.specs.declared.grant.Owned.{Owned}
 use Rattle.cat_model.specs.declared.stmt.Stmt.{Stmt}
 use Rattle.cat_model.specs.declared.stmt.Stmt.TheVariants as stmt
-use Rattle.ddl_read.specs.declared.fault.DdlFault.{DdlFault}
-use Rattle.ddl_read.specs.declared.located.Located.{Located}
-use Rattle.ddl_read.specs.Reading.{statements_of}
+use Rattle.ddl_laws.specs.fault.DdlFault.{DdlFault}
+use Rattle.ddl_laws.specs.located.Located.{Located}
+use Rattle.ddl_laws.specs.Reading.{statements_of}
 use Rattle.ddl_laws.specs.Laying.{Lays}
-use Rattle.ddl_laws.specs.Respelling.{said}
+use Rattle.ddl_laws.specs.Spellings.{said}
 use Rattle.fmt_text.specs.Owners.{name_in, owned_object}
 use Rattle.fmt_text.specs.Parts.{is_of_session, body}
 use Rattle.toc_entry.specs.declared.entry.Entry.{Entry}

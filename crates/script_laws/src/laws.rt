@@ -2,9 +2,9 @@
 ghost use Rattle.std.specs.Prelude.{◌≡◌, Bool, List, Ok};
 ghost use Rattle.std.specs.List.{AllByRecursion};
 ghost use Rattle.std.specs.Str.{IsUtf8};
-ghost use Rattle.ddl_read.specs.declared.located.Located.{Located};
-ghost use Rattle.ddl_read.specs.Reading.{statements_of};
-ghost use Rattle.ddl_laws.specs.Respelling.{said};
+ghost use Rattle.ddl_laws.specs.located.Located.{Located};
+ghost use Rattle.ddl_laws.specs.Reading.{statements_of};
+ghost use Rattle.ddl_laws.specs.Spellings.{said};
 ghost use Rattle.fmt_text.specs.Script.{script};
 ghost use Rattle.toc_entry.specs.declared.head.Head.{Head};
 ghost use Rattle.script_laws.specs.Examples.{Examples};

@@ -8,8 +8,8 @@ use Rattle.cat_names.specs.DataSets.{TextsByOid}
 use Rattle.cat_names.specs.Naming.{boot}
 use Rattle.openings.specs.Loads.{rows_fault}
 use Rattle.cat_sound.specs.Fit.{IsFit}
-use Rattle.ddl_read.specs.declared.located.Located.{Located}
-use Rattle.ddl_laws.specs.Respelling as laws
+use Rattle.ddl_read.specs.located.Located.{Located}
+use Rattle.ddl_read.specs.Spellings as laws
 use Rattle.openings.specs.Exports.{Exported}
 use Rattle.openings.specs.Openings.{export_named}
 use Rattle.opening_written.specs.Export.{CanBeExported}

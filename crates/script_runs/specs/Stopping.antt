@@ -2,7 +2,7 @@
 use Rattle.std.specs.Prelude.{ℕ, Bool, List, [], ◌∷◌, ◌++◌, Option, Some, None, Result, Ok, Err, codes, decimal, if◌then◌else◌}
 use Rattle.cat_model.specs.declared.cause.Cause.{Cause}
 use Rattle.cat_model.specs.Values.{Bytes, Named}
-use Rattle.ddl_read.specs.declared.located.Located.{Located}
+use Rattle.ddl_read.specs.located.Located.{Located}
 use Rattle.schema_folders.specs.Run.{said, catalogue_after, refusals}
 use Rattle.tool_words.specs.Messages.{Refusal, cause_text, report}
 

@@ -6,7 +6,7 @@ ghost use Rattle.eng_steps.specs.Outcomes.{IsRefusal};
 ghost use Rattle.cat_names.specs.Naming.{boot as boot_role};
 ghost use Rattle.std.specs.List.{AllByRecursion};
 ghost use Rattle.cat_sound.specs.Fit.{IsFit};
-ghost use Rattle.ddl_laws.specs.Respelling.{said as statements_in};
+ghost use Rattle.ddl_read.specs.Spellings.{said as statements_in};
 ghost use Rattle.opening_written.specs.Export.{CanBeExported};
 ghost use Rattle.sound_texts.specs.Grammar.{grammar};
 ghost use Rattle.tool_words.specs.Messages.{Refusal, report};

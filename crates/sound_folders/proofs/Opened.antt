@@ -18,9 +18,9 @@ use Rattle.tool_words.specs.Answers.{◌>>=◌}
 use Rattle.exports.specs.Cells.{catalogue_with}
 use Rattle.exports.specs.Exports.{Exported, told, well_formed, have_rows, export_with, export_of}
 use Rattle.openings.specs.Openings.{meet, opened, opened_folder, export_named}
-use Rattle.ddl_read.specs.declared.located.Located.{Located}
-use Rattle.ddl_read.specs.Reading.{statements_of}
-use Rattle.ddl_laws.specs.Respelling.{said}
+use Rattle.ddl_scripts.specs.declared.located.Located.{Located}
+use Rattle.ddl_scripts.specs.Reading.{statements_of}
+use Rattle.ddl_scripts.specs.Spellings.{said}
 use Rattle.model_laws.specs.Examples.{catalogue_after}
 use Rattle.cat_sound.specs.Sound.{IsSound}
 use Rattle.sound_texts.specs.Grammar.{grammar}

@@ -23,15 +23,15 @@ use Rattle.cat_model.specs.declared.value.Value.TheVariants as value
 use Rattle.cat_model.specs.KeyEffects.{key_value, foreign_value}
 use Rattle.cat_model.specs.RelationEffects.{check_value}
 use Rattle.cat_model.specs.Values.{Bytes}
-use Rattle.ddl_parts.specs.declared.pieces.Piece.{Piece}
-use Rattle.ddl_parts.specs.Collecting.{collected}
-use Rattle.ddl_parts.specs.Expressions.{nested, expression, default_text}
-use Rattle.ddl_parts.specs.Leaves.{name, qualified}
-use Rattle.ddl_parts.specs.Lexemes.{Lexeme, starts, start_of, is_sign, is_sign_kind, is_word, spelled}
-use Rattle.ddl_parts.specs.Parts.{Part, seen, choose, ◌then◌, ◌▸◌}
-use Rattle.ddl_parts.specs.Pieces.{lexeme_of, lexemes}
-use Rattle.ddl_parts.specs.Types.{type_part}
-use Rattle.ddl_parts.proofs.RunLaws.{default_text_laws, type_laws}
+use Rattle.ddl_part_laws.specs.pieces.Piece.{Piece}
+use Rattle.ddl_part_laws.specs.Collecting.{collected}
+use Rattle.ddl_part_laws.specs.Expressions.{nested, expression, default_text}
+use Rattle.ddl_part_laws.specs.Leaves.{name, qualified}
+use Rattle.ddl_part_laws.specs.Lexemes.{Lexeme, starts, start_of, is_sign, is_sign_kind, is_word, spelled}
+use Rattle.ddl_part_laws.specs.Parts.{Part, seen, choose, ◌then◌, ◌▸◌}
+use Rattle.ddl_part_laws.specs.Pieces.{lexeme_of, lexemes}
+use Rattle.ddl_part_laws.specs.Types.{type_part}
+use Rattle.ddl_part_laws.proofs.RunLaws.{default_text_laws, type_laws}
 use Rattle.ddl_forms.specs.Texts.{IsPath, IsExpressionText, IsBracketText}
 use Rattle.ddl_forms.proofs.Expressions.{nested_plain}
 use Rattle.ddl_forms.proofs.Kept.{AllCame, came_front, came_behind, have_come, whole_text}
@@ -39,9 +39,9 @@ use Rattle.ddl_forms.proofs.Putting.{Yields}
 use Rattle.ddl_forms.proofs.Tokens.{none}
 use Rattle.ddl_forms.proofs.Types.{type_is_read}
 use Rattle.ddl_forms.proofs.Written.{run_made, then_made, choose_made, name_as, path_as}
-use Rattle.ddl_read.specs.declared.fault.DdlFault.{DdlFault}
-use Rattle.ddl_read.specs.declared.located.Located.{Located}
-use Rattle.ddl_read.specs.Reading.{statements_of}
+use Rattle.ddl_scripts.specs.declared.fault.DdlFault.{DdlFault}
+use Rattle.ddl_scripts.specs.declared.located.Located.{Located}
+use Rattle.ddl_scripts.specs.Reading.{statements_of}
 use Rattle.sound_texts.specs.Respelling.{IsWritable}
 use Rattle.sound_texts.proofs.Respelled.{read_is_writable}
 use Rattle.row_texts.specs.declared.index_text.IndexText.{IndexText}

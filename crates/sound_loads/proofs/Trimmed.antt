@@ -8,12 +8,12 @@ use Rattle.sql_lex.proofs.Passing.{next_at_end}
 use Rattle.cat_model.specs.Lexemes.{Lexeme as Said, lexeme_by, lexeme_of as said_of, lexemes_of, lexemes as said_in}
 use Rattle.cat_model.specs.References.{references_in, expression_references}
 use Rattle.cat_model.specs.Values.{Bytes}
-use Rattle.ddl_parts.specs.Lexemes.{Lexeme, source}
-use Rattle.ddl_parts.specs.Parts.{Machine}
-use Rattle.ddl_parts.specs.Pieces.{lexemes}
-use Rattle.ddl_parts.specs.Collecting.{collected}
-use Rattle.ddl_parts.specs.Expressions.{nested, default_text}
-use Rattle.ddl_parts.proofs.RunLaws.{default_text_laws}
+use Rattle.ddl_part_laws.specs.Lexemes.{Lexeme, source}
+use Rattle.ddl_part_laws.specs.Parts.{Machine}
+use Rattle.ddl_part_laws.specs.Pieces.{lexemes}
+use Rattle.ddl_part_laws.specs.Collecting.{collected}
+use Rattle.ddl_part_laws.specs.Expressions.{nested, default_text}
+use Rattle.ddl_part_laws.proofs.RunLaws.{default_text_laws}
 use Rattle.ddl_forms.proofs.Expressions.{nested_plain}
 use Rattle.ddl_forms.proofs.Kept.{AllCame, have_come}
 use Rattle.ddl_forms.proofs.RunTexts.{words, IsRunRead, run_read}

@@ -9,12 +9,12 @@ use Rattle.cat_model.specs.declared.type_name.TypeName.{TypeName}
 use Rattle.cat_model.specs.declared.type_name.TypeName.TheVariants.{Words, Path}
 use Rattle.cat_model.specs.Values.{Bytes}
 use Rattle.cat_model.proofs.MarkLaws.{same_text-equal, same_text-self}
-use Rattle.ddl_parts.specs.Lexemes.{Lexeme, start_of}
-use Rattle.ddl_parts.specs.Parts.{Part, Reading, Machine, run, Runs}
-use Rattle.ddl_parts.specs.Expressions.{nested}
-use Rattle.ddl_parts.specs.Types.{typing, type_of}
-use Rattle.ddl_forms.specs.Texts.{IsPath, IsRunText, IsBracketText, IsType}
-use Rattle.ddl_parts.specs.Laws.{Lawful}
+use Rattle.ddl_laws.specs.Lexemes.{Lexeme, start_of}
+use Rattle.ddl_laws.specs.Parts.{Part, Reading, Machine, run, Runs}
+use Rattle.ddl_laws.specs.Expressions.{nested}
+use Rattle.ddl_laws.specs.Types.{typing, type_of}
+use Rattle.ddl_laws.specs.Texts.{IsPath, IsRunText, IsBracketText, IsType}
+use Rattle.ddl_laws.specs.Laws.{Lawful}
 use Rattle.ddl_laws.specs.Respelling.{AreColumns, IsRest}
 use Rattle.sound_texts.specs.Tests.{tokens, is_at_start, is_done, is_run, is_bracketed, is_path, are_words, is_type_text, is_type, are_columns, is_rest, is_all}
 

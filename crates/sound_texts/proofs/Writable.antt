@@ -12,10 +12,10 @@ use Rattle.cat_model.specs.declared.stmt.Stmt.TheVariants as stmt
 use Rattle.cat_model.specs.declared.table.ColumnDef.{ColumnDef}
 use Rattle.cat_model.specs.declared.table.CheckDef.{CheckDef}
 use Rattle.cat_model.specs.Values.{Bytes}
-use Rattle.ddl_parts.specs.Expressions.{nested}
+use Rattle.ddl_laws.specs.Expressions.{nested}
 use Rattle.ddl_laws.proofs.GrammarLaws.{deferral_laws, reactions_laws}
-use Rattle.ddl_rights.specs.RightsGrammar.{within, kind_rights}
-use Rattle.ddl_rights.specs.Writable.{kind_of}
+use Rattle.ddl_laws.specs.RightsGrammar.{within, kind_rights}
+use Rattle.ddl_laws.specs.Writable.{kind_of}
 use Rattle.ddl_laws.specs.Respelling.{IsWritable, AllWritable, IsDefault as IsGivenDefault, IsCheck, IsColumn}
 use Rattle.cat_sound.specs.Fit.{IsFit, AreFitColumns, AreFitChecks}
 use Rattle.cat_sound.specs.Itself.{IsDefault}

@@ -4,7 +4,7 @@ use Rattle.copy_text.specs.Texts.{is_name}
 use Rattle.cat_model.specs.declared.constraint.ConstraintKind.{ConstraintKind}
 use Rattle.cat_model.specs.declared.constraint.ConstraintKind.TheVariants as kinds
 use Rattle.cat_model.specs.declared.value.Constraint.{Constraint}
-use Rattle.ddl_read.specs.Rests.{deferral, reactions}
+use Rattle.ddl_laws.specs.Rests.{deferral, reactions}
 use Rattle.cat_sound.specs.Texts.{Texts}
 use Rattle.sound_texts.specs.Tests.{is_type, is_default, is_expression, is_bracketed, is_path, are_columns, is_rest, is_parent}
 

@@ -7,12 +7,12 @@ use Rattle.cat_model.specs.declared.type_name.TypeName.{TypeName}
 use Rattle.cat_model.specs.declared.type_name.TypeName.TheVariants.{Words, Path}
 use Rattle.cat_model.specs.Lexemes.{same_text}
 use Rattle.cat_model.specs.Values.{Bytes}
-use Rattle.ddl_parts.specs.Lexemes.{Lexeme, starts, start_of, is_sign}
-use Rattle.ddl_parts.specs.Parts.{Part, Reading, Machine, run}
-use Rattle.ddl_parts.specs.Pieces.{lexemes}
-use Rattle.ddl_parts.specs.Collecting.{collected}
-use Rattle.ddl_parts.specs.Expressions.{nested}
-use Rattle.ddl_parts.specs.Types.{typing, type_of}
+use Rattle.ddl_laws.specs.Lexemes.{Lexeme, starts, start_of, is_sign}
+use Rattle.ddl_laws.specs.Parts.{Part, Reading, Machine, run}
+use Rattle.ddl_laws.specs.Pieces.{lexemes}
+use Rattle.ddl_laws.specs.Collecting.{collected}
+use Rattle.ddl_laws.specs.Expressions.{nested}
+use Rattle.ddl_laws.specs.Types.{typing, type_of}
 
 -- the tokens of a text
 abbrev pub tokens : Bytes → List Lexeme

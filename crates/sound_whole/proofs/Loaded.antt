@@ -21,9 +21,9 @@ use Rattle.cat_naming.specs.Relations.{columns_of}
 use Rattle.cat_naming.specs.Texts.{rows_by_oid}
 use Rattle.cat_load.specs.Loads.{table_cause, fault_of, path_fault, fault_at, or_later, first_fault, rows_fault}
 use Rattle.cat_load.specs.declared.meeting.LoadFault.{LoadFault}
-use Rattle.ddl_read.specs.declared.located.Located.{Located}
-use Rattle.ddl_read.specs.Reading.{statements_of}
-use Rattle.ddl_laws.specs.Respelling.{said}
+use Rattle.ddl_laws.specs.located.Located.{Located}
+use Rattle.ddl_laws.specs.Reading.{statements_of}
+use Rattle.ddl_laws.specs.Spellings.{said}
 use Rattle.ddl_laws.proofs.Respelled.{read_is_writable}
 use Rattle.model_laws.specs.Examples.{catalogue_after}
 use Rattle.cat_sound.specs.Asked.{Asked}

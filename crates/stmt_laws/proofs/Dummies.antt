@@ -19,18 +19,18 @@ use Rattle.cat_model.specs.Values.{Bytes}
 use Rattle.cat_rows.specs.declared.relations.AttributeRow.{AttributeRow}
 use Rattle.cat_rows.specs.declared.table.SysTable.TheVariants as table
 use Rattle.cat_rows.specs.RowCells.{attribute_cells}
-use Rattle.ddl_parts.specs.declared.runs.Bracket.{Bracket}
-use Rattle.ddl_parts.specs.declared.runs.Bracket.TheVariants.{Round, Square}
-use Rattle.ddl_parts.specs.declared.runs.Spot.TheVariants.{Inside}
-use Rattle.ddl_parts.specs.declared.types.TypeSpot.{TypeSpot}
-use Rattle.ddl_parts.specs.declared.types.TypeSpot.TheVariants as spot
-use Rattle.ddl_parts.specs.Expressions.{Nest, nested, moved, behind_kind, is_end_kind, ends_run, nest_step, nest_done}
-use Rattle.ddl_parts.specs.Leaves.{name_in, name_value}
-use Rattle.ddl_parts.specs.Lexemes.{Lexeme, spelled, start_of, is_sign}
-use Rattle.ddl_parts.specs.Parts.{Machine, run, Runs}
-use Rattle.ddl_parts.specs.Types.{typing, is_word_kind, is_number_kind, is_type_word, is_number, if_name, only_if, more_words, type_step, type_done, type_part}
-use Rattle.ddl_parts.proofs.Machines.{run_none}
-use Rattle.ddl_write.specs.Tables.{type_text}
+use Rattle.ddl_forms.specs.runs.Bracket.{Bracket}
+use Rattle.ddl_forms.specs.runs.Bracket.TheVariants.{Round, Square}
+use Rattle.ddl_forms.specs.runs.Spot.TheVariants.{Inside}
+use Rattle.ddl_forms.specs.types.TypeSpot.{TypeSpot}
+use Rattle.ddl_forms.specs.types.TypeSpot.TheVariants as spot
+use Rattle.ddl_grammar.specs.Expressions.{Nest, nested, moved, behind_kind, is_end_kind, ends_run, nest_step, nest_done}
+use Rattle.ddl_grammar.specs.Leaves.{name_in, name_value}
+use Rattle.ddl_grammar.specs.Lexemes.{Lexeme, spelled, start_of, is_sign}
+use Rattle.ddl_grammar.specs.Parts.{Machine, run, Runs}
+use Rattle.ddl_grammar.specs.Types.{typing, is_word_kind, is_number_kind, is_type_word, is_number, if_name, only_if, more_words, type_step, type_done, type_part}
+use Rattle.ddl_forms.proofs.Basics.{run_none}
+use Rattle.ddl_forms.specs.Tables.{type_text}
 use Rattle.ddl_forms.specs.Texts.{semicolon, IsType, IsExpressionText}
 use Rattle.ddl_forms.proofs.Behind.{Behind, Words, Safe, admits}
 use Rattle.ddl_forms.proofs.Expressions.{nested_plain}

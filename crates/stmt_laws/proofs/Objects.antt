@@ -36,7 +36,7 @@ use Rattle.row_texts.specs.SequenceTypes.{sequence_kind}
 use Rattle.row_texts.specs.TypeTexts.{type_named}
 use Rattle.row_texts.specs.ViewTexts.{view_body}
 use Rattle.text_laws.specs.Indexes.{IsIndex}
-use Rattle.ddl_laws.specs.Respelling.{IsWritable, IsPath, IsType, IsDefault, IsDefaultText, IsExpressionText, IsCheck, IsColumn}
+use Rattle.ddl_grammar.specs.Respelling.{IsWritable, IsPath, IsType, IsDefault, IsDefaultText, IsExpressionText, IsCheck, IsColumn}
 use Rattle.graph_parts.specs.declared.object.Obj.{Obj}
 use Rattle.graph_parts.specs.declared.object.ObjKind.{ObjKind}
 use Rattle.graph_parts.specs.declared.object.ObjKind.TheVariants as kind

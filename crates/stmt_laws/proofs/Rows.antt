@@ -12,7 +12,7 @@ use Rattle.cat_rows.specs.Writing.{IsRowOf}
 use Rattle.cat_names.specs.Kinds.{class_of}
 use Rattle.cat_names.specs.Lookups.{same_oid}
 use Rattle.cat_book.specs.Paths.{schema_of, path_in, class_path, class_path_of}
-use Rattle.ddl_laws.specs.Respelling.{IsPath}
+use Rattle.ddl_grammar.specs.Respelling.{IsPath}
 use Rattle.stmt_laws.specs.Named.{HoldsCells}
 use Rattle.stmt_laws.proofs.Lists.{Known, known_then, known_map, found_has, seen_so}
 

@@ -2,7 +2,7 @@
 ghost use Rattle.std.specs.Prelude.{◌≡◌, List, ℕ, Some};
 ghost use Rattle.cat_model.specs.declared.stmt.Stmt.{Stmt};
 ghost use Rattle.cat_rows.specs.declared.catalogue.Catalogue.{Catalogue};
-ghost use Rattle.ddl_laws.specs.Respelling.{IsWritable};
+ghost use Rattle.ddl_grammar.specs.Respelling.{IsWritable};
 ghost use Rattle.dump_stmts.specs.Sequences.{owned_stmt};
 ghost use Rattle.dump_stmts.specs.Stmts.{stmt_of};
 ghost use Rattle.graph_parts.specs.declared.object.Obj.{Obj};

@@ -4,11 +4,10 @@ use crate::kind::Part;
 use crate::statements::put_spelling;
 use cat_model::{Stmt, TypeName};
 use copy_text::Text;
-use ddl_admin::{alter_role, comment_on, create_database, create_role};
-use ddl_lines::{MetaError, RowsError, meta_line, rows_behind};
-use ddl_numbers::whole_number;
-use ddl_parts::{Pieces, ReadError, collect};
-use ddl_rights::{granted, revoked};
+use ddl_admin::{alter_role, comment_on, create_database, create_role, granted, revoked};
+use ddl_pieces::{Pieces, ReadError, collect, whole_number};
+use ddl_read::meta_line;
+use ddl_scripts::{MetaError, RowsError, rows_behind};
 use std::alloc::{AllocError, Global};
 
 fn put_stop(alloc: Global, error: ReadError, out: &mut Vec<u8>) -> Result<(), AllocError> {

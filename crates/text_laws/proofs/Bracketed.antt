@@ -7,10 +7,10 @@ use Rattle.sql_lex.specs.declared.token.TokenKind.TheVariants.{Word, QuotedName,
 use Rattle.sql_lex.specs.Bytes.{is_blank, is_digit, begins_word, marks_escapes}
 use Rattle.sql_lex.specs.Spelling.{Spells, IsGap}
 use Rattle.sql_lex.specs.Written.{quoted}
-use Rattle.ddl_parts.specs.Collecting.{collected}
-use Rattle.ddl_parts.specs.Lexemes.{Lexeme, spelled, is_sign, is_sign_kind, starts, start_of}
-use Rattle.ddl_parts.specs.Pieces.{lexemes}
-use Rattle.ddl_forms.proofs.Kept.{Gaps, no_gap, one_gap, AllCame, have_come, whole_text}
+use Rattle.ddl_laws.specs.Collecting.{collected}
+use Rattle.ddl_laws.specs.Lexemes.{Lexeme, spelled, is_sign, is_sign_kind, starts, start_of}
+use Rattle.ddl_laws.specs.Pieces.{lexemes}
+use Rattle.ddl_laws.proofs.Kept.{Gaps, no_gap, one_gap, AllCame, have_come, whole_text}
 use Rattle.ddl_laws.specs.Respelling.{IsExpressionText, IsBracketText}
 use Rattle.row_texts.specs.declared.index_text.IndexText.{IndexText}
 use Rattle.row_texts.specs.IndexTexts.{is_bracketed}

@@ -8,21 +8,21 @@ use Rattle.cat_model.specs.declared.stmt.Stmt.TheVariants as stmt
 use Rattle.cat_model.specs.declared.type_name.TypeName.{TypeName}
 use Rattle.cat_model.specs.Values.{Bytes}
 use Rattle.copy_text.specs.Texts.{IsName}
-use Rattle.ddl_parts.specs.Collecting.{collected}
-use Rattle.ddl_parts.specs.Expressions.{default_text}
-use Rattle.ddl_parts.specs.Leaves.{name}
-use Rattle.ddl_parts.specs.Lexemes.{Lexeme, is_word}
-use Rattle.ddl_parts.specs.Pieces.{lexemes}
-use Rattle.ddl_parts.specs.Types.{type_part}
-use Rattle.ddl_read.specs.declared.fault.DdlFault.{DdlFault}
-use Rattle.ddl_read.specs.declared.located.Located.{Located}
-use Rattle.ddl_read.specs.Reading.{statements_of}
-use Rattle.ddl_forms.proofs.Expressions.{expression_as, default_as}
-use Rattle.ddl_forms.proofs.Kept.{AllCame, have_come}
-use Rattle.ddl_forms.proofs.Tokens.{none, space}
-use Rattle.ddl_forms.proofs.Types.{type_as}
-use Rattle.ddl_forms.proofs.Written.{Written, choose_as, is_key, name_as, path_as, end_as, then_as, word_then, seen_as}
-use Rattle.ddl_laws.specs.Respelling.{IsWritable, AllWritable, IsPath, IsType, IsDefaultText, IsExpressionText, said}
+use Rattle.ddl_laws.specs.Collecting.{collected}
+use Rattle.ddl_laws.specs.Expressions.{default_text}
+use Rattle.ddl_laws.specs.Leaves.{name}
+use Rattle.ddl_laws.specs.Lexemes.{Lexeme, is_word}
+use Rattle.ddl_laws.specs.Pieces.{lexemes}
+use Rattle.ddl_laws.specs.Types.{type_part}
+use Rattle.ddl_laws.specs.fault.DdlFault.{DdlFault}
+use Rattle.ddl_laws.specs.located.Located.{Located}
+use Rattle.ddl_laws.specs.Reading.{statements_of}
+use Rattle.ddl_laws.proofs.Expressions.{expression_as, default_as}
+use Rattle.ddl_laws.proofs.Kept.{AllCame, have_come}
+use Rattle.ddl_laws.proofs.Tokens.{none, space}
+use Rattle.ddl_laws.proofs.Types.{type_as}
+use Rattle.ddl_laws.proofs.Written.{Written, choose_as, is_key, name_as, path_as, end_as, then_as, word_then, seen_as}
+use Rattle.ddl_laws.specs.{Respelling.IsWritable, Respelling.AllWritable, Respelling.IsPath, Respelling.IsType, Respelling.IsDefaultText, Respelling.IsExpressionText, Spellings.said}
 use Rattle.row_texts.specs.Texts.{SpellsWhole}
 use Rattle.row_texts.specs.Tokens.{all_tokens, is_end}
 use Rattle.row_texts.specs.declared.index_text.IndexText.{IndexText}

@@ -20,10 +20,10 @@ use Rattle.cat_rows.specs.declared.table.SysTable.TheVariants as table
 use Rattle.cat_rows.specs.declared.types.TypeRow.{TypeRow}
 use Rattle.cat_rows.specs.RowCells.{attribute_cells}
 use Rattle.cat_book.specs.Chains.{type_of, is_domain_letter}
-use Rattle.ddl_lines.specs.CopyRows.{AreRows}
-use Rattle.ddl_write.specs.Paths.{path, listed}
-use Rattle.ddl_write.specs.RowsText.{copy_text}
-use Rattle.ddl_write.specs.Spelling.{spelling}
+use Rattle.ddl_laws.specs.Rows.{AreRows}
+use Rattle.ddl_spelling.specs.Paths.{path, listed}
+use Rattle.ddl_spelling.specs.RowsText.{copy_text}
+use Rattle.ddl_spelling.specs.Spelling.{spelling}
 use Rattle.ddl_laws.specs.Laying.{Lays, no_more, comment_line, statement_text}
 use Rattle.ddl_laws.specs.Respelling.{IsPath, IsWritable, AllWritable}
 use Rattle.graph_parts.specs.declared.object.Obj.{Obj}

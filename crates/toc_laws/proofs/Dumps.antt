@@ -19,7 +19,7 @@ use Rattle.cat_rows.specs.declared.table.SysTable.TheVariants as table
 use Rattle.cat_rows.specs.RowCells.{database_cells}
 use Rattle.ddl_laws.specs.Laying.{Lays}
 use Rattle.ddl_laws.specs.Respelling.{IsPath, IsWritable, AllWritable}
-use Rattle.ddl_rights.specs.Writable.{IsObject}
+use Rattle.ddl_laws.specs.Writable.{IsObject}
 use Rattle.dep_sort.specs.Ordering.{Sorted}
 use Rattle.fmt_text.specs.Parts.{is_of_session, is_table_data, text_or_none, body}
 use Rattle.graph_parts.specs.declared.object.Obj.{Obj}

@@ -24,7 +24,7 @@ use Rattle.cat_book.specs.Chains.{type_of, is_domain_letter}
 use Rattle.cat_book.specs.Leads.{constraint_of}
 use Rattle.ddl_laws.specs.Respelling.{IsCommented}
 use Rattle.ddl_laws.proofs.Paths.{name_utf8}
-use Rattle.ddl_rights.specs.Writable.{IsObject}
+use Rattle.ddl_laws.specs.Writable.{IsObject}
 use Rattle.graph_parts.specs.declared.object.Obj.{Obj}
 use Rattle.graph_parts.specs.declared.object.ObjKind.{ObjKind}
 use Rattle.graph_parts.specs.declared.object.ObjKind.TheVariants as kind

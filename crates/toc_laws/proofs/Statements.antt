@@ -11,11 +11,11 @@ use Rattle.cat_model.specs.Values.{Bytes}
 use Rattle.cat_rows.specs.declared.catalogue.Catalogue.{Catalogue}
 use Rattle.cat_rows.specs.declared.types.TypeRow.{TypeRow}
 use Rattle.cat_book.specs.Chains.{type_of, is_domain_letter}
-use Rattle.ddl_lines.specs.CopyRows.{AreRows}
-use Rattle.ddl_read.specs.declared.located.Located.{Located}
-use Rattle.ddl_read.specs.Reading.{statements_of}
+use Rattle.ddl_laws.specs.Rows.{AreRows}
+use Rattle.ddl_laws.specs.located.Located.{Located}
+use Rattle.ddl_laws.specs.Reading.{statements_of}
 use Rattle.ddl_laws.specs.Laying.{Lays}
-use Rattle.ddl_laws.specs.Respelling.{IsWritable, AllWritable, said}
+use Rattle.ddl_laws.specs.{Respelling.IsWritable, Respelling.AllWritable, Spellings.said}
 use Rattle.fmt_text.specs.declared.owner.OwnedKind.{OwnedKind}
 use Rattle.fmt_text.specs.Owners.{kind_of, name_in, object_of, owned_object}
 use Rattle.fmt_text.specs.Parts.{is_of_session, is_table_data, text_or_none, body}

@@ -5,7 +5,7 @@ use Rattle.std.specs.Option.{ForSome}
 use Rattle.cat_rows.specs.declared.catalogue.Catalogue.{Catalogue}
 use Rattle.cat_model.specs.declared.object.QName.{QName}
 use Rattle.cat_model.specs.Values.{Bytes}
-use Rattle.ddl_lines.specs.CopyRows.{AreRows}
+use Rattle.ddl_laws.specs.Rows.{AreRows}
 use Rattle.graph_parts.specs.declared.object.Obj.{Obj}
 use Rattle.graph_parts.specs.declared.object.ObjKind.{ObjKind}
 use Rattle.graph_parts.specs.declared.object.ObjKind.TheVariants as kind

@@ -10,9 +10,9 @@ use Rattle.cat_names.specs.Naming.{boot as boot_role}
 use Rattle.oid_groups.specs.Orders.{by_number}
 use Rattle.table_rows.specs.Tables.{table_oids}
 use Rattle.cat_load.specs.Loads.{rows_fault}
-use Rattle.ddl_read.specs.declared.fault.DdlFault.{DdlFault}
-use Rattle.ddl_read.specs.declared.located.Located.{Located}
-use Rattle.ddl_read.specs.Reading.{statements_of}
+use Rattle.ddl_scripts.specs.declared.fault.DdlFault.{DdlFault}
+use Rattle.ddl_scripts.specs.declared.located.Located.{Located}
+use Rattle.ddl_scripts.specs.Reading.{statements_of}
 use Rattle.tool_words.specs.declared.outcome.Outcome.{Outcome}
 use Rattle.tool_words.specs.declared.outcome.Outcome.TheVariants.{OutOfProfile}
 use Rattle.tool_words.specs.declared.words.ScriptSource.{ScriptSource}

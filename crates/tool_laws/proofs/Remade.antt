@@ -26,7 +26,7 @@ use Rattle.cat_model.specs.References.{is_system}
 use Rattle.cat_model.specs.declared.value.Value.TheVariants as value
 use Rattle.cat_model.specs.declared.value.Value.{Value}
 use Rattle.cat_model.specs.Values.{Bytes, bytes_cmp, Named}
-use Rattle.ddl_read.specs.declared.located.Located.{Located}
+use Rattle.ddl_scripts.specs.declared.located.Located.{Located}
 use Rattle.dump_stmts.specs.Paths.{is_public}
 use Rattle.schema_dumps.specs.Alone.{schema_said}
 use Rattle.schema_folders.specs.declared.schemas.SchemaRow.{SchemaRow}

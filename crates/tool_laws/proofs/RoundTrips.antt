@@ -16,9 +16,9 @@ use Rattle.cat_model.specs.References.{is_system}
 use Rattle.cat_model.specs.Values.{Bytes, bytes_cmp, Named}
 use Rattle.cat_model.specs.declared.stmt.Stmt.{Stmt}
 use Rattle.cat_model.specs.declared.words.What.TheVariants as what
-use Rattle.ddl_read.specs.declared.located.Located.{Located}
-use Rattle.ddl_read.specs.Reading.{statements_of as read_of}
-use Rattle.ddl_laws.specs.Respelling.{said}
+use Rattle.ddl_scripts.specs.declared.located.Located.{Located}
+use Rattle.ddl_scripts.specs.Reading.{statements_of as read_of}
+use Rattle.ddl_scripts.specs.Spellings.{said}
 use Rattle.dump_stmts.specs.Paths.{is_public}
 use Rattle.schema_dumps.specs.Alone.{schema_said}
 use Rattle.script_laws.specs.Scripts.{session_statements}

@@ -10,9 +10,9 @@ use Rattle.cat_rows.specs.declared.roles.AuthidRow.{AuthidRow}
 use Rattle.cat_rows.specs.declared.roles.DatabaseRow.{DatabaseRow}
 use Rattle.cat_rows.specs.declared.schemas.NamespaceRow.{NamespaceRow}
 use Rattle.cat_names.specs.Lookups.{role_name}
-use Rattle.ddl_laws.specs.Respelling.{said}
-use Rattle.ddl_read.specs.declared.located.Located.{Located}
-use Rattle.ddl_read.specs.Reading.{statements_of}
+use Rattle.ddl_scripts.specs.Spellings.{said}
+use Rattle.ddl_scripts.specs.declared.located.Located.{Located}
+use Rattle.ddl_scripts.specs.Reading.{statements_of}
 use Rattle.dump_script_laws.specs.Statements.{Texts, HaveTexts}
 use Rattle.dump_toc.specs.Toc.{toc}
 use Rattle.fmt_text.specs.Script.{script}

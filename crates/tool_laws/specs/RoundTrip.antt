@@ -11,7 +11,7 @@ use Rattle.cat_model.specs.declared.key.Key.{Key}
 use Rattle.cat_model.specs.References.{is_system}
 use Rattle.cat_model.specs.Values.{Bytes, bytes_cmp, Named}
 use Rattle.schema_folders.specs.declared.schemas.SchemaRow.{SchemaRow}
-use Rattle.ddl_read.specs.declared.located.Located.{Located}
+use Rattle.ddl_scripts.specs.declared.located.Located.{Located}
 use Rattle.command_line.specs.declared.values.Format.TheVariants as format
 use Rattle.obj_graph.specs.Closed.{whole as all_of_it}
 use Rattle.script_laws.specs.Scripts.{AllEntries}

@@ -1,8 +1,8 @@
 -- The exit status of each outcome.
 -- Everything but Done is an error; want of memory and a script that stopped have a status of their own.
 use Rattle.std.specs.Prelude.{ℕ}
-use Rattle.ddl_read.specs.declared.fault.ReadStmtsError.{ReadStmtsError}
-use Rattle.ddl_read.specs.declared.fault.ReadStmtsError.TheVariants as errors
+use Rattle.ddl_read.specs.fault.ReadStmtsError.{ReadStmtsError}
+use Rattle.ddl_read.specs.fault.ReadStmtsError.TheVariants as errors
 use Rattle.tool_words.specs.declared.outcome.Outcome.{Outcome}
 use Rattle.tool_words.specs.declared.outcome.Outcome.TheVariants.{Done, BadScript, ScriptStopped, Memory}
 

@@ -1,4 +1,4 @@
-use Rattle.ddl_laws.specs.Respelling.{said}
+use Rattle.ddl_read.specs.Spellings.{said}
 use Rattle.ddl_laws.proofs.Respelled.{read_is_writable}
 use Rattle.sound_texts.proofs.Writable.{all_fit}
 use Rattle.clone_restores.proofs.scripts.read_statements.Goals as goal

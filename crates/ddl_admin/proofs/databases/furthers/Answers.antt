@@ -1,5 +1,5 @@
 use Rattle.ddl_admin.proofs.Common.{◌≡◌, true, false, drop, sym, ◌∙◌, err_from_is_err_and, starts, fewer, is_option, furthers}
-use Rattle.ddl_admin.proofs.Further.{furthers_apart, goes_by, ends_at, fails_by}
+use Rattle.ddl_grammar_laws.proofs.Further.{furthers_apart, goes_by, ends_at, fails_by}
 use Rattle.ddl_admin.proofs.databases.furthers.Goals as goal
 
 pub returns-then-not-named : goal.returns-then-not-named

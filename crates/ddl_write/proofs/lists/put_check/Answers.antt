@@ -1,5 +1,5 @@
 use Rattle.std.proofs.Common.{append_assoc}
-use Rattle.ddl_write.specs.Tables.{check_text}
+use Rattle.ddl_spelling.specs.Tables.{check_text}
 use Rattle.ddl_write.proofs.lists.put_check.Goals as goal
 
 pub returns-clause-ok : goal.returns-clause-ok

@@ -1,7 +1,7 @@
 use Rattle.std.proofs.Common.{append_assoc, arith}
 use Rattle.cat_model.specs.declared.table.CheckDef.{CheckDef}
 use Rattle.ddl_write.proofs.LineLemmas.{both_lines_at}
-use Rattle.ddl_write.specs.Tables.{column_text, check_text}
+use Rattle.ddl_spelling.specs.Tables.{column_text, check_text}
 use Rattle.ddl_write.proofs.lists.put_elements.Goals as goal
 
 pub returns-in_ok-extend_from_slice-in-len1-up-clause-ok : goal.returns-in_ok-extend_from_slice-in-len1-up-clause-ok

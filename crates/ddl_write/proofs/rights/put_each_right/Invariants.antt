@@ -2,7 +2,7 @@
 use Rattle.std.proofs.Common.{◌≡◌, ◌++◌, take}
 use Rattle.std.specs.List.{flat_map}
 use Rattle.ddl_write.proofs.CommaLemmas.{any_word}
-use Rattle.ddl_write.specs.RightsText.{word_there, with_commas}
+use Rattle.ddl_spelling.specs.RightsText.{word_there, with_commas}
 use Rattle.ddl_write.proofs.rights.put_each_right.Given as goal
 
 abbrev pub invariant-loop-right : goal.invariant-loop-right

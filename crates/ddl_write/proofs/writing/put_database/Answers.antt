@@ -1,4 +1,4 @@
-use Rattle.ddl_write.specs.Roles.{database_text}
+use Rattle.ddl_spelling.specs.Roles.{database_text}
 use Rattle.ddl_write.proofs.writing.put_database.Goals as goal
 
 pub returns-clause-ok : goal.returns-clause-ok

@@ -1,4 +1,4 @@
-use Rattle.ddl_write.specs.Sequences.{sequence_text}
+use Rattle.ddl_spelling.specs.Sequences.{sequence_text}
 use Rattle.ddl_write.proofs.writing.put_sequence.Goals as goal
 
 pub returns-clause-ok : goal.returns-clause-ok

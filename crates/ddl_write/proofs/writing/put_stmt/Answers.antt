@@ -1,5 +1,5 @@
 use Rattle.std.proofs.Common.{append_assoc}
-use Rattle.ddl_write.specs.Spelling.{spelling, setting_text}
+use Rattle.ddl_spelling.specs.Spelling.{spelling, setting_text}
 use Rattle.ddl_write.proofs.writing.put_stmt.Goals as goal
 
 pub returns-in-SetConfig-clause-ok : goal.returns-in-SetConfig-clause-ok

@@ -1,5 +1,5 @@
 use Rattle.std.proofs.Common.{append_assoc}
-use Rattle.ddl_write.specs.Tables.{table_text}
+use Rattle.ddl_spelling.specs.Tables.{table_text}
 use Rattle.ddl_write.proofs.writing.put_table.Goals as goal
 
 pub returns-clause-ok : goal.returns-clause-ok

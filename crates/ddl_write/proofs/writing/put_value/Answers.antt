@@ -1,4 +1,4 @@
-use Rattle.ddl_write.specs.Sequences.{value_text}
+use Rattle.ddl_spelling.specs.Sequences.{value_text}
 use Rattle.ddl_write.proofs.writing.put_value.Goals as goal
 
 pub returns-clause-ok : goal.returns-clause-ok

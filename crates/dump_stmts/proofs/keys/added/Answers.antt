@@ -2,7 +2,7 @@ use Rattle.std.proofs.Common.{◌≡◌, IfOk, ℕ, Option, length, Ok, ap, ap�
 use Rattle.std.specs.Option.{option_and_then}
 use Rattle.cat_model.specs.Values.{Bytes}
 use Rattle.cat_model.specs.declared.stmt.Stmt.{Stmt}
-use Rattle.ddl_read.specs.Reading.{statements_of}
+use Rattle.ddl_scripts.specs.Reading.{statements_of}
 use Rattle.constraint_table.specs.Said.{only_statement, statement_text}
 use Rattle.dump_stmts.specs.Keys.{added_to}
 use Rattle.dump_stmts.specs.Paths.{written}

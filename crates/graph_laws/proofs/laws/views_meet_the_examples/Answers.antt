@@ -8,9 +8,9 @@ use Rattle.sql_lex.specs.Next.{next_within, next_token_of, tokens_within, tokens
 use Rattle.sql_lex.specs.Meaning.{inside, undoubled, name_of, literal_of, is_keyword_of, spelling}
 use Rattle.cat_model.specs.Lexemes.{lexemes}
 use Rattle.cat_model.specs.References.{expression_references, view_references}
-use Rattle.ddl_parts.specs.Lexemes.{is_sign as sign_of}
-use Rattle.ddl_parts.specs.Parts.{scan}
-use Rattle.ddl_parts.specs.Expressions.{ends_run, nest_step, nest_done, expression}
+use Rattle.ddl_scripts.specs.Lexemes.{is_sign as sign_of}
+use Rattle.ddl_scripts.specs.Parts.{scan}
+use Rattle.ddl_scripts.specs.Expressions.{ends_run, nest_step, nest_done, expression}
 use Rattle.row_texts.specs.Tokens.{all_tokens}
 use Rattle.row_texts.specs.ViewTexts.{view_text, view_body}
 use Rattle.obj_graph.specs.Objects.{objects_of}

@@ -4,8 +4,8 @@ use Rattle.std.proofs.Math.Utf8.{encode}
 use Rattle.sql_lex.specs.Bytes.{is_digit}
 use Rattle.sql_lex.specs.Reserved.{is_reserved}
 use Rattle.sql_lex.specs.Written.{begins_bare, in_bare, is_bare, doubled, quoted, written_name}
-use Rattle.ddl_write.specs.Paths.{path}
-use Rattle.ddl_write.specs.Spelling.{owned_object as object_text, owner_text}
+use Rattle.ddl_spelling.specs.Paths.{path}
+use Rattle.ddl_spelling.specs.Spelling.{owned_object as object_text, owner_text}
 use Rattle.entry_choices.specs.Choices.{section_among, is_taken_among, wanted}
 use Rattle.fmt_text.specs.Owners.{kind_of, name_in, path_of, owned_object, owner_part}
 use Rattle.fmt_text.specs.Parts.{about, body, part}

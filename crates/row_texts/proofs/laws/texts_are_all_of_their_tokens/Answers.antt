@@ -1,7 +1,7 @@
 use Rattle.std.proofs.Common.{◌≡◌, Bool, true, false, cond, Option, Some, None, is_some, option_and_then, refl, sym, ap, ◌∙◌}
-use Rattle.ddl_parts.specs.Expressions.{default_text}
-use Rattle.ddl_parts.specs.Types.{type_part}
-use Rattle.ddl_parts.proofs.RunLaws.{default_text_laws, type_laws}
+use Rattle.ddl_part_laws.specs.Expressions.{default_text}
+use Rattle.ddl_part_laws.specs.Types.{type_part}
+use Rattle.ddl_part_laws.proofs.RunLaws.{default_text_laws, type_laws}
 use Rattle.row_texts.specs.declared.index_text.IndexText.{IndexText}
 use Rattle.row_texts.specs.Texts.{whole}
 use Rattle.row_texts.specs.TypeTexts.{type_named}

@@ -6,11 +6,11 @@ use Rattle.sql_lex.specs.Ends.{run_end, quote_end, escape_end, comment_end, frac
 use Rattle.sql_lex.specs.Pieces.{begins_line, closed, begun, in_utf8, piece_at}
 use Rattle.sql_lex.specs.Next.{next_within, next_token_of, tokens_within, tokens_of}
 use Rattle.sql_lex.specs.Meaning.{inside, undoubled, name_of, literal_of, is_keyword_of, spelling}
-use Rattle.ddl_parts.specs.Lexemes.{is_word, is_sign as sign_of}
-use Rattle.ddl_parts.specs.Leaves.{name_in, name_value}
-use Rattle.ddl_parts.specs.Parts.{scan}
-use Rattle.ddl_parts.specs.Expressions.{ends_run, nest_step, nest_done, expression, default_text}
-use Rattle.ddl_parts.specs.Types.{type_step, type_done, type_long, is_type_word, is_number, type_of, type_part}
+use Rattle.ddl_part_laws.specs.Lexemes.{is_word, is_sign as sign_of}
+use Rattle.ddl_part_laws.specs.Leaves.{name_in, name_value}
+use Rattle.ddl_part_laws.specs.Parts.{scan}
+use Rattle.ddl_part_laws.specs.Expressions.{ends_run, nest_step, nest_done, expression, default_text}
+use Rattle.ddl_part_laws.specs.Types.{type_step, type_done, type_long, is_type_word, is_number, type_of, type_part}
 use Rattle.row_texts.specs.Tokens.{all_tokens}
 use Rattle.row_texts.specs.TypeTexts.{type_named}
 use Rattle.row_texts.specs.DefaultTexts.{default_said, is_default}

@@ -1,5 +1,5 @@
 use Rattle.ddl_laws.proofs.Respelled.{read_is_writable}
-use Rattle.ddl_laws.specs.Respelling.{said}
+use Rattle.ddl_laws.specs.Spellings.{said}
 use Rattle.cat_sound.proofs.Statements.{run-keeps}
 use Rattle.sound_texts.specs.Grammar.{grammar}
 use Rattle.sound_texts.proofs.Writable.{all_fit}

@@ -1,5 +1,5 @@
 use Rattle.ddl_laws.proofs.Respelled.{read_is_writable}
-use Rattle.ddl_laws.specs.Respelling.{said}
+use Rattle.ddl_laws.specs.Spellings.{said}
 use Rattle.sound_texts.proofs.Writable.{all_fit}
 use Rattle.sound_texts.proofs.laws.statements_that_are_read_are_fit.Goals as goal
 

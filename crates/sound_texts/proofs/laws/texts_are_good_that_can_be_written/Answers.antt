@@ -2,7 +2,7 @@ use Rattle.std.proofs.Common.{◌≡◌, true, false, ◌&&◌, List, [], ◌∷
 use Rattle.std.proofs.lemmas.Bool.{and_parts, and_from}
 use Rattle.copy_text.proofs.TextLemmas.{name_from_test}
 use Rattle.cat_model.specs.declared.stmt.Stmt.TheVariants as stmt
-use Rattle.ddl_parts.specs.Expressions.{nested}
+use Rattle.ddl_laws.specs.Expressions.{nested}
 use Rattle.ddl_laws.proofs.GrammarLaws.{deferral_laws, reactions_laws}
 use Rattle.sound_texts.proofs.Tested.{run_from, run_to, bracket_from, path_from, type_from, type_to, columns_from, rest_from}
 use Rattle.sound_texts.proofs.Writable.{writable_fit}

@@ -9,11 +9,11 @@ use Rattle.sql_lex.specs.Meaning.{inside, undoubled, name_of, literal_of, is_key
 use Rattle.cat_model.specs.Lexemes.{lexemes}
 use Rattle.cat_model.specs.References.{expression_references}
 use Rattle.cat_names.specs.Findings.{first_from}
-use Rattle.ddl_parts.specs.Lexemes.{is_word, is_sign as sign_of}
-use Rattle.ddl_parts.specs.Leaves.{name_in, name_value}
-use Rattle.ddl_parts.specs.Parts.{scan}
-use Rattle.ddl_parts.specs.Expressions.{ends_run, nest_step, nest_done, default_text}
-use Rattle.ddl_parts.specs.Types.{type_step, type_done, type_long, is_type_word, is_number, type_of, type_part}
+use Rattle.ddl_scripts.specs.Lexemes.{is_word, is_sign as sign_of}
+use Rattle.ddl_scripts.specs.Leaves.{name_in, name_value}
+use Rattle.ddl_scripts.specs.Parts.{scan}
+use Rattle.ddl_scripts.specs.Expressions.{ends_run, nest_step, nest_done, default_text}
+use Rattle.ddl_scripts.specs.Types.{type_step, type_done, type_long, is_type_word, is_number, type_of, type_part}
 use Rattle.row_texts.specs.Tokens.{all_tokens}
 use Rattle.row_texts.specs.TypeTexts.{type_named}
 use Rattle.row_texts.specs.DefaultTexts.{default_said, is_default}

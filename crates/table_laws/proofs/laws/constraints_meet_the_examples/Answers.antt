@@ -10,17 +10,17 @@ use Rattle.cat_model.specs.Lexemes.{lexemes}
 use Rattle.cat_model.specs.IndexColumns.{plain_columns}
 use Rattle.cat_model.specs.References.{expression_references}
 use Rattle.cat_names.specs.Findings.{first_from}
-use Rattle.ddl_parts.specs.Lexemes.{is_word, is_sign as sign_of}
-use Rattle.ddl_parts.specs.Leaves.{name_in, name_value, text_in, literal_value}
-use Rattle.ddl_parts.specs.Parts.{scan, many_at}
-use Rattle.ddl_parts.specs.Expressions.{ends_run, nest_step, nest_done, expression, default_text}
-use Rattle.ddl_parts.specs.Collecting.{collected_within, collected}
-use Rattle.ddl_read.specs.Columns.{columns}
-use Rattle.ddl_read.specs.Rests.{deferral, action, on_delete, reactions, key_rest, foreign_rest}
-use Rattle.ddl_read.specs.Clauses.{named_check}
-use Rattle.ddl_read.specs.Grammar.{create_schema, created, new_owner, new_check, domain_change, altered_domain, name_and_owner, path_and_owner, altered, selected, equals_or_to, setting, command, statement}
-use Rattle.ddl_read.specs.AlterGrammar.{primary_body, unique_body, foreign_body, other_value, other_path, table_change, behind_only, altered_table, only_value, check_body, constraint_body, added, new_default, own_change}
-use Rattle.ddl_read.specs.Reading.{line_at, statement_of, statements_within, statements_of}
+use Rattle.ddl_scripts.specs.Lexemes.{is_word, is_sign as sign_of}
+use Rattle.ddl_scripts.specs.Leaves.{name_in, name_value, text_in, literal_value}
+use Rattle.ddl_scripts.specs.Parts.{scan, many_at}
+use Rattle.ddl_scripts.specs.Expressions.{ends_run, nest_step, nest_done, expression, default_text}
+use Rattle.ddl_scripts.specs.Collecting.{collected_within, collected}
+use Rattle.ddl_scripts.specs.Columns.{columns}
+use Rattle.ddl_scripts.specs.Rests.{deferral, action, on_delete, reactions, key_rest, foreign_rest}
+use Rattle.ddl_scripts.specs.Clauses.{named_check}
+use Rattle.ddl_scripts.specs.Grammar.{create_schema, created, new_owner, new_check, domain_change, altered_domain, name_and_owner, path_and_owner, altered, selected, equals_or_to, setting, command, statement}
+use Rattle.ddl_scripts.specs.AlterGrammar.{primary_body, unique_body, foreign_body, other_value, other_path, table_change, behind_only, altered_table, only_value, check_body, constraint_body, added, new_default, own_change}
+use Rattle.ddl_scripts.specs.Reading.{line_at, statement_of, statements_within, statements_of}
 use Rattle.row_texts.specs.Tokens.{all_tokens}
 use Rattle.row_texts.specs.DefaultTexts.{default_said, is_default}
 use Rattle.row_texts.specs.IndexTexts.{named_index, index_text, index_said}

@@ -10,10 +10,10 @@ use Rattle.cat_model.specs.Lexemes.{lexemes}
 use Rattle.cat_model.specs.IndexColumns.{plain_columns}
 use Rattle.cat_model.specs.References.{view_references}
 use Rattle.cat_names.specs.Findings.{first_from}
-use Rattle.ddl_parts.specs.Lexemes.{is_word, is_sign as sign_of}
-use Rattle.ddl_parts.specs.Leaves.{name_in, name_value}
-use Rattle.ddl_parts.specs.Parts.{scan}
-use Rattle.ddl_parts.specs.Expressions.{ends_run, nest_step, nest_done, expression}
+use Rattle.ddl_scripts.specs.Lexemes.{is_word, is_sign as sign_of}
+use Rattle.ddl_scripts.specs.Leaves.{name_in, name_value}
+use Rattle.ddl_scripts.specs.Parts.{scan}
+use Rattle.ddl_scripts.specs.Expressions.{ends_run, nest_step, nest_done, expression}
 use Rattle.row_texts.specs.Tokens.{all_tokens}
 use Rattle.row_texts.specs.IndexTexts.{named_index, index_text, index_said}
 use Rattle.row_texts.specs.SequenceTypes.{sequence_type, sequence_kind}

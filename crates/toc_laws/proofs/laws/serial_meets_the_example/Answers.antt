@@ -16,11 +16,11 @@ use Rattle.obj_graph.specs.ConstraintLinks.{keys_of, constraint_links, index_lin
 use Rattle.obj_graph.specs.DependLinks.{depend_links}
 use Rattle.obj_graph.specs.BoundaryLinks.{boundary_links}
 use Rattle.obj_graph.specs.Graphs.{holder_links, other_links, edges_between, graph_of}
-use Rattle.ddl_parts.specs.Lexemes.{is_word, is_sign as is_sign_lexemes}
-use Rattle.ddl_parts.specs.Leaves.{name_in, name_value}
-use Rattle.ddl_parts.specs.Parts.{scan}
-use Rattle.ddl_parts.specs.Expressions.{ends_run, nest_step, nest_done, expression, default_text}
-use Rattle.ddl_parts.specs.Types.{type_step, type_done, type_long, is_type_word, is_number, type_of, type_part}
+use Rattle.ddl_laws.specs.Lexemes.{is_word, is_sign as is_sign_lexemes}
+use Rattle.ddl_laws.specs.Leaves.{name_in, name_value}
+use Rattle.ddl_laws.specs.Parts.{scan}
+use Rattle.ddl_laws.specs.Expressions.{ends_run, nest_step, nest_done, expression, default_text}
+use Rattle.ddl_laws.specs.Types.{type_step, type_done, type_long, is_type_word, is_number, type_of, type_part}
 use Rattle.row_texts.specs.Tokens.{all_tokens}
 use Rattle.row_texts.specs.TypeTexts.{type_named}
 use Rattle.row_texts.specs.DefaultTexts.{default_said, is_default}
@@ -36,15 +36,15 @@ use Rattle.dep_sort.specs.Ordering.{final_places, depends_of, sorted, told_place
 use Rattle.std.specs.Fmt.{digits}
 use Rattle.sql_lex.specs.Reserved.{is_reserved}
 use Rattle.sql_lex.specs.Written.{begins_bare, in_bare, is_bare, doubled, quoted, written_name, written_literal}
-use Rattle.ddl_write.specs.Paths.{path, listed}
-use Rattle.ddl_write.specs.Sequences.{usual_min, usual_max, bound, sequence_text, owned_by_text, value_text}
-use Rattle.ddl_write.specs.Views.{stands_alone, space_before, view_text as view_text_views, default_text as default_text_views}
-use Rattle.ddl_write.specs.Keys.{key_text, foreign_text, added_check_text, index_text as index_text_keys}
-use Rattle.ddl_write.specs.RowsText.{copy_text}
-use Rattle.ddl_write.specs.RightsText.{is_all, with_commas, right_list, rights_text, grant_text, revoke_text, comment_text}
-use Rattle.ddl_write.specs.Roles.{role_text, changes_text, member_text, database_text, connect_text}
-use Rattle.ddl_write.specs.Tables.{type_text, check_text, column_text, lines, enum_text, domain_text, table_text}
-use Rattle.ddl_write.specs.Spelling.{spelling as spelling_spelling}
+use Rattle.ddl_spelling.specs.Paths.{path, listed}
+use Rattle.ddl_spelling.specs.Sequences.{usual_min, usual_max, bound, sequence_text, owned_by_text, value_text}
+use Rattle.ddl_spelling.specs.Views.{stands_alone, space_before, view_text as view_text_views, default_text as default_text_views}
+use Rattle.ddl_spelling.specs.Keys.{key_text, foreign_text, added_check_text, index_text as index_text_keys}
+use Rattle.ddl_spelling.specs.RowsText.{copy_text}
+use Rattle.ddl_spelling.specs.RightsText.{is_all, with_commas, right_list, rights_text, grant_text, revoke_text, comment_text}
+use Rattle.ddl_spelling.specs.Roles.{role_text, changes_text, member_text, database_text, connect_text}
+use Rattle.ddl_spelling.specs.Tables.{type_text, check_text, column_text, lines, enum_text, domain_text, table_text}
+use Rattle.ddl_spelling.specs.Spelling.{spelling as spelling_spelling}
 use Rattle.cat_names.specs.Lookups.{role_name}
 use Rattle.oid_groups.specs.Orders.{placed as placed_row, by_number}
 use Rattle.obj_graph.specs.Chosen.{select_fault}

@@ -1,4 +1,0 @@
-pub mod Choices
-pub mod Comments
-pub mod Roles
-pub mod Databases

@@ -1,0 +1,4 @@
+pub mod Common
+pub mod RightSets
+pub mod Admin
+pub mod Rights

@@ -1,0 +1,2 @@
+//! The texts of statements about rights, roles, databases and comments.
+#![tactic(auto)]

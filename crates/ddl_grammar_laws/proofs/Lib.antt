@@ -1,0 +1,16 @@
+pub mod Common
+pub mod Depends
+pub mod Firsts
+pub mod RightsLaws
+pub mod MembershipLaws
+pub mod GrantLaws
+pub mod Further
+pub mod AdminTelling
+pub mod ChoiceLaws
+pub mod CommentLaws
+pub mod RoleLaws
+pub mod DatabaseLaws
+pub mod TableLaws
+pub mod RestLaws
+pub mod SequenceLaws
+pub mod ColumnLaws

@@ -1,0 +1,1 @@
+pub use Rattle.ddl_part_laws.specs.Numbers

@@ -1,5 +1,0 @@
-use Rattle.ddl_lines.proofs.RowTexts.{read_are_rows, rows_bounds}
-use Rattle.ddl_lines.proofs.laws.what_is_read_are_rows.Goals as goal
-
-pub returns : goal.returns
-returns c = record { rows = read_are_rows; bounds = rows_bounds }

@@ -1,5 +1,0 @@
-use Rattle.ddl_lines.proofs.RowTexts.{rows_read_back}
-use Rattle.ddl_lines.proofs.laws.written_rows_are_read_back.Goals as goal
-
-pub returns : goal.returns
-returns c = rows_read_back

@@ -1,3 +1,0 @@
-pub mod CopyRows
-pub mod MetaLines
-pub mod Examples

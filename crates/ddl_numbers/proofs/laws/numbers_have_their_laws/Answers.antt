@@ -1,5 +1,0 @@
-use Rattle.ddl_numbers.proofs.NumberLaws.{whole_number_laws}
-use Rattle.ddl_numbers.proofs.laws.numbers_have_their_laws.Goals as goal
-
-pub returns : goal.returns
-returns c = whole_number_laws

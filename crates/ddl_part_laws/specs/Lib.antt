@@ -1,0 +1,11 @@
+pub use Rattle.ddl_parts.specs.Collecting
+pub use Rattle.ddl_parts.specs.Expressions
+pub use Rattle.ddl_parts.specs.Laws
+pub use Rattle.ddl_parts.specs.Leaves
+pub use Rattle.ddl_parts.specs.Lexemes
+pub use Rattle.ddl_parts.specs.Numbers
+pub use Rattle.ddl_parts.specs.Parts
+pub use Rattle.ddl_parts.specs.Pieces
+pub use Rattle.ddl_parts.specs.Types
+pub use Rattle.ddl_parts.specs.declared.fault
+pub use Rattle.ddl_parts.specs.declared.pieces

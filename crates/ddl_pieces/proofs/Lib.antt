@@ -1,0 +1,9 @@
+pub mod Common
+pub mod Joined
+pub mod Collects
+pub mod RunSlices
+pub mod Scanning
+pub mod Endings
+pub mod TypeRuns
+pub mod Places
+pub mod DigitParsing

@@ -1,0 +1,2 @@
+//! The texts of statements about tables, sequences, indexes and types.
+#![tactic(auto)]

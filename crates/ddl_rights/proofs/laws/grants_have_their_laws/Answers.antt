@@ -1,5 +1,0 @@
-use Rattle.ddl_rights.proofs.GrantLaws.{granted_laws, revoked_laws}
-use Rattle.ddl_rights.proofs.laws.grants_have_their_laws.Goals as goal
-
-pub returns : goal.returns
-returns c = record { granted = granted_laws; revoked = revoked_laws }
