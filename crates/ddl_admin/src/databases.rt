@@ -5,7 +5,9 @@ ghost use Rattle.ddl_grammar.specs.Parts.{mark};
 ghost use Rattle.ddl_grammar.specs.Types.{is_number};
 ghost use Rattle.ddl_grammar.specs.Pieces.{GivesPart, GivesPlace};
 ghost use Rattle.ddl_grammar.specs.Choices.{any_word};
-ghost use Rattle.ddl_grammar.specs.Databases.{word_first, is_bare, own_options, is_option, is_value, further, furthers, utf8, encoded, maybe_encoded, options, create_database};
+ghost use Rattle.ddl_grammar.specs.Syntax.{part};
+ghost use Rattle.ddl_grammar.specs.Grammar.{create_database};
+ghost use Rattle.ddl_grammar.specs.Databases.{word_first, is_bare, own_options, is_option, is_value, further, furthers, utf8, encoded, maybe_encoded, options};
 
 use cat_model::{Encoding, Stmt};
 use copy_text::Text;
@@ -155,9 +157,9 @@ fn utf8(alloc: Global, pieces: &Pieces<'_>, at: usize) -> Parsed<Encoding>
 /// # Errors
 ///
 /// `Halted` tells the first token with which no such statement goes on, `Memory` that memory ran out.
-#[tactic(auto, unfolding(ddl_grammar::specs::Databases::create_database, ddl_grammar::specs::Databases::options, ddl_grammar::specs::Databases::maybe_encoded, ddl_grammar::specs::Databases::encoded))]
+#[tactic(auto, unfolding(ddl_grammar::specs::Syntax::part, ddl_grammar::specs::LeafParts::leaf_part, ddl_grammar::specs::Grammar::create_database, ddl_grammar::specs::Databases::options, ddl_grammar::specs::Databases::maybe_encoded, ddl_grammar::specs::Databases::encoded))]
 pub fn create_database(alloc: Global, pieces: &Pieces<'_>, at: usize) -> Parsed<Stmt>
-    ensures { GivesPart pieces.now (λ s. s) result (create_database.read (drop at pieces.now)) }
+    ensures { GivesPart pieces.now (λ s. s) result ((part create_database).read (drop at pieces.now)) }
 {
     read!(alloc, pieces, at; name: .name "with" "template" = "template0" ..furthers
         if "encoding" { = encoding: utf8 ..furthers; => Stmt::CreateDatabase { name, encoding: Some(encoding) } }

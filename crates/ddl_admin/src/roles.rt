@@ -1,12 +1,13 @@
 //! Readers of CREATE ROLE and ALTER ROLE.
 ghost use Rattle.std.specs.Prelude.{◌≡◌, drop, codes};
-ghost use Rattle.ddl_grammar.specs.Lexemes.{is_word};
-ghost use Rattle.ddl_grammar.specs.Parts.{◌▸◌};
-ghost use Rattle.ddl_grammar.specs.Leaves.{literal};
+ghost use Rattle.cat_model.specs.declared.stmt.Stmt.TheVariants.{CreateRole, AlterRole};
+ghost use Rattle.ddl_grammar.specs.Lexemes.{is_word, is_sign};
+ghost use Rattle.ddl_grammar.specs.Parts.{seen, ◌then◌, ◌▸◌, ◌◂◌};
+ghost use Rattle.ddl_grammar.specs.Leaves.{name, literal};
 ghost use Rattle.ddl_grammar.specs.Pieces.{GivesPart};
 ghost use Rattle.ddl_grammar.specs.Choices.{clause, flag};
 ghost use Rattle.ddl_grammar_laws.specs.Numbers.{whole_number};
-ghost use Rattle.ddl_grammar.specs.Roles.{create_role, later_flags, role_flags, role_settings, role_changes, alter_role};
+ghost use Rattle.ddl_grammar.specs.Roles.{later_flags, role_flags, role_settings, role_changes};
 
 use cat_model::{RoleChanges, Stmt};
 use copy_text::Text;
@@ -18,9 +19,8 @@ use std::alloc::Global;
 /// # Errors
 ///
 /// `Halted` tells the first token with which no such statement goes on, `Memory` that memory ran out.
-#[tactic(auto, unfolding(ddl_grammar::specs::Roles::create_role))]
 pub fn create_role(alloc: Global, pieces: &Pieces<'_>, at: usize) -> Parsed<Stmt>
-    ensures { GivesPart pieces.now (λ s. s) result (create_role.read (drop at pieces.now)) }
+    ensures { GivesPart pieces.now (λ s. s) result ((seen CreateRole (name ◂ is_sign 59)).read (drop at pieces.now)) }
 {
     read!(alloc, pieces, at; name: .name; => Stmt::CreateRole { name })
 }
@@ -81,9 +81,9 @@ fn valid_until(alloc: Global, pieces: &Pieces<'_>, at: usize) -> Parsed<Option<T
 /// # Errors
 ///
 /// `Halted` tells the first token with which no such statement goes on, `Memory` that memory ran out.
-#[tactic(auto, unfolding(ddl_grammar::specs::Roles::alter_role, ddl_grammar::specs::Roles::role_changes, ddl_grammar::specs::Roles::role_settings))]
+#[tactic(auto, unfolding(ddl_grammar::specs::Roles::role_changes, ddl_grammar::specs::Roles::role_settings))]
 pub fn alter_role(alloc: Global, pieces: &Pieces<'_>, at: usize) -> Parsed<Stmt>
-    ensures { GivesPart pieces.now (λ s. s) result (alter_role.read (drop at pieces.now)) }
+    ensures { GivesPart pieces.now (λ s. s) result ((seen (λ x. AlterRole x.0 x.1) ((name then (is_word (codes "with") ▸ role_changes)) ◂ is_sign 59)).read (drop at pieces.now)) }
 {
     read!(alloc, pieces, at; name: .name "with"
         flags: role_flags[pieces, at] limit: limit[pieces, at] password: password valid_until: valid_until;

@@ -1,31 +1,15 @@
 -- Comments, roles and databases: each part of their grammar with the text that it is written in.
-use Rattle.ddl_admin_texts.proofs.Common.{◌≡◌, ℕ, Bool, true, false, List, [], ◌∷◌, ◌++◌, Option, Some, None, Ok, refl, ap, inl, inr, codes, is_utf8, chars, str_to_ascii_lowercase, encode, IsUtf8-from_is_utf8, Encoding, Utf8, Lexeme, literal_value, Part, joined, flag_text, limit_text, given_literal, remark_text, remark, remark_end, name_remarked, path_remarked, column_remarked, constraint_remarked, commented_object, later_flags, role_flags, role_settings, changes_by, role_changes, alter_role, furthers, utf8_in, utf8_value, encoded, maybe_encoded, create_database, Words, Safe, number_as, none, space, Written, Kinds, given_or, or_given, literal_said, is_key, dot_as, equals_as, word_as, mark_as, meets, name_as, literal_as, path_as, then_as, lead_as, word_then, end_as, seen_as, fit_as, like_as, shown_as, pieces_as, after_as, wider_as, choose_as, heard_as, nothing_as, OptionFit, maybe_as, many_as, kind_as, led_as, or_as, IsGivenText, IsLimit, AreChanges, IsWritable}
+use Rattle.ddl_admin_texts.proofs.Common.{◌≡◌, ℕ, Bool, true, false, List, [], ◌∷◌, ◌++◌, Option, Some, None, Ok, refl, ap, inl, inr, codes, is_utf8, chars, str_to_ascii_lowercase, encode, IsUtf8-from_is_utf8, Encoding, Utf8, Lexeme, literal_value, Part, joined, flag_text, limit_text, given_literal, remark_text, remark, later_flags, role_flags, role_settings, changes_by, role_changes, furthers, utf8_in, utf8_value, encoded, maybe_encoded, Gap, attributes_text, encoding_text, written_literal, quoted, doubled, append-nil, sym, Words, Safe, number_as, space, Written, given_or, or_given, literal_said, is_key, equals_as, word_as, mark_as, meets, literal_as, then_as, lead_as, word_then, seen_as, fit_as, like_as, shown_as, pieces_as, after_as, wider_as, choose_as, heard_as, nothing_as, OptionFit, maybe_as, many_as, IsGivenText, IsLimit, AreChanges}
 use Rattle.ddl_grammar.specs.{Choices.any_word, Choices.clause, Choices.flag, Choices.said, Choices.◌before◌, Databases.goes_on, Databases.options}
-use Rattle.cat_model.specs.declared.grant.Commented.TheVariants as commented
-use Rattle.cat_model.specs.declared.stmt.Stmt.TheVariants as stmt
 
 -- ---- COMMENT ON
 
-unfoldable pub remark_end_as : Written remark_end
-unfolding remark_end remark is_key
-remark_end_as =
-    let either : Written remark = like_as (choose_as (seen_as (λ u. None) (mark_as (word_as space (codes "NULL") refl))) (seen_as Some (literal_as space))) IsGivenText (λ o is. elim (given_or IsGivenText o is) [ inl h ↦ inr h | inr h ↦ inl h ]) (λ o h. or_given IsGivenText tt o (elim h [ inl x ↦ inr x | inr x ↦ inl x ])) in
-    pieces_as (word_then (codes "IS") refl (end_as either refl) refl) (λ o is. remark_text o ∷ (59 ∷ []) ∷ []) (elim [ None ↦ λ is. refl | Some t ↦ λ is. refl ])
-
-unfoldable pub commented_object_as : Kinds IsWritable commented_object
-unfolding commented_object name_remarked path_remarked column_remarked constraint_remarked is_key remark_end_as
-commented_object_as =
-    let on_path = then_as (path_as space) remark_end_as refl in
-    let schema = led_as (word_as space (codes "SCHEMA") refl) (kind_as (λ x. stmt.Comment (commented.Schema x.0) x.1) (then_as (name_as space) remark_end_as refl) (λ x is. is)) refl in
-    let types = led_as (word_as space (codes "TYPE") refl) (kind_as (λ x. stmt.Comment (commented.Type x.0) x.1) on_path (λ x is. is)) refl in
-    let domain = led_as (word_as space (codes "DOMAIN") refl) (kind_as (λ x. stmt.Comment (commented.Domain x.0) x.1) on_path (λ x is. is)) refl in
-    let table = led_as (word_as space (codes "TABLE") refl) (kind_as (λ x. stmt.Comment (commented.Table x.0) x.1) on_path (λ x is. is)) refl in
-    let view = led_as (word_as space (codes "VIEW") refl) (kind_as (λ x. stmt.Comment (commented.View x.0) x.1) on_path (λ x is. is)) refl in
-    let sequence = led_as (word_as space (codes "SEQUENCE") refl) (kind_as (λ x. stmt.Comment (commented.Sequence x.0) x.1) on_path (λ x is. is)) refl in
-    let index = led_as (word_as space (codes "INDEX") refl) (kind_as (λ x. stmt.Comment (commented.Index x.0) x.1) on_path (λ x is. is)) refl in
-    let column = led_as (word_as space (codes "COLUMN") refl) (kind_as (λ x. stmt.Comment (commented.Column x.0 x.1.0) x.1.1) (then_as (path_as space) (lead_as dot_as (then_as (name_as none) remark_end_as refl) refl) refl) (λ x is. ((is.0, is.1.0), is.1.1))) refl in
-    let constraint = led_as (word_as space (codes "CONSTRAINT") refl) (kind_as (λ x. stmt.Comment (commented.Constraint x.1.0 x.0) x.1.1) (then_as (name_as space) (word_then (codes "ON") refl on_path refl) refl) (λ x is. ((is.1.0, is.0), is.1.1))) refl in
-    or_as schema (or_as types (or_as domain (or_as table (or_as view (or_as sequence (or_as index (or_as column constraint)))))))
+-- NULL, or a text
+unfoldable pub remark_as : {g : List ℕ} → Gap g → Written remark
+unfolding remark is_key
+remark_as {g} gap =
+    let either : Written remark = like_as (choose_as (seen_as (λ u. None) (mark_as (word_as gap (codes "NULL") refl))) (seen_as Some (literal_as gap))) IsGivenText (λ o is. elim (given_or IsGivenText o is) [ inl h ↦ inr h | inr h ↦ inl h ]) (λ o h. or_given IsGivenText tt o (elim h [ inl x ↦ inr x | inr x ↦ inl x ])) in
+    pieces_as either (λ o is. g ∷ remark_text o ∷ []) (elim [ None ↦ λ is. refl | Some t ↦ λ is. refl ])
 
 -- ---- ALTER ROLE
 
@@ -62,27 +46,22 @@ role_settings_as =
     let valid = clause_as (codes "VALID") refl (word_then (codes "UNTIL") refl (literal_as space) refl) refl IsGivenText tt (λ t is. is) (λ t is. is) (given_literal (codes " VALID UNTIL ")) refl (λ t is. refl) in
     before_as limit (before_as password (after_as valid Safe refl) refl) refl
 
-unfoldable pub alter_role_as : Kinds IsWritable alter_role
-unfolding alter_role role_changes role_flags_as role_settings_as is_key
-alter_role_as =
-    let changes : Written role_changes =
-    shown_as changes_by (before_as role_flags_as role_settings_as refl) AreChanges
-    (λ c is. (((c.superuser, (c.inherit, (c.create_role, (c.create_db, (c.login, (c.replication, c.bypass_rls)))))), (c.limit, (c.password, c.valid_until))), ((tt, (tt, (tt, (tt, (tt, (tt, tt)))))), (is.0, (is.1, is.2))), refl)) (λ x is. (is.1.0, is.1.1.0, is.1.1.1)) in
-    kind_as (λ x. stmt.AlterRole x.0 x.1) (then_as (name_as space) (word_then (codes "WITH") refl (end_as changes refl) refl) refl) (λ x is. is)
+unfoldable pub changes_as : Written role_changes
+unfolding role_changes role_flags_as role_settings_as attributes_text
+changes_as =
+    pieces_as (shown_as changes_by (before_as role_flags_as role_settings_as refl) AreChanges
+    (λ c is. (((c.superuser, (c.inherit, (c.create_role, (c.create_db, (c.login, (c.replication, c.bypass_rls)))))), (c.limit, (c.password, c.valid_until))), ((tt, (tt, (tt, (tt, (tt, (tt, tt)))))), (is.0, (is.1, is.2))), refl)) (λ x is. (is.1.0, is.1.1.0, is.1.1.1)))
+    (λ c is. attributes_text c ∷ []) (λ c is. sym (append-nil (attributes_text c)))
 
 -- ---- CREATE DATABASE
 
 unfoldable pub options_as : Written options
-unfolding options maybe_encoded encoded furthers is_key utf8_value is_utf8 chars encode
+unfolding options maybe_encoded encoded furthers is_key utf8_value is_utf8 chars encode written_literal quoted doubled
 options_as =
+    let all : (o : Option Encoding) → OptionFit (λ e. Unit {0}) o = elim [ None ↦ tt | Some e ↦ tt ] in
     let means : (encoding : Encoding) → Unit {0} → (t : Lexeme) → literal_value t ≡ Ok (codes "UTF8") → utf8_value t ≡ Ok encoding = elim [ Utf8 ↦ λ u t e. ap utf8_in e ] in
     let no_furthers : Written furthers = fit_as (seen_as (λ options. tt) (many_as (λ s. heard_as (λ u. Unit {0}) (λ u ts r came h. tt)) (λ u. Unit {0}) (λ s u is. tt) Safe (λ s. refl))) (λ u. Unit {0}) (λ u is. ([], tt, refl)) in
     let encoding = word_then (codes "ENCODING") refl (lead_as equals_as (literal_said space (λ e. Unit {0}) (λ e. codes "UTF8") (λ e is. IsUtf8-from_is_utf8 (codes "UTF8") refl) means (λ t e is. tt)) refl) refl in
     let maybe : Written maybe_encoded = maybe_as goes_on (shown_as (λ x. x.0) (then_as encoding no_furthers refl) (λ e. Unit {0}) (λ e is. ((e, tt), (tt, tt), refl)) (λ x is. tt)) in
-    shown_as (λ x. x.1) (then_as no_furthers maybe refl) (λ o. OptionFit (λ e. Unit {0}) o) (λ o is. ((tt, o), (tt, is), refl)) (λ x is. is.1)
-
-unfoldable pub create_database_as : Kinds IsWritable create_database
-unfolding create_database options_as is_key
-create_database_as =
-    let template = lead_as equals_as (word_then (codes "template0") refl (end_as options_as refl) refl) refl in
-    kind_as (λ x. stmt.CreateDatabase x.0 x.1) (then_as (name_as space) (word_then (codes "WITH") refl (word_then (codes "TEMPLATE") refl template refl) refl) refl) (λ x is. is.0)
+    let either : Written options = shown_as (λ x. x.1) (then_as no_furthers maybe refl) (λ o. Unit {0}) (λ o is. ((tt, o), (tt, all o), refl)) (λ x is. tt) in
+    pieces_as either (λ o is. encoding_text o ∷ []) (elim [ None ↦ λ is. refl | Some Utf8 ↦ λ is. refl ])

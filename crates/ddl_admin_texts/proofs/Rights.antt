@@ -1,10 +1,10 @@
 -- GRANT and REVOKE: each part of their grammar with the text that it is written in.
-use Rattle.ddl_admin_texts.proofs.Common.{arith, ◌≡◌, ◌||◌, OptionFit, after_as, ℕ, Bool, true, false, not, cond, ◌&&◌, List, [], ◌∷◌, ◌++◌, map, append_assoc, append-nil, Option, Some, None, Ok, refl, sym, ap, subst, ◌∙◌, inl, inr, codes, flat_map, is_utf8, chars, encode, and_parts, not-true, Word, is_keyword_of, name_of, written_kind, written_name, IsName, Rights, Granted, Stmt, no_rights, has_rights, Lexeme, is_word, comma, Part, ◌then◌, ◌▸◌, name, name_value, name_in, joined, only_if, is_all, with_commas, right_list, rights_text, granted_words, granted_name, grantee_text, with_right, only, within, kind_rights, goes_with, right_first, wanted_first, wanted, joining, right_behind, more_rights, all_of, rights_from, kind_has, having, kind_with, rights_on, object, on_object, rights_and_object, grantee_of, grantee, truth_first, set_behind, inherit_and_set, others_behind, options, with_options, granted_by, member, member_of, membership, grant_option, to_grantee, from_grantee, grant_rights, revoke_rights, first, behind_first, granted, revoked, Behind, Anything, Words, Safe, End, admits, covers, through, looser, put_as, joined-append, none, space, name_token, value_name, Written, Kinds, given_or, or_given, is_bare_word, Says, word_said, name_said, is_key, comma_as, ending, mark_as, name_as, path_as, then_as, lead_as, word_then, end_as, seen_as, is_as, like_as, pieces_as, choose_as, heard_as, also_as, AllFit, items_pieces, many_as, lone_as, IsWritable}
+use Rattle.ddl_admin_texts.proofs.Common.{arith, ◌≡◌, ◌||◌, OptionFit, after_as, ℕ, Bool, true, false, not, cond, ◌&&◌, List, [], ◌∷◌, ◌++◌, map, append_assoc, append-nil, Option, Some, None, Ok, refl, sym, ap, subst, ◌∙◌, inl, inr, codes, flat_map, is_utf8, chars, encode, and_parts, not-true, Word, is_keyword_of, name_of, written_kind, written_name, IsName, Rights, Granted, Stmt, no_rights, has_rights, Lexeme, is_word, comma, Part, ◌then◌, ◌▸◌, name, name_value, name_in, joined, only_if, is_all, with_commas, right_list, rights_text, granted_words, granted_name, grantee_text, with_right, only, within, kind_rights, goes_with, right_first, wanted_first, wanted, joining, right_behind, more_rights, all_of, rights_from, kind_has, having, kind_with, rights_on, object, on_object, rights_and_object, grantee_of, grantee, truth_first, set_behind, inherit_and_set, others_behind, options, with_options, granted_by, member, member_of, membership, grant_option, to_grantee, from_grantee, grant_rights, revoke_rights, first, behind_first, granted, revoked, Behind, Anything, Words, Safe, End, admits, covers, through, looser, put_as, joined-append, none, space, name_token, value_name, Written, given_or, or_given, is_bare_word, Says, word_said, name_said, is_key, comma_as, ending, mark_as, name_as, path_as, then_as, lead_as, word_then, end_as, seen_as, is_as, like_as, pieces_as, choose_as, heard_as, also_as, AllFit, items_pieces, many_as, IsGranted, IsRevoked, fit_as, grant_text, revoke_text, member_text}
 use Rattle.cat_model.specs.declared.grant.Grantee.{Grantee}
 use Rattle.ddl_forms.specs.Roles.{truth as truth_word}
 use Rattle.ddl_grammar.proofs.Meanings.{object_on, right_word, wanted_is}
 use Rattle.ddl_admin_texts.proofs.RightSets.{has_some, has_it, kind_some, kind_whole, all_is, listed_is, some_listed, written_word, words_are, AllGo, all_go}
-use Rattle.ddl_grammar.specs.{declared.rights.Right.Right, declared.rights.Right.TheVariants.Select, declared.rights.Kind.Kind, declared.rights.Kind.TheVariants.Tables, declared.rights.Kind.TheVariants.Sequences, declared.rights.Kind.TheVariants.Schemas, declared.rights.Kind.TheVariants.Types, declared.rights.Wanted.Wanted, declared.rights.Wanted.TheVariants.All, declared.rights.Wanted.TheVariants.These, Depending.◌thenby◌, Values.told, RightsGrammar.kind_first, Memberships.truth, Grants.First, Grants.named_by, Writable.kind_of, Writable.IsObject, Writable.AreRights, Writable.IsGrantee, Writable.IsGrantor}
+use Rattle.ddl_grammar.specs.{declared.rights.Right.Right, declared.rights.Right.TheVariants.Select, declared.rights.Kind.Kind, declared.rights.Kind.TheVariants.Tables, declared.rights.Kind.TheVariants.Sequences, declared.rights.Kind.TheVariants.Schemas, declared.rights.Kind.TheVariants.Types, declared.rights.Wanted.Wanted, declared.rights.Wanted.TheVariants.All, declared.rights.Wanted.TheVariants.These, Depending.◌thenby◌, Values.told, RightsGrammar.kind_first, Memberships.truth, Grants.First, Grants.named_by, Writable.kind_of, Writable.IsObject, Writable.AreRights, Writable.IsGrantee, Writable.IsGrantor, LeafParts.granted_words as grant_words, LeafParts.revoked_words as revoke_words}
 use Rattle.cat_model.specs.declared.grant.Granted.TheVariants as on
 use Rattle.cat_model.specs.declared.grant.Grantee.TheVariants as grantees
 use Rattle.cat_model.specs.declared.stmt.Stmt.TheVariants as stmt
@@ -158,13 +158,6 @@ object_as Sequences = seen_as on.Sequence (path_as space)
 object_as Schemas = seen_as on.Schema (name_as space)
 object_as Types = seen_as on.Type (path_as space)
 
-unfoldable pub object_fit : (o : Granted) → IsObject o → (object_as (kind_of o)).Fit o
-unfolding object_as
-object_fit (on.Table q) is = (q, is, refl)
-object_fit (on.Sequence q) is = (q, is, refl)
-object_fit (on.Schema n) is = (n, is, refl)
-object_fit (on.Type q) is = (q, is, refl)
-
 pub object_is : (k : Kind) (o : Granted) → (object_as k).Is o → IsObject o × (kind_of o ≡ k)
 unfolding object_as
 object_is Tables o h = subst (λ (x : Granted). IsObject x × (kind_of x ≡ Tables)) h.2 (h.1, refl)
@@ -230,10 +223,11 @@ unfoldable pub revoke_rights_as : (w : Wanted) → Written (revoke_rights w)
 unfolding revoke_rights rights_and_object_as from_as
 revoke_rights_as w = seen_as (λ x. stmt.Revoke x.0.0 x.0.1 x.1) (then_as (rights_and_object_as w) from_as refl)
 
-unfoldable pub revoked_as : Kinds IsWritable revoked
+-- what stands behind REVOKE, which the words tell with which rights begin
+unfoldable pub revoking_as : Written revoked
 unfolding revoked revoke_rights_as rights_and_object_as wanted_as from_as
-revoked_as =
-    lone_as (thenby_as wanted_as revoke_rights_as Safe End true (λ w. refl) refl) (λ s h. let on = h.2.1.0 h.1 in subst IsWritable h.2.2 (on.0, on.1, h.2.1.1))
+revoking_as =
+    is_as (thenby_as wanted_as revoke_rights_as Safe End true (λ w. refl) refl) IsRevoked (λ s h. let on = h.2.1.0 h.1 in subst IsRevoked h.2.2 (on.0, on.1, h.2.1.1))
 
 -- ---- GRANT
 
@@ -245,22 +239,17 @@ unfolding membership_as to_as grant_rights rights_and_object_as
 behind_as n o =
     let grant = λ (w : Wanted). seen_as (λ x. stmt.Grant x.0.0 x.0.1 x.1.0 x.1.1) (then_as (rights_and_object_as w) to_as refl) in
     let each : (o : Option Wanted) → Written (behind_first n o) = elim [ None ↦ membership_as n | Some w ↦ choose_as (membership_as n) (grant w) ] in
-    let are : (o : Option Wanted) (s : Stmt) → (each o).Is s → IsFirst (n, o) → IsWritable s = elim [
-      | None ↦ λ s h is. subst IsWritable h.2 (is.0, h.1.0, h.1.1.1)
-      | Some w ↦ λ s h is. elim h [ inl x ↦ subst IsWritable x.2 (is.0, x.1.0, x.1.1.1) | inr y ↦ (let on = y.1.0 is.1 in subst IsWritable y.2 (on.0, on.1, y.1.1.0)) ]
+    let are : (o : Option Wanted) (s : Stmt) → (each o).Is s → IsFirst (n, o) → IsGranted s = elim [
+      | None ↦ λ s h is. subst IsGranted h.2 (is.0, h.1.0, h.1.1.1)
+      | Some w ↦ λ s h is. elim h [ inl x ↦ subst IsGranted x.2 (is.0, x.1.0, x.1.1.1) | inr y ↦ (let on = y.1.0 is.1 in subst IsGranted y.2 (on.0, on.1, y.1.1.0)) ]
     ] in
-    within_as Safe End true (is_as (each o) (λ s. IsFirst (n, o) → IsWritable s) (are o)) (elim o as (λ o. lies_within Safe End true (each o) ≡ true) [ None ↦ refl | Some w ↦ refl ])
+    within_as Safe End true (is_as (each o) (λ s. IsFirst (n, o) → IsGranted s) (are o)) (elim o as (λ o. lies_within Safe End true (each o) ≡ true) [ None ↦ refl | Some w ↦ refl ])
 
 -- behind what may be a right, TO tells that it is a role
-unfoldable pub role_fit : (n : List ℕ) → (o : Option Wanted) → (s : Stmt) → (membership_as n).Fit s → (behind_as n o).Fit s
+pub role_laid : (n : List ℕ) (o : Option Wanted) (s : Stmt) (fit : (membership_as n).Fit s) → (whole : (behind_as n o).Fit s) × ((behind_as n o).pieces s whole ≡ (membership_as n).pieces s fit)
 unfolding behind_as
-role_fit n None s fit = fit
-role_fit n (Some w) s fit = inl fit
-
-pub role_spelled : (n : List ℕ) (o : Option Wanted) (s : Stmt) (fit : (membership_as n).Fit s) (t : List (List ℕ)) → joined ((behind_as n o).pieces s (role_fit n o s fit) ++ t) ≡ joined ((membership_as n).pieces s fit ++ t)
-unfolding role_fit
-role_spelled n None s fit t = refl
-role_spelled n (Some w) s fit t = refl
+role_laid n None s fit = (fit, refl)
+role_laid n (Some w) s fit = (inl fit, refl)
 
 -- the first name: that of a role, whatever it may stand for, or a word with which rights begin
 abbrev pub role_wanted : List ℕ → Option Wanted
@@ -284,20 +273,18 @@ first_as =
     also_as (name_said space (λ x. IsName x.0 × (role_wanted x.0 ≡ x.1)) IsFirst (λ x. x.0) (λ x fit. fit.0) role_means first_made)
     (word_said space (λ x. (o : Option Right) × ((opening_name o, Some (wanting o)) ≡ x)) IsFirst (λ x fit. opening_word fit.0) (λ x fit. ((opening_says fit.0).0, opening_means x fit)) first_made)
 
-unfoldable pub granted_as : Kinds IsWritable granted
+unfoldable pub granting_as : Written granted
 unfolding granted behind_as first_as
-granted_as = lone_as (thenby_as first_as (λ x. behind_as x.0 x.1) Safe End true (λ x. refl) refl) (λ s h. h.2 h.1)
+granting_as = is_as (thenby_as first_as (λ x. behind_as x.0 x.1) Safe End true (λ x. refl) refl) IsGranted (λ s h. h.2 h.1)
 
 -- ---- the text of rights on an object
 
-unfoldable pub on_fit : (w : Wanted) → (o : Granted) → (r : Rights) → kind_has w (kind_of o) ≡ true → rights_on w (kind_of o) ≡ r → IsObject o → (on_object_as w).Fit (o, r)
-unfolding on_object_as object_fit
-on_fit w o r has e is = (kind_of o, has, (o, object_fit o is, ap (λ (x : Rights). (o, x)) e))
-
-pub on_same : (w : Wanted) (o : Granted) (r : Rights) (has : kind_has w (kind_of o) ≡ true) (e : rights_on w (kind_of o) ≡ r) (is : IsObject o) → joined ((on_object_as w).pieces (o, r) (on_fit w o r has e is)) ≡ (granted_words o ++ granted_name o) ++ []
-unfolding on_fit
-on_same w (on.Table q) r has e is = refl
-on_same w o r has e is = refl
+pub on_laid : (w : Wanted) (o : Granted) (r : Rights) → kind_has w (kind_of o) ≡ true → rights_on w (kind_of o) ≡ r → IsObject o → (fit : (on_object_as w).Fit (o, r)) × (joined ((on_object_as w).pieces (o, r) fit) ≡ (granted_words o ++ granted_name o) ++ [])
+unfolding on_object_as
+on_laid w (on.Table q) r has e is = ((Tables, has, (on.Table q, (q, is, refl), ap (λ (x : Rights). (on.Table q, x)) e)), refl)
+on_laid w (on.Sequence q) r has e is = ((Sequences, has, (on.Sequence q, (q, is, refl), ap (λ (x : Rights). (on.Sequence q, x)) e)), refl)
+on_laid w (on.Schema n) r has e is = ((Schemas, has, (on.Schema n, (n, is, refl), ap (λ (x : Rights). (on.Schema n, x)) e)), refl)
+on_laid w (on.Type q) r has e is = ((Types, has, (on.Type q, (q, is, refl), ap (λ (x : Rights). (on.Type q, x)) e)), refl)
 
 -- rights behind others, each behind a comma
 unfoldable pub list_laid : (start s : Rights) → (xs : List Right) → AllGo s xs → (fit : AllFit (more_rights start) more_as s xs) × (joined (items_pieces (more_rights start) more_as s xs fit) ≡ flat_map (λ word. codes "," ++ word) (map written_word xs))
@@ -313,7 +300,7 @@ pub record IsOpened (o : Granted) (r : Rights) (text : List ℕ) : Type 0 where
 
 pub all_opened : (o : Granted) (r : Rights) → IsObject o → is_all o r ≡ true → IsOpened o r (codes "ALL")
 unfolding rights_and_object_as
-all_opened o r is all = let e = sym (all_is o r all) in record { opening = None; fit = on_fit All o r refl e is; same = ap (λ (x : List ℕ). codes "ALL" ++ x) (on_same All o r refl e is) }
+all_opened o r is all = let on = on_laid All o r refl (sym (all_is o r all)) is in record { opening = None; fit = on.0; same = ap (λ (x : List ℕ). codes "ALL" ++ x) on.1 }
 
 pub list_opened : (o : Granted) (r : Rights) → IsObject o → AreRights o r → IsOpened o r (right_list r)
 unfolding rights_and_object_as right_list with_commas
@@ -324,12 +311,13 @@ list_opened o r is are =
     let whole : all_of (only x) xs ≡ r = ap (all_of no_rights) (sym l.same) ∙ listed_is r in
     let laid = list_laid (only x) (only x) xs (all_go (kind_of o) (only x) xs (ap (λ (y : Rights). within y (kind_rights (kind_of o))) whole ∙ are.1)) in
     let items = items_pieces (more_rights (only x)) more_as (only x) xs laid.0 in
-    let behind = (on_object_as (These r)).pieces (o, r) (on_fit (These r) o r are.1 refl is) in
+    let on = on_laid (These r) o r are.1 refl is in
+    let behind = (on_object_as (These r)).pieces (o, r) on.0 in
     let object = (granted_words o ++ granted_name o) ++ [] in
     record {
       opening = Some x;
-      fit = (r, (xs, laid.0, whole), on_fit (These r) o r are.1 refl is);
-      same = ap (λ (t : List ℕ). written_word x ++ t) (joined-append items behind ∙ ap (λ (t : List ℕ). t ++ joined behind) laid.1 ∙ ap (λ (t : List ℕ). flat_map (λ word. codes "," ++ word) (map written_word xs) ++ t) (on_same (These r) o r are.1 refl is))
+      fit = (r, (xs, laid.0, whole), on.0);
+      same = ap (λ (t : List ℕ). written_word x ++ t) (joined-append items behind ∙ ap (λ (t : List ℕ). t ++ joined behind) laid.1 ∙ ap (λ (t : List ℕ). flat_map (λ word. codes "," ++ word) (map written_word xs) ++ t) on.1)
           ∙ sym (append_assoc (written_word x) (flat_map (λ word. codes "," ++ word) (map written_word xs)) object) ∙ ap (λ (t : List ℕ). t ++ object) (sym (ap with_commas (words_are r ∙ ap (map written_word) l.same)));
     }
 
@@ -338,6 +326,42 @@ unfolding rights_text
 rights_opened o r is are = grind (arith, all_opened, list_opened)
 
 -- before what stands behind them
-pub rights_spelled : (o : Granted) (r : Rights) (h : IsOpened o r (rights_text o r)) (t u : List (List ℕ))
-    → opening_word h.opening ++ joined (((rights_and_object_as (wanting h.opening)).pieces (o, r) h.fit ++ t) ++ u) ≡ rights_text o r ++ ((granted_words o ++ granted_name o) ++ joined (t ++ u))
-rights_spelled o r h t u = simp (joined-append, append_assoc) (simp (joined-append, append_assoc, append-nil) at (ap (λ (x : List ℕ). x ++ joined (t ++ u)) h.same))
+pub rights_spelled : (o : Granted) (r : Rights) (h : IsOpened o r (rights_text o r)) (t : List (List ℕ)) → opening_word h.opening ++ joined ((rights_and_object_as (wanting h.opening)).pieces (o, r) h.fit ++ t) ≡ rights_text o r ++ ((granted_words o ++ granted_name o) ++ joined t)
+rights_spelled o r h t = simp (joined-append, append_assoc) (simp (append_assoc, append-nil) at (ap (λ (x : List ℕ). x ++ joined t) h.same))
+
+-- ---- what stands behind GRANT and behind REVOKE, with its one text
+
+pub member_laid : (role m : List ℕ) (c : Option (List ℕ)) (admin : Bool) (inherit : Option Bool) (z : Bool) → IsGranted (stmt.GrantRole role m c admin inherit z)
+    → (fit : (membership_as role).Fit (stmt.GrantRole role m c admin inherit z)) × ((32 ∷ []) ++ (written_name role ++ joined ((membership_as role).pieces (stmt.GrantRole role m c admin inherit z) fit)) ≡ member_text role m c admin inherit z)
+unfolding membership_as member_text
+member_laid role m None admin None z is = (((m, ((admin, (None, z)), None)), (is.1, (tt, is.2)), refl), refl)
+member_laid role m None admin (Some b) z is = (((m, ((admin, (Some b, z)), None)), (is.1, (tt, is.2)), refl), refl)
+member_laid role m (Some c) admin None z is = (((m, ((admin, (None, z)), Some c)), (is.1, (tt, is.2)), refl), refl)
+member_laid role m (Some c) admin (Some b) z is = (((m, ((admin, (Some b, z)), Some c)), (is.1, (tt, is.2)), refl), refl)
+
+pub granted_laid : (s : Stmt) → IsGranted s → (fit : granting_as.Fit s) × (joined (granting_as.pieces s fit) ≡ grant_words s ++ [])
+unfolding granting_as grant_text
+granted_laid (stmt.Grant o r who option) is =
+    let h = rights_opened o r is.0 is.1 in
+    let same = rights_spelled o r h (to_as.pieces (who, option) (is.2, tt)) in
+    (((opening_name h.opening, Some (wanting h.opening)), inr (h.opening, refl), inr (((o, r), (who, option)), (h.fit, (is.2, tt)), refl)), ap (λ (x : List ℕ). 32 ∷ x) same ∙ sym (append-nil (grant_text o r who option)))
+granted_laid (stmt.GrantRole role m c admin inherit z) is =
+    let member = member_laid role m c admin inherit z is in
+    let whole = role_laid role (role_wanted role) (stmt.GrantRole role m c admin inherit z) member.0 in
+    (((role, role_wanted role), inl (is.0, refl), whole.0), ap (λ (x : List (List ℕ)). 32 ∷ written_name role ++ joined x) whole.1 ∙ member.1 ∙ sym (append-nil (member_text role m c admin inherit z)))
+granted_laid s is = absurd is
+
+unfoldable pub granted_as : Written granted
+unfolding granting_as
+granted_as = pieces_as (fit_as granting_as IsGranted (λ s is. (granted_laid s is).0)) (λ s is. grant_words s ∷ []) (λ s is. (granted_laid s is).1)
+
+pub revoked_laid : (s : Stmt) → IsRevoked s → (fit : revoking_as.Fit s) × (joined (revoking_as.pieces s fit) ≡ revoke_words s ++ [])
+unfolding revoking_as revoke_text
+revoked_laid (stmt.Revoke o r who) is =
+    let h = rights_opened o r is.0 is.1 in
+    ((wanting h.opening, (h.opening, refl), (((o, r), who), (h.fit, is.2), refl)), ap (λ (x : List ℕ). 32 ∷ x) (rights_spelled o r h (from_as.pieces who is.2)) ∙ sym (append-nil (revoke_text o r who)))
+revoked_laid s is = absurd is
+
+unfoldable pub revoked_as : Written revoked
+unfolding revoking_as
+revoked_as = pieces_as (fit_as revoking_as IsRevoked (λ s is. (revoked_laid s is).0)) (λ s is. revoke_words s ∷ []) (λ s is. (revoked_laid s is).1)

@@ -1,7 +1,7 @@
 -- A default is written with the tokens that it has, with NOT NULL behind it or without; and what is read of a text as a
 -- default can be written.
-use Rattle.ddl_forms.proofs.Common.{◌≡◌, ℕ, suc, ◌-◌, Bool, true, false, List, [], ◌∷◌, ◌++◌, length, length-append, append-nil, drop, Option, Some, None, refl, sym, ap, subst, ◌∙◌, ◌⊎◌, arith, inl, inr, codes, and_from, take_at, drop_at, is_keyword_of, Spot, First, LaterNot, Closed as Shut, Lexeme, source, is_word, is_sign, run, Nest, nested, nest_step, nest_done, ends_run, default_and_null, are_not_null, without_not_null, words_apart, nest, run_none, IsDefaultText, only_if, joined, Part, choose, seen, nothing, mark, never, runs_of, ◌▸◌, ◌then◌, passes_true}
-use Rattle.ddl_forms.proofs.{Tokens.space, RunTexts.not_some, RunTexts.run-append, Behind.Safe, Written.Written, Written.pieces_as, Expressions.nested_plain, Written.is_key, Written.carry_as, Written.then_as, Written.run_as, Written.after_as, Written.choose_as, Written.lead_as, Written.word_as, Written.seen_as, Written.mark_as, Written.nothing_as}
+use Rattle.ddl_forms.proofs.Common.{◌≡◌, ℕ, suc, ◌-◌, Bool, true, false, List, [], ◌∷◌, ◌++◌, length, length-append, append-nil, drop, Some, refl, sym, ap, subst, ◌∙◌, ◌⊎◌, arith, inl, inr, codes, and_from, take_at, drop_at, is_keyword_of, Spot, First, LaterNot, Closed as Shut, Lexeme, source, is_word, is_sign, run, Nest, nested, nest_step, nest_done, ends_run, default_and_null, are_not_null, without_not_null, words_apart, nest, run_none, IsDefaultText, only_if, joined, Part, choose, seen, nothing, mark, never, runs_of, ◌▸◌, ◌then◌, passes_true}
+use Rattle.ddl_forms.proofs.{Tokens.space, RunTexts.not_some, RunTexts.run_some, RunTexts.run-append, Behind.Safe, Written.Written, Written.pieces_as, Expressions.nested_plain, Written.is_key, Written.carry_as, Written.then_as, Written.run_as, Written.after_as, Written.choose_as, Written.lead_as, Written.word_as, Written.seen_as, Written.mark_as, Written.nothing_as}
 
 -- ---- steps of the two machines of defaults
 
@@ -22,12 +22,11 @@ step_goes s x t e = grind arith
 
 run_more : (s last : Nest) (ts : List Lexeme) → is_shut s.spot ≡ false → run (nested true false) (Some s) ts ≡ Some last → (run (nested true true) (Some s) ts ≡ Some last) × (is_shut last.spot ≡ false)
 run_more s last [] free e = (e, grind arith)
-run_more s last (t ∷ ts) free e = by (nest_step true false s t) refl (λ x is f. run_more x last ts is f) e
-  where
-    by : (next : Option Nest) → nest_step true false s t ≡ next → ((x : Nest) → is_shut x.spot ≡ false → run (nested true false) (Some x) ts ≡ Some last → (run (nested true true) (Some x) ts ≡ Some last) × (is_shut last.spot ≡ false))
-        → run (nested true false) next ts ≡ Some last → (run (nested true true) (Some s) (t ∷ ts) ≡ Some last) × (is_shut last.spot ≡ false)
-    by None is f h = absurd (not_some last (run (nested true false) None ts) h (run_none (nested true false) ts))
-    by (Some x) is f h = let m = step_more s x t is in let g = f x m.1 h in (rw m.0 g.0, g.1)
+run_more s last (t ∷ ts) free e =
+    let n = run_some (nested true false) (nest_step true false s t) ts last e in
+    let m = step_more s n.0 t n.1 in
+    let g = run_more n.0 last ts m.1 n.2 in
+    (rw m.0 g.0, g.1)
 
 -- ---- NOT NULL at the end
 
@@ -46,11 +45,10 @@ no_nulls : (s last : Nest) (ts : List Lexeme) → run (nested true false) (Some 
 no_nulls s last [] e done = refl
 no_nulls s last (a ∷ []) e done = refl
 no_nulls s last (a ∷ b ∷ []) e done = grind (arith, null_refused)
-no_nulls s last (a ∷ b ∷ c ∷ ts) e done = by (nest_step true false s a) (λ x f. no_nulls x last (b ∷ c ∷ ts) f done) e
-  where
-    by : (next : Option Nest) → ((x : Nest) → run (nested true false) (Some x) (b ∷ c ∷ ts) ≡ Some last → are_nulls (b ∷ c ∷ ts) ≡ false) → run (nested true false) next (b ∷ c ∷ ts) ≡ Some last → are_nulls (a ∷ b ∷ c ∷ ts) ≡ false
-    by None f e = absurd (not_some last (run (nested true false) None ts) e (run_none (nested true false) ts))
-    by (Some x) f e = let n : length (a ∷ b ∷ c ∷ ts) - 2 ≡ suc (length (b ∷ c ∷ ts) - 2) = omega arith in rw n (f x e)
+no_nulls s last (a ∷ b ∷ c ∷ ts) e done =
+    let n = run_some (nested true false) (nest_step true false s a) (b ∷ c ∷ ts) last e in
+    let less : length (a ∷ b ∷ c ∷ ts) - 2 ≡ suc (length (b ∷ c ∷ ts) - 2) = omega arith in
+    rw less (no_nulls n.0 last (b ∷ c ∷ ts) n.2 done)
 
 -- where NOT NULL is taken, a run is one where it isn't, or such a one and NOT NULL, or NULL behind a later NOT
 data IsRead (s last : Nest) : List Lexeme → Type 0 where
@@ -61,7 +59,9 @@ data IsRead (s last : Nest) : List Lexeme → Type 0 where
 run_is : (s last : Nest) (ts : List Lexeme) → run (nested true true) (Some s) ts ≡ Some last → IsRead s last ts
 unfolding nest_step
 run_is s last [] e = alone [] e
-run_is s last (t ∷ ts) e = by (nest_step true true s t) refl (λ x f. run_is x last ts f) e
+run_is s last (t ∷ ts) e =
+    let n = run_some (nested true true) (nest_step true true s t) ts last e in
+    elim (step_goes s n.0 t n.1) [ inl g ↦ more n.0 g.0 g.1 ts (run_is n.0 last ts n.2) | inr c ↦ shut ts (rw c.2 at n.2) c.0 c.1 ]
   where
     more : (x : Nest) → nest_step true false s t ≡ Some x → (x.spot ≡ LaterNot → (is_word (codes "not") t ≡ true) × (nest_done s ≡ true)) → (us : List Lexeme) → IsRead x last us → IsRead s last (t ∷ us)
     more x e f _ (alone us runs) = alone (t ∷ us) (rw e runs)
@@ -71,10 +71,6 @@ run_is s last (t ∷ ts) e = by (nest_step true true s t) refl (λ x f. run_is x
     shut : (us : List Lexeme) → run (nested true true) (Some (nest [] Shut)) us ≡ Some last → is_word (codes "null") t ≡ true → s.spot ≡ LaterNot → IsRead s last (t ∷ us)
     shut [] e is spot = half t is spot
     shut (u ∷ us) e is spot = grind (arith, not_some, run_none)
-
-    by : (next : Option Nest) → nest_step true true s t ≡ next → ((x : Nest) → run (nested true true) (Some x) ts ≡ Some last → IsRead x last ts) → run (nested true true) next ts ≡ Some last → IsRead s last (t ∷ ts)
-    by None is f e = absurd (not_some last (run (nested true true) None ts) e (run_none (nested true true) ts))
-    by (Some x) is f e = elim (step_goes s x t is) [ inl g ↦ more x g.0 g.1 ts (f x e) | inr c ↦ shut ts (rw c.2 at e) c.0 c.1 ]
 
 -- ---- a default and NOT NULL, or nothing, behind it
 

@@ -1,5 +1,5 @@
 -- Whole numbers as they are written, in tokens that stand; and that what is read has 64 bits.
-use Rattle.ddl_forms.proofs.Common.{◌≡◌, ℕ, suc, ◌+◌, ◌<◌, ◌^◌, ℤ, pos, negsuc, true, false, List, [], ◌∷◌, ◌++◌, length, append_assoc, append-nil, Option, Some, None, Ok, refl, sym, ap, subst, ◌∙◌, arith, ◌⊎◌, inl, inr, ◌==◌, list_all, digit_value, decimal, signed_decimal, is_utf8, chars, AllDigits, encode, and_from, lt-ltb, nat_tests, decimal_is_IsNumeral, IsAscii-decimal, digit_from_value, IsUtf8-from_ascii, is_utf8-from_IsUtf8, is_blank, is_digit, next_is, goes_on, Number, Sign, spelling_is_read, Lexeme, spelled, is_sign, mark, seen, ◌then◌, ◌▸◌, is_int, IsInt, ltb-true}
+use Rattle.ddl_forms.proofs.Common.{◌≡◌, ℕ, suc, ◌+◌, ◌<◌, ◌^◌, ℤ, pos, negsuc, true, false, List, [], ◌∷◌, ◌++◌, length, append_assoc, append-nil, Option, Some, None, Ok, refl, sym, ap, subst, ◌∙◌, arith, inl, inr, ◌==◌, list_all, digit_value, decimal, signed_decimal, is_utf8, chars, AllDigits, encode, and_from, lt-ltb, nat_tests, decimal_is_IsNumeral, IsAscii-decimal, digit_from_value, IsUtf8-from_ascii, is_utf8-from_IsUtf8, is_blank, is_digit, next_is, goes_on, Number, Sign, spelling_is_read, Lexeme, spelled, is_sign, mark, ◌then◌, is_int, IsInt, ltb-true}
 use Rattle.sql_lex.specs.Bytes.{is_sign as is_sign_byte}
 use Rattle.ddl_forms.proofs.{Standing.Stands, Kept.safe_ends, Kept.spelled-append, Kept.Begun, Tokens.Gap, Tokens.none, Tokens.gap_stands, Tokens.sign_token, Behind.Safe, Behind.admits, RunTexts.safe_behind, Putting.Follows, Putting.IsPut, Putting.followed, Putting.put_as, Putting.one_put, Putting.then_put, Putting.Yields, Written.Written, Written.leaf_as}
 use Rattle.ddl_parts.specs.Numbers.{count, count_first, count_value, counted, digits_below, opposite, whole_number}
@@ -75,9 +75,6 @@ number_put {g} gap (negsuc n) others is follows e =
 
 -- ---- what is read
 
-pub positive_is : (n : ℕ) → n < 2 ^ 63 → IsInt (pos n)
-positive_is n small = lt-ltb n (2 ^ 63) small
-
 pub opposite_is : (n : ℕ) → n < 2 ^ 63 + 1 → IsInt (opposite n)
 opposite_is n small = grind arith
 
@@ -94,11 +91,13 @@ counted_below limit n o is e = grind arith
 
 pub number_made : Yields IsInt whole_number
 unfolding whole_number count_value
-number_made z ts r came spells = by spells
-  where
-    by : (seen opposite (is_sign 45 ▸ count (2 ^ 63 + 1))).Spells z ts ⊎ (seen pos (count (2 ^ 63))).Spells z ts → IsInt z
-    by (inl h) = let d = h.2.2.4 in subst IsInt (sym (h.1 ∙ ap opposite h.2.1)) (opposite_is h.2.0.1 (counted_below (2 ^ 63 + 1) h.2.0.1 (count_first (2 ^ 63 + 1) (d.0 ∷ [])) (count_below (2 ^ 63 + 1) (d.0 ∷ [])) d.2))
-    by (inr h) = subst IsInt (sym h.1) (positive_is h.0 (counted_below (2 ^ 63) h.0 (count_first (2 ^ 63) (h.2.0 ∷ [])) (count_below (2 ^ 63) (h.2.0 ∷ [])) h.2.2))
+number_made z ts r came spells = elim spells [
+  | inl h ↦ (
+      let d = h.2.2.4 in
+      subst IsInt (sym (h.1 ∙ ap opposite h.2.1)) (opposite_is h.2.0.1 (counted_below (2 ^ 63 + 1) h.2.0.1 (count_first (2 ^ 63 + 1) (d.0 ∷ [])) (count_below (2 ^ 63 + 1) (d.0 ∷ [])) d.2))
+      )
+  | inr h ↦ subst IsInt (sym h.1) (lt-ltb h.0 (2 ^ 63) (counted_below (2 ^ 63) h.0 (count_first (2 ^ 63) (h.2.0 ∷ [])) (count_below (2 ^ 63) (h.2.0 ∷ [])) h.2.2))
+]
 
 abbrev pub number_as : {g : List ℕ} → Gap g → Written whole_number
 number_as {g} gap = leaf_as IsInt IsInt g (λ z is. signed_decimal z) Safe (λ z is others. number_put gap z others is) number_made

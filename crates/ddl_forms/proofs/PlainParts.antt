@@ -1,5 +1,5 @@
 -- Parts that look at kinds and words alone, and take neither a semicolon nor a line that begins with a backslash.
-use Rattle.ddl_forms.proofs.Common.{◌≡◌, ℕ, Bool, false, List, [], ◌∷◌, ◌++◌, Option, Some, None, Result, Ok, Err, refl, sym, ap, subst, ◌∙◌, inl, inr, Lexeme, is_word, is_sign, is_keyword_of, name, name_value, name_in, name_of, Part, Items, Many, no_more, one, many, mark, seen, choose, nothing, ◌then◌, ◌==◌}
+use Rattle.ddl_forms.proofs.Common.{arith, ◌≡◌, ℕ, Bool, false, List, [], ◌∷◌, ◌++◌, Option, Some, None, Result, Ok, Err, refl, sym, ap, subst, ◌∙◌, inl, inr, Lexeme, is_word, is_sign, is_keyword_of, name, name_value, name_in, name_of, Part, Items, Many, no_more, one, many, mark, seen, choose, nothing, ◌then◌, ◌==◌}
 use Rattle.ddl_parts.specs.Parts.{one_more, passes}
 use Rattle.ddl_forms.proofs.{Kept.AllPlain, RunTexts.GoesByWords, RunTexts.goes_plain, RunTexts.same_step, RunTexts.words, RunTexts.one_said, RunTexts.IsPlain}
 
@@ -38,8 +38,7 @@ one_plain {A} value goes = record {
 }
   where
     found : (v : A) (r : Result A Bool) → if_ok r ≡ Some v → r ≡ Ok v
-    found v (Ok x) e = cc
-    found v (Err long) e = absurd cc
+    found v r e = grind arith
 
     again : (v : A) (t : Lexeme) (us : List Lexeme) → if_ok (value t) ≡ Some v → words us ≡ words (t ∷ []) → (one value).Spells v us
     again v t [] is e = absurd cc

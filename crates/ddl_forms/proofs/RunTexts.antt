@@ -45,13 +45,14 @@ pub run-append : (m : Machine) (s : Option m.State) (a b : List Lexeme) → run 
 run-append m s [] b = refl
 run-append m s (t ∷ a) b = run-append m (option_and_then (λ x. m.step x t) s) a b
 
+-- a run that goes on has a state
+pub run_some : (m : Machine) (o : Option m.State) (ts : List Lexeme) (last : m.State) → run m o ts ≡ Some last → (x : m.State) × (o ≡ Some x) × (run m (Some x) ts ≡ Some last)
+run_some m None ts last e = absurd (not_some last (run m None ts) e (run_none m ts))
+run_some m (Some x) ts last e = (x, refl, e)
+
 pub are_plain : (m : Machine) → IsPlainMachine m → (s last : m.State) (ts : List Lexeme) → run m (Some s) ts ≡ Some last → AllPlain ts
 are_plain m h s last [] e = tt
-are_plain m h s last (t ∷ ts) e = by (m.step s t) refl (λ x f. are_plain m h x last ts f) e
-  where
-    by : (next : Option m.State) → m.step s t ≡ next → ((x : m.State) → run m (Some x) ts ≡ Some last → AllPlain ts) → run m next ts ≡ Some last → AllPlain (t ∷ ts)
-    by None is later f = absurd (not_some last (run m None ts) f (run_none m ts))
-    by (Some x) is later f = (goes_plain (m.step s) (h.goes s) x t is, later x f)
+are_plain m h s last (t ∷ ts) e = let n = run_some m (m.step s t) ts last e in (goes_plain (m.step s) (h.goes s) n.0 t n.1, are_plain m h n.0 last ts n.2)
 
 pub last_more : (test : Lexeme → Bool) (t : Lexeme) (us : List Lexeme) → test t ≡ false → only_last test us ≡ true → only_last test (t ∷ us) ≡ true
 last_more test t us e last = grind arith
@@ -76,15 +77,6 @@ placed-append at (t ∷ a) b =
 pub spelled_placed : (at : ℕ) (ts : List Lexeme) → spelled (placed at ts) ≡ spelled ts
 spelled_placed at [] = refl
 spelled_placed at (t ∷ ts) = ap (λ (x : List ℕ). t.gap ++ (t.word ++ x)) (spelled_placed (at + length t.gap + length t.word) ts)
-
--- of what kinds tokens are
-abbrev pub kinds : List Lexeme → List TokenKind
-kinds [] = []
-kinds (t ∷ ts) = t.kind ∷ kinds ts
-
-pub kinds_placed : (at : ℕ) (ts : List Lexeme) → kinds (placed at ts) ≡ kinds ts
-kinds_placed at [] = refl
-kinds_placed at (t ∷ ts) = ap (λ (ks : List TokenKind). t.kind ∷ ks) (kinds_placed (at + length t.gap + length t.word) ts)
 
 -- what tokens say, wherever they stand
 abbrev pub words : List Lexeme → List (TokenKind × List ℕ)
@@ -138,10 +130,10 @@ pub record IsRunKept (Run : List Lexeme → Type 0) (g v : List ℕ) (others : L
   pub plain : AllPlain tokens
   pub runs : (at : ℕ) → Run (placed at tokens)
   pub whole : (at : ℕ) → source (placed at tokens) ≡ v
-  pub same : (at : ℕ) → kinds (placed at tokens) ≡ kinds (lexemes v (collected v 0).pieces)
+  pub same : (at : ℕ) → words (placed at tokens) ≡ words (lexemes v (collected v 0).pieces)
 
 first_gap : (Run : List Lexeme → Type 0) → IsPlain Run → (g v : List ℕ) (ps : List Piece) (others : List Lexeme) → Gap g → start_of (lexemes v ps) ≡ Some 0 → Run (lexemes v ps) → AllCame (lexemes v ps) [] → v ≡ spelled (lexemes v ps)
-    → kinds (lexemes v ps) ≡ kinds (lexemes v (collected v 0).pieces) → Stood others → IsSafe others → IsRunKept Run g v others
+    → words (lexemes v ps) ≡ words (lexemes v (collected v 0).pieces) → Stood others → IsSafe others → IsRunKept Run g v others
 unfolding is_sign
 first_gap Run h g v [] others gap first runs came whole same stood safe = absurd cc
 first_gap Run h g v (p ∷ ps) others gap first runs came whole same stood safe =
@@ -157,7 +149,7 @@ first_gap Run h g v (p ∷ ps) others gap first runs came whole same stood safe 
       plain = (record { ends = all.0.ends; line = all.0.line }, all.1);
       runs = λ at. h.same (lexeme_of v p ∷ lexemes v ps) (placed at (gapped g (lexeme_of v p) ∷ lexemes v ps)) (words_placed at (gapped g (lexeme_of v p) ∷ lexemes v ps)) runs;
       whole = λ at. source_gapped g at (lexeme_of v p) (lexemes v ps) ∙ sym (whole ∙ ap (λ (x : List ℕ). x ++ ((lexeme_of v p).word ++ spelled (lexemes v ps))) none);
-      same = λ at. kinds_placed at (gapped g (lexeme_of v p) ∷ (lexemes v ps)) ∙ same;
+      same = λ at. words_placed at (gapped g (lexeme_of v p) ∷ (lexemes v ps)) ∙ same;
     }
 
 pub run_kept : (Run : List Lexeme → Type 0) → IsPlain Run → (g v : List ℕ) (others : List Lexeme) → Gap g → IsTextOf Run v → Stood others → is_safe (spelled others) ≡ true → IsRunKept Run g v others
@@ -177,7 +169,6 @@ no_semicolons (t ∷ ts) h = (h.0.ends, no_semicolons ts h.1)
 pub record IsReadAgain (Run : List Lexeme → Type 0) (ts : List Lexeme) : Type 0 where
   pub text : IsTextOf Run (source ts)
   pub whole : source (lexemes (source ts) (collected (source ts) 0).pieces) ≡ source ts
-  pub same : kinds (lexemes (source ts) (collected (source ts) 0).pieces) ≡ kinds ts
   pub says : words (lexemes (source ts) (collected (source ts) 0).pieces) ≡ words ts
 
 pub read_again : (Run : List Lexeme → Type 0) → IsPlain Run → (t : Lexeme) (ts : List Lexeme) (r : List ℕ) → AllCame (t ∷ ts) r → Run (t ∷ ts) → IsReadAgain Run (t ∷ ts)
@@ -197,7 +188,6 @@ read_again Run h t ts r came runs =
         runs = subst Run (sym c.tokens) (h.same (t ∷ ts) (placed 0 us) (words_placed 0 us) runs);
       };
       whole = ap source c.tokens ∙ source_gapped [] 0 t ts;
-      same = ap kinds c.tokens ∙ kinds_placed 0 us;
       says = ap words c.tokens ∙ words_placed 0 us;
     }
 

@@ -2,7 +2,7 @@
 -- a text as a type can be written.
 use Rattle.ddl_forms.proofs.Common.{◌≡◌, ℕ, Bool, true, false, cond, List, [], ◌∷◌, ◌++◌, append-nil, Some, None, Result, Ok, Err, is_ok, refl, sym, ap, subst, ◌∙◌, arith, TokenKind, name_of, is_keyword_of, IsName, QName, TypeName, Lexeme, spelled, source, is_sign, is_sign_kind, is_word, run, Runs, name_in, name_value, qualified, TypeSpot, Begin, Path, typing, type_step, type_done, is_type_word, is_number, if_name, named, type_of, type_part, path, IsPath, IsType, passes_true as passed, run_none}
 use Rattle.ddl_spelling.specs.Tables.{type_text}
-use Rattle.ddl_forms.proofs.{Behind.Words, Behind.Safe, Behind.admits, Behind.admitted, Kept.AllCame, Tokens.Gap, Tokens.value_name, RunTexts.plain_runs, RunTexts.IsPlainMachine, RunTexts.not_some, RunTexts.kinds, RunTexts.run_read, Putting.Follows, Putting.IsPut, Putting.same_text, Putting.put_as, Written.Written, Written.leaf_as, Written.path_as, Written.run_put}
+use Rattle.ddl_forms.proofs.{Behind.Words, Behind.Safe, Behind.admits, Behind.admitted, Kept.AllCame, Tokens.Gap, Tokens.value_name, RunTexts.plain_runs, RunTexts.IsPlainMachine, RunTexts.not_some, RunTexts.words, RunTexts.run_read, Putting.Follows, Putting.IsPut, Putting.same_text, Putting.put_as, Written.Written, Written.leaf_as, Written.path_as, Written.run_put}
 use Rattle.cat_model.specs.declared.type_name.TypeName.TheVariants as type_name
 
 -- ---- the machine
@@ -13,9 +13,9 @@ typing_plain = grind arith
 
 -- ---- words and paths
 
--- whether tokens of these kinds are a path
-abbrev has_dot : List TokenKind → Bool
-has_dot (a ∷ b ∷ c ∷ rest) = is_sign_kind 46 b
+-- whether tokens that say this are a path
+abbrev has_dot : List (TokenKind × List ℕ) → Bool
+has_dot (a ∷ b ∷ c ∷ rest) = is_sign_kind 46 b.0
 has_dot _ = false
 
 abbrev path_of : List Lexeme → QName
@@ -25,11 +25,11 @@ path_of _ = record { schema = []; name = [] }
 abbrev by_dot : List Lexeme → Bool → TypeName
 by_dot ts b = cond b (type_name.Path (path_of ts)) (type_name.Words (source ts))
 
-type_by : (ts : List Lexeme) → type_of ts ≡ by_dot ts (has_dot (kinds ts))
+type_by : (ts : List Lexeme) → type_of ts ≡ by_dot ts (has_dot (words ts))
 unfolding type_of is_sign
 type_by ts = grind arith
 
-words_by : (ts : List Lexeme) (v : List ℕ) → has_dot (kinds ts) ≡ false → source ts ≡ v → type_of ts ≡ type_name.Words v
+words_by : (ts : List Lexeme) (v : List ℕ) → has_dot (words ts) ≡ false → source ts ≡ v → type_of ts ≡ type_name.Words v
 words_by ts v isnt whole = type_by ts ∙ ap (by_dot ts) isnt ∙ ap type_name.Words whole
 
 -- ---- the three tokens of a path
@@ -42,7 +42,7 @@ path_runs a dot b q e f g = record {
   done = refl;
 }
 
-path_names : (ts : List Lexeme) (last : TypeSpot) → run typing (Some Begin) ts ≡ Some last → has_dot (kinds ts) ≡ true → IsPath (path_of ts)
+path_names : (ts : List Lexeme) (last : TypeSpot) → run typing (Some Begin) ts ≡ Some last → has_dot (words ts) ≡ true → IsPath (path_of ts)
 unfolding is_sign type_step
 path_names (a ∷ dot ∷ b ∷ rest) last e is = by (name_value a) (name_value b) refl refl (sym (grind arith) ∙ e)
   where

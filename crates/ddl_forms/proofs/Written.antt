@@ -1,7 +1,7 @@
 -- A part of the grammar with the texts of its values: what can be written lies in tokens that spell it, wherever they
 -- are put, and what tokens of a text spell has a property. A law for each way to put parts together.
-use Rattle.ddl_forms.proofs.Common.{◌≡◌, ℕ, zero, suc, Bool, true, false, not, cond, ◌&&◌, ◌||◌, List, [], ◌∷◌, ◌++◌, length, length-append, append_assoc, append-nil, Option, Some, None, Result, Ok, refl, sym, ap, subst, ◌∙◌, ◌⊎◌, inl, inr, arith, ◌==◌, and_parts, not-true, nat_tests, list_all, AllByRecursion, IsUtf8, is_utf8, chars, str_to_ascii_lowercase, encode, TokenKind, Word, Literal, Sign, is_digit, begins_word, in_word, is_keyword_of, IsWord, written_name, written_literal, written_kind, IsName, QName, path, joined, Lexeme, never, is_word, is_sign, is_sign_kind, spelled, source, Part, Items, Many, no_more, Machine, runs_of, one, many, mark, stop, seen, choose, nothing, wider, ◌then◌, ◌▸◌, ◌◂◌, name, name_value, literal, literal_value, qualified, lexemes, collected, semicolon, IsPath, IsRunText, passes_true, one_more, passes, IsTextOf}
-use Rattle.ddl_forms.proofs.{Behind.Behind, Behind.Anything, Behind.Words, Behind.Safe, Behind.End, Behind.admits, Behind.covers, Behind.through, Behind.admitted, Behind.looser, Behind.tighter, Behind.tight, Behind.Opens, Behind.opens_of, Behind.opened, Behind.then_opens, Behind.one_opens, Behind.other_opens, Closing.ends_with, Closing.ends_append, Closing.Closes, Kept.AllCame, Kept.came_front, Kept.came_behind, RunTexts.IsPlain, RunTexts.plain_runs, RunTexts.IsPlainMachine, RunTexts.kinds, RunTexts.run_kept, RunTexts.run_read, RunTexts.plain_last, Standing.Stands, Standing.Stood, Standing.placed, Tokens.Gap, Tokens.none, Tokens.space, Tokens.a_word, Tokens.a_name, Tokens.a_literal, Tokens.is_single, Tokens.a_sign, Tokens.name_means, Tokens.literal_means, Tokens.name_no_sign, Tokens.value_name, Tokens.text_value, Putting.Follows, Putting.IsPut, Putting.followed, Putting.begun, Putting.same_text, Putting.put_as, Putting.none_put, Putting.one_put, Putting.then_put, Putting.joined-append, Putting.Yields}
+use Rattle.ddl_forms.proofs.Common.{◌≡◌, ℕ, Bool, true, false, not, cond, ◌&&◌, ◌||◌, List, [], ◌∷◌, ◌++◌, length, length-append, append_assoc, append-nil, Option, Some, None, Result, Ok, refl, sym, ap, subst, ◌∙◌, ◌⊎◌, inl, inr, arith, ◌==◌, and_parts, not-true, nat_tests, list_all, AllByRecursion, IsUtf8, is_utf8, chars, str_to_ascii_lowercase, encode, TokenKind, Word, Literal, Sign, is_digit, begins_word, in_word, is_keyword_of, IsWord, written_name, written_literal, written_kind, IsName, QName, path, joined, Lexeme, never, is_word, is_sign, is_sign_kind, spelled, source, Part, Items, Many, no_more, Machine, runs_of, one, many, mark, stop, seen, choose, nothing, wider, ◌then◌, ◌▸◌, ◌◂◌, name, name_value, literal, literal_value, qualified, lexemes, collected, semicolon, IsPath, IsRunText, passes_true, one_more, passes, IsTextOf}
+use Rattle.ddl_forms.proofs.{Behind.Behind, Behind.Anything, Behind.Words, Behind.Safe, Behind.End, Behind.admits, Behind.covers, Behind.through, Behind.admitted, Behind.looser, Behind.tighter, Behind.tight, Behind.Opens, Behind.opens_of, Behind.opened, Behind.then_opens, Behind.one_opens, Behind.other_opens, Closing.ends_with, Closing.ends_append, Closing.Closes, Kept.AllCame, Kept.came_front, Kept.came_behind, RunTexts.IsPlain, RunTexts.plain_runs, RunTexts.IsPlainMachine, RunTexts.words, RunTexts.run_kept, RunTexts.run_read, RunTexts.plain_last, Standing.Stands, Standing.Stood, Standing.placed, Tokens.Gap, Tokens.none, Tokens.space, Tokens.a_word, Tokens.a_name, Tokens.a_literal, Tokens.is_single, Tokens.a_sign, Tokens.name_means, Tokens.literal_means, Tokens.name_no_sign, Tokens.value_name, Tokens.text_value, Putting.Follows, Putting.IsPut, Putting.followed, Putting.begun, Putting.same_text, Putting.put_as, Putting.none_put, Putting.one_put, Putting.then_put, Putting.joined-append, Putting.Yields}
 
 -- Which values of a part can be written and how, by the proof that they can; what may stand behind, and what the text
 -- begins with, or that it may be empty; and what is known of a value that was read. Where it is closed, each spelling
@@ -416,7 +416,7 @@ path_as {g} gap =
     (λ q is. g ∷ path q ∷ []) (λ q is. path_same g q)
 
 -- a run's text lies in tokens before what goes on with none
-pub run_put : {A : Type 0} {Run : List Lexeme → Type 0} {g : List ℕ} (plain : IsPlain Run) (p : Part A) (x : A) (v : List ℕ) (others : List Lexeme) → Gap g → IsTextOf Run v → ((ts : List Lexeme) → Run ts → source ts ≡ v → kinds ts ≡ kinds (lexemes v (collected v 0).pieces) → p.Spells x ts)
+pub run_put : {A : Type 0} {Run : List Lexeme → Type 0} {g : List ℕ} (plain : IsPlain Run) (p : Part A) (x : A) (v : List ℕ) (others : List Lexeme) → Gap g → IsTextOf Run v → ((ts : List Lexeme) → Run ts → source ts ≡ v → words ts ≡ words (lexemes v (collected v 0).pieces) → p.Spells x ts)
     → Follows others → admits Safe (spelled others) ≡ true → IsPut p x (g ++ v) others
 run_put {Run = Run} {g = g} plain p x v others gap is says follows e =
     let k = run_kept Run plain g v others gap is follows.stood e in
@@ -427,38 +427,3 @@ run_made {m} plain v ts r came spells = subst (IsRunText m) (ap source (sym spel
 
 abbrev pub run_as : {m : Machine} → {g : List ℕ} → IsPlainMachine m → Gap g → Written (seen source (runs_of m))
 run_as {m} {g} plain gap = leaf_as (IsRunText m) (IsRunText m) g (λ v is. v) Safe (λ v is others. run_put (plain_runs plain) (seen source (runs_of m)) v v others gap is (λ ts runs whole same. (ts, sym whole, (refl, runs)))) (run_made plain)
-
--- ---- kinds of values, each behind its word
-
--- Values of several kinds, which can be written as one of a number; and what is known of each that was read.
-pub record Kinds {A : Type 0} (P : A → Type 0) (p : Part A) : Type 1 where
-  pub written : Written p
-  pub At : ℕ → A → Type 0
-  pub pick : (n : ℕ) (v : A) → At n v → written.Fit v
-  pub is : (v : A) → written.Is v → P v
-
-abbrev pub lone_as : {A : Type 0} → {P : A → Type 0} → {p : Part A} → (w : Written p) → ((v : A) → w.Is v → P v) → Kinds P p
-lone_as w is = record { written = w; At = λ n. w.Fit; pick = λ n v fit. fit; is = is }
-
-abbrev pub kind_as : {A B : Type 0} → {P : B → Type 0} → {p : Part A} → (f : A → B) → (w : Written p) → ((v : A) → w.Is v → P (f v)) → Kinds P (seen f p)
-kind_as {P = P} f w is = lone_as (seen_as f w) (λ v h. subst P h.2 (is h.0 h.1))
-
-abbrev pub led_as : {A : Type 0} → {P : A → Type 0} → {test : Lexeme → Bool} → {p : Part A} → (m : Mark test) → (k : Kinds P p) → meets m.written.after k.written ≡ true → Kinds P (test ▸ p)
-led_as m k e = record { written = lead_as m k.written e; At = k.At; pick = k.pick; is = k.is }
-
-abbrev pub AtOne : {A : Type 0} → (A → Type 0) → (ℕ → A → Type 0) → ℕ → A → Type 0
-AtOne Fit At zero v = Fit v
-AtOne Fit At (suc n) v = At n v
-
-abbrev pub pick_one : {A : Type 0} → (Fit Others : A → Type 0) → (At : ℕ → A → Type 0) → ((n : ℕ) (v : A) → At n v → Others v) → (n : ℕ) → (v : A) → AtOne Fit At n v → Fit v ⊎ Others v
-pick_one Fit Others At pick zero v fit = inl fit
-pick_one Fit Others At pick (suc n) v fit = inr (pick n v fit)
-
--- one kind before others
-abbrev pub or_as : {A : Type 0} → {P : A → Type 0} → {p q : Part A} → {test : Lexeme → Bool} → (a : Kinds P p) → (b : Kinds P q) → Kinds P (choose test p q)
-or_as a b = record {
-  written = choose_as a.written b.written;
-  At = AtOne a.written.Fit b.At;
-  pick = pick_one a.written.Fit b.written.Fit b.At b.pick;
-  is = λ v h. elim h [ inl x ↦ a.is v x | inr y ↦ b.is v y ];
-}

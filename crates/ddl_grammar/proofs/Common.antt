@@ -4,6 +4,6 @@ unfoldable pub use Rattle.ddl_parts.proofs.Common.{is_word, name_value, line_at,
 pub use Rattle.ddl_parts.proofs.{Slices.seam, Basics.name_in_is, Basics.a_word, Basics.a_sign, Basics.words_apart, Basics.gives, Basics.some_left}
 pub use Rattle.ddl_parts.specs.{declared.pieces.Piece.Piece, declared.runs.Spot.TheVariants.Inside}
 pub use Rattle.ddl_spelling.specs.Paths.{joined}
-unfoldable pub use Rattle.ddl_spelling.specs.{Sequences.usual_min, Sequences.usual_max, Paths.path, Spelling.owned_object, Spelling.schema_text, Spelling.set_text, Spelling.setting_text, Spelling.owner_text, Spelling.domain_check_text, Tables.enum_text, Tables.domain_text, Tables.table_text, Tables.check_text, Sequences.sequence_text, Sequences.owned_by_text, Sequences.value_text, Views.view_text, Keys.key_text, Keys.foreign_text, Keys.added_check_text, Keys.index_text, RightsText.grant_text, RightsText.revoke_text, RightsText.comment_text, Roles.role_text, Roles.changes_text, Roles.member_text, Roles.database_text, Roles.connect_text}
+unfoldable pub use Rattle.ddl_spelling.specs.{Sequences.usual_min, Sequences.usual_max, Sequences.clauses_text, Paths.path, Tables.domain_text, Tables.check_text, RightsText.grant_text, RightsText.revoke_text, Roles.attributes_text, Roles.member_text, Roles.connect_text}
 pub use Rattle.ddl_grammar.specs.{declared.rights.Right.Right, declared.rights.Right.TheVariants.Select, declared.rights.Right.TheVariants.Usage, declared.rights.Right.TheVariants.Insert, declared.rights.Right.TheVariants.References, declared.rights.Right.TheVariants.Delete, declared.rights.Right.TheVariants.Trigger, declared.rights.Right.TheVariants.Truncate, declared.rights.Right.TheVariants.Update, declared.rights.Right.TheVariants.Create, declared.rights.Kind.Kind, declared.rights.Wanted.Wanted, RightsGrammar.only, RightsGrammar.rights_on, RightsGrammar.object}
-unfoldable pub use Rattle.ddl_grammar.specs.{AlterGrammar.only_value, AlterGrammar.other_value, TableGrammar.column_name_value, RightsGrammar.wanted_first}
+unfoldable pub use Rattle.ddl_grammar.specs.{OnlyGrammar.only_value, OnlyGrammar.other_value, TableGrammar.column_name_value, RightsGrammar.wanted_first}

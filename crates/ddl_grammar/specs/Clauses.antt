@@ -1,7 +1,7 @@
 -- What several kinds of statements have: the semicolon, parts that begin with some tokens, named checks and new owners.
 use Rattle.std.specs.Prelude.{◌≡◌, ℕ, Bool, true, List, codes}
 use Rattle.cat_model.specs.declared.table.CheckDef.{CheckDef}
-use Rattle.ddl_parts.specs.{Lexemes.Lexeme, Lexemes.is_word, Lexemes.is_sign, Lexemes.starts, Parts.Part, Parts.seen, Parts.choose_at, Parts.stop, Parts.◌then◌, Parts.◌▸◌, Parts.◌◂◌, Leaves.name, Expressions.expression}
+use Rattle.ddl_parts.specs.{Lexemes.Lexeme, Lexemes.is_word, Lexemes.is_sign, Lexemes.starts, Parts.Part, Parts.mark, Parts.seen, Parts.choose, Parts.choose_at, Parts.stop, Parts.◌then◌, Parts.◌▸◌, Parts.◌◂◌, Leaves.name, Expressions.expression}
 
 abbrev pub semicolon : Lexeme → Bool
 semicolon = is_sign 59
@@ -23,6 +23,6 @@ named_check =
     seen check_of
     (is_word (codes "constraint") ▸ (name then (is_word (codes "check") ▸ (is_sign 40 ▸ (expression ◂ is_sign 41)))))
 
--- OWNER TO role;
-unfoldable pub new_owner : Part (List ℕ)
-new_owner = is_word (codes "owner") ▸ (is_word (codes "to") ▸ (name ◂ semicolon))
+-- an equals sign, or TO
+unfoldable pub equals_or_to : Part (Unit {0})
+equals_or_to = choose (is_sign 61) (mark (is_sign 61)) (mark (is_word (codes "to")))

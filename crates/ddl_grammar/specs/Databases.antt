@@ -1,9 +1,8 @@
--- The grammar of CREATE DATABASE: what stands behind these words.
+-- The grammar of the options of CREATE DATABASE.
 use Rattle.std.specs.Prelude.{ℕ, Bool, false, not, ◌||◌, ◌&&◌, bytes_eq, List, [], ◌∷◌, Option, Some, None, Result, Ok, Err, if◌then◌else◌, codes}
-use Rattle.cat_model.specs.{declared.constraint.Encoding.Encoding, declared.constraint.Encoding.TheVariants.Utf8, declared.stmt.Stmt.Stmt}
-use Rattle.cat_model.specs.declared.stmt.Stmt.TheVariants as stmt
-use Rattle.ddl_parts.specs.{Lexemes.Lexeme, Lexemes.is_word, Lexemes.is_sign, Parts.Part, Parts.Items, Parts.one, Parts.mark, Parts.seen, Parts.choose, Parts.nothing, Parts.many, Parts.◌then◌, Parts.◌▸◌, Parts.◌◂◌, Leaves.name, Leaves.literal_value, Leaves.is_name, Leaves.is_literal, Types.is_word_kind, Types.is_number}
-use Rattle.ddl_grammar.specs.Choices.{semicolon, any_word}
+use Rattle.cat_model.specs.{declared.constraint.Encoding.Encoding, declared.constraint.Encoding.TheVariants.Utf8}
+use Rattle.ddl_parts.specs.{Lexemes.Lexeme, Lexemes.is_word, Lexemes.is_sign, Parts.Part, Parts.Items, Parts.one, Parts.mark, Parts.seen, Parts.choose, Parts.nothing, Parts.many, Parts.◌then◌, Parts.◌▸◌, Leaves.literal_value, Leaves.is_name, Leaves.is_literal, Types.is_word_kind, Types.is_number}
+use Rattle.ddl_grammar.specs.Choices.{any_word}
 
 -- ---- further options, which are dropped
 
@@ -71,11 +70,3 @@ maybe_encoded = choose (is_word (codes "encoding")) (seen Some encoded) (nothing
 -- further options, with the encoding before, between or behind them, or without it
 unfoldable pub options : Part (Option Encoding)
 options = seen (λ x. x.1) (furthers then maybe_encoded)
-
--- ---- CREATE DATABASE
-
--- name WITH TEMPLATE = template0 options;
-unfoldable pub create_database : Part Stmt
-create_database =
-    seen (λ x. stmt.CreateDatabase x.0 x.1)
-    (name then (is_word (codes "with") ▸ (is_word (codes "template") ▸ (is_sign 61 ▸ (is_word (codes "template0") ▸ (options ◂ semicolon))))))

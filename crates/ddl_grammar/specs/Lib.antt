@@ -13,11 +13,13 @@ pub mod Clauses
 pub mod TableGrammar
 pub mod Columns
 pub mod Rests
-pub mod AlterGrammar
+pub mod OnlyGrammar
 pub mod SequenceGrammar
 pub mod RelationGrammar
 pub mod CopyGrammar
 pub mod ValueGrammar
+pub mod LeafParts
+pub mod Syntax
 pub mod Grammar
 pub mod Respelling
 pub use Rattle.ddl_parts.specs.Collecting
@@ -30,7 +32,6 @@ pub use Rattle.ddl_parts.specs.Parts
 pub use Rattle.ddl_parts.specs.Pieces
 pub use Rattle.ddl_spelling.specs.RowsText
 pub use Rattle.ddl_parts.specs.Shortened
-pub use Rattle.ddl_spelling.specs.Spelling
 pub use Rattle.ddl_parts.specs.Types
 pub use Rattle.ddl_parts.specs.declared.fault
 pub use Rattle.ddl_parts.specs.declared.pieces

@@ -1,5 +1,5 @@
 -- What may follow the columns of a key, or those of a foreign key's parents: words that are kept as they stand.
-use Rattle.std.specs.Prelude.{◌≡◌, ℕ, ◌-◌, Bool, true, false, ◌||◌, List, [], ◌∷◌, length, take, Result, Ok, Err, codes}
+use Rattle.std.specs.Prelude.{◌≡◌, ℕ, ◌-◌, Bool, true, false, ◌||◌, List, [], ◌∷◌, length, take, Ok, Err, codes}
 use Rattle.ddl_parts.specs.{Lexemes.Lexeme, Lexemes.is_word, Lexemes.is_sign, Lexemes.never, Lexemes.source, Parts.Part, Parts.Reading, Parts.mark, Parts.seen, Parts.choose, Parts.one_of, Parts.nothing, Parts.◌then◌, Parts.◌▸◌}
 use Rattle.ddl_grammar.specs.Columns.{columns}
 

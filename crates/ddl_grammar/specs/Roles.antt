@@ -1,17 +1,8 @@
--- The grammar of CREATE ROLE and ALTER ROLE: what stands behind these words.
+-- The grammar of what changes of a role.
 use Rattle.std.specs.Prelude.{ℕ, ℤ, Bool, List, Option, codes}
-use Rattle.cat_model.specs.{declared.table.RoleChanges.RoleChanges, declared.stmt.Stmt.Stmt}
-use Rattle.cat_model.specs.declared.stmt.Stmt.TheVariants as stmt
-use Rattle.ddl_parts.specs.{Lexemes.is_word, Parts.Part, Parts.seen, Parts.◌then◌, Parts.◌▸◌, Parts.◌◂◌, Leaves.name, Leaves.literal, Numbers.whole_number}
-use Rattle.ddl_grammar.specs.Choices.{semicolon, clause, flag, ◌before◌}
-
--- ---- CREATE ROLE
-
--- name;
-unfoldable pub create_role : Part Stmt
-create_role = seen stmt.CreateRole (name ◂ semicolon)
-
--- ---- ALTER ROLE
+use Rattle.cat_model.specs.{declared.table.RoleChanges.RoleChanges}
+use Rattle.ddl_parts.specs.{Lexemes.is_word, Parts.Part, Parts.seen, Parts.◌▸◌, Leaves.literal, Numbers.whole_number}
+use Rattle.ddl_grammar.specs.Choices.{clause, flag, ◌before◌}
 
 -- SUPERUSER, INHERIT and CREATEROLE, and then CREATEDB, LOGIN, REPLICATION and BYPASSRLS
 abbrev pub LaterFlags : Type 0
@@ -55,7 +46,3 @@ changes_by x = record {
 
 unfoldable pub role_changes : Part RoleChanges
 role_changes = seen changes_by (role_flags before role_settings)
-
--- name WITH changes;
-unfoldable pub alter_role : Part Stmt
-alter_role = seen (λ x. stmt.AlterRole x.0 x.1) (name then (is_word (codes "with") ▸ (role_changes ◂ semicolon)))

@@ -1,5 +1,5 @@
 -- Rows as they are kept.
-use Rattle.std.specs.{Prelude.◌≡◌, Prelude.ℕ, Prelude.◌+◌, Prelude.List, Prelude.[], Prelude.◌∷◌, Prelude.◌++◌, List.flat_map}
+use Rattle.std.specs.{Prelude.◌≡◌, Prelude.ℕ, Prelude.List, Prelude.[], Prelude.◌∷◌, Prelude.◌++◌, List.flat_map}
 use Rattle.copy_text.specs.{Marks.newline, Lines.data_lines}
 
 -- lines, each with a line feed behind it

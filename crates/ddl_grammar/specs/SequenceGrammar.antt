@@ -1,10 +1,9 @@
 -- The grammar of CREATE SEQUENCE: its clauses are items in any order, each at most once.
 use Rattle.std.specs.{Prelude.◌&&◌, Prelude.◌||◌, Prelude.ℤ, Prelude.pos, Prelude.Bool, Prelude.true, Prelude.false, Prelude.not, Prelude.List, Prelude.[], Prelude.◌∷◌, Prelude.Option, Prelude.Some, Prelude.None, Prelude.is_some, Prelude.if◌then◌else◌, Prelude.codes, Option.unwrap_or}
-use Rattle.cat_model.specs.{declared.object.QName.QName, declared.constraint.SequenceKind.SequenceKind, declared.constraint.SequenceKind.TheVariants.SmallInt, declared.constraint.SequenceKind.TheVariants.Integer, declared.constraint.SequenceKind.TheVariants.BigInt, declared.stmt.Stmt.Stmt}
-use Rattle.cat_model.specs.declared.stmt.Stmt.TheVariants as stmt
-use Rattle.ddl_parts.specs.{Lexemes.Lexeme, Lexemes.is_word, Lexemes.never, Parts.Part, Parts.Branch, Parts.Items, Parts.mark, Parts.seen, Parts.choose, Parts.nothing, Parts.one_of, Parts.many, Parts.◌then◌, Parts.◌▸◌, Parts.◌◂◌, Leaves.qualified, Numbers.whole_number}
+use Rattle.cat_model.specs.{declared.constraint.SequenceKind.SequenceKind, declared.constraint.SequenceKind.TheVariants.SmallInt, declared.constraint.SequenceKind.TheVariants.Integer, declared.constraint.SequenceKind.TheVariants.BigInt, declared.value.Sequence.Sequence}
+use Rattle.ddl_parts.specs.{Lexemes.Lexeme, Lexemes.is_word, Lexemes.never, Parts.Part, Parts.Branch, Parts.Items, Parts.mark, Parts.seen, Parts.choose, Parts.nothing, Parts.one_of, Parts.many, Parts.◌then◌, Parts.◌▸◌, Numbers.whole_number}
 use Rattle.ddl_spelling.specs.Sequences.{falls, usual_min, usual_max}
-use Rattle.ddl_grammar.specs.{declared.sequences.Bound.Bound, declared.sequences.Bound.TheVariants.Usual, declared.sequences.Bound.TheVariants.Given, declared.sequences.Clause.Clause, declared.sequences.Clause.TheVariants.Kind, declared.sequences.Clause.TheVariants.Start, declared.sequences.Clause.TheVariants.Step, declared.sequences.Clause.TheVariants.Least, declared.sequences.Clause.TheVariants.Greatest, declared.sequences.Clause.TheVariants.Cache, declared.sequences.Clause.TheVariants.Cycle, declared.sequences.Clauses.Clauses, Clauses.semicolon, Clauses.begun_by}
+use Rattle.ddl_grammar.specs.{declared.sequences.Bound.Bound, declared.sequences.Bound.TheVariants.Usual, declared.sequences.Bound.TheVariants.Given, declared.sequences.Clause.Clause, declared.sequences.Clause.TheVariants.Kind, declared.sequences.Clause.TheVariants.Start, declared.sequences.Clause.TheVariants.Step, declared.sequences.Clause.TheVariants.Least, declared.sequences.Clause.TheVariants.Greatest, declared.sequences.Clause.TheVariants.Cache, declared.sequences.Clause.TheVariants.Cycle, declared.sequences.Clauses.Clauses, Clauses.begun_by}
 
 -- ---- one clause
 
@@ -96,16 +95,23 @@ bound_or usual said = usual
 abbrev pub usual_start : ℤ → ℤ → ℤ → ℤ
 usual_start step min max = if falls step then max else min
 
-abbrev pub sequence_with : QName → SequenceKind → ℤ → ℤ → ℤ → Clauses → Stmt
-sequence_with q kind step min max c = stmt.CreateSequence q kind (unwrap_or c.start (usual_start step min max)) step min max (unwrap_or c.cache (pos 1)) c.cycle
+abbrev pub sequence_with : SequenceKind → ℤ → ℤ → ℤ → Clauses → Sequence
+sequence_with kind step min max c = record {
+  kind = kind;
+  start = unwrap_or c.start (usual_start step min max);
+  step = step;
+  min = min;
+  max = max;
+  cache = unwrap_or c.cache (pos 1);
+  cycle = c.cycle;
+}
 
-abbrev pub sequence_by : QName → SequenceKind → ℤ → Clauses → Stmt
-sequence_by q kind step c = sequence_with q kind step (bound_or (usual_min kind step) c.least) (bound_or (usual_max kind step) c.greatest) c
+abbrev pub sequence_by : SequenceKind → ℤ → Clauses → Sequence
+sequence_by kind step c = sequence_with kind step (bound_or (usual_min kind step) c.least) (bound_or (usual_max kind step) c.greatest) c
 
 -- clauses that are missing have their usual values
-unfoldable pub sequence_of : QName → Clauses → Stmt
-sequence_of q c = sequence_by q (unwrap_or c.kind BigInt) (unwrap_or c.step (pos 1)) c
+unfoldable pub sequence_of : Clauses → Sequence
+sequence_of c = sequence_by (unwrap_or c.kind BigInt) (unwrap_or c.step (pos 1)) c
 
--- path and clauses;
-unfoldable pub create_sequence : Part Stmt
-create_sequence = seen (λ x. sequence_of x.0 x.1) (qualified then (sequence_clauses ◂ semicolon))
+unfoldable pub sequence : Part Sequence
+sequence = seen sequence_of sequence_clauses

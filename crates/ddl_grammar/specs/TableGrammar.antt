@@ -1,20 +1,8 @@
--- The grammar of CREATE TYPE, CREATE DOMAIN and CREATE TABLE: what stands behind these words.
+-- The grammar of what a domain and a table are made of.
 use Rattle.std.specs.Prelude.{ℕ, Bool, true, false, ◌||◌, List, [], ◌∷◌, Option, Some, None, Result, Err, if◌then◌else◌, codes}
-use Rattle.cat_model.specs.{declared.object.QName.QName, declared.type_name.TypeName.TypeName, declared.table.ColumnDef.ColumnDef, declared.table.CheckDef.CheckDef, declared.stmt.Stmt.Stmt}
-use Rattle.cat_model.specs.declared.stmt.Stmt.TheVariants as stmt
-use Rattle.ddl_parts.specs.{Lexemes.Lexeme, Lexemes.is_word, Lexemes.is_sign, Parts.Part, Parts.Items, Parts.one, Parts.seen, Parts.choose, Parts.nothing, Parts.optional, Parts.many, Parts.◌then◌, Parts.◌▸◌, Parts.◌◂◌, Lists.comma, Lists.listed, Leaves.name_value, Leaves.is_name, Leaves.literal, Leaves.is_literal, Leaves.qualified, Expressions.default_text, Expressions.default_and_null, Types.type_goes_on, Types.type_part}
+use Rattle.cat_model.specs.{declared.type_name.TypeName.TypeName, declared.table.ColumnDef.ColumnDef, declared.table.CheckDef.CheckDef}
+use Rattle.ddl_parts.specs.{Lexemes.Lexeme, Lexemes.is_word, Parts.Part, Parts.Items, Parts.one, Parts.seen, Parts.choose, Parts.nothing, Parts.optional, Parts.many, Parts.◌then◌, Parts.◌▸◌, Parts.◌◂◌, Lists.comma, Leaves.name_value, Leaves.is_name, Expressions.default_text, Expressions.default_and_null, Types.type_goes_on, Types.type_part}
 use Rattle.ddl_grammar.specs.{declared.tables.TableElement.TableElement, declared.tables.TableElement.TheVariants.Column, declared.tables.TableElement.TheVariants.Check, declared.tables.Spot.Spot, declared.tables.Spot.TheVariants.Opening, declared.tables.Spot.TheVariants.BehindColumn, declared.tables.Spot.TheVariants.BehindCheck, Clauses.semicolon, Clauses.named_check}
-
--- ---- CREATE TYPE ..
-
-abbrev pub enum_of : QName × List (List ℕ) → Stmt
-enum_of x = stmt.CreateEnum x.0 x.1
-
--- path AS ENUM (labels);
-unfoldable pub create_enum : Part Stmt
-create_enum =
-    seen enum_of
-    (qualified then (is_word (codes "as") ▸ (is_word (codes "enum") ▸ (is_sign 40 ▸ (listed is_literal literal ◂ is_sign 41 ◂ semicolon)))))
 
 -- ---- types with what may follow them
 
@@ -60,14 +48,9 @@ checking = record {
   next = λ s v. tt;
 }
 
-abbrev pub domain_of : QName × ((TypeName × Attributes) × List CheckDef) → Stmt
-domain_of x = stmt.CreateDomain x.0 x.1.0.0 x.1.0.1.1 x.1.0.1.0 x.1.1
-
--- path AS type, default, NOT NULL and checks;
-unfoldable pub create_domain : Part Stmt
-create_domain =
-    seen domain_of
-    (qualified then (is_word (codes "as") ▸ (typed then (many (is_word (codes "constraint")) checking ◂ semicolon))))
+-- type, default, NOT NULL and checks;
+unfoldable pub domain_rest : Part ((TypeName × Attributes) × List CheckDef)
+domain_rest = typed then (many (is_word (codes "constraint")) checking ◂ semicolon)
 
 -- ---- CREATE TABLE ..
 
@@ -134,10 +117,3 @@ parted es = (columns_of es, checks_of es)
 
 unfoldable pub table_elements : Part (List ColumnDef × List CheckDef)
 table_elements = seen parted (many more_elements elements)
-
-abbrev pub table_of : QName × (List ColumnDef × List CheckDef) → Stmt
-table_of x = stmt.CreateTable x.0 x.1.0 x.1.1
-
--- path (columns and checks);
-unfoldable pub create_table : Part Stmt
-create_table = seen table_of (qualified then (is_sign 40 ▸ (table_elements ◂ is_sign 41 ◂ semicolon)))

@@ -7,7 +7,6 @@ pub mod GrantLaws
 pub mod Further
 pub mod AdminTelling
 pub mod ChoiceLaws
-pub mod CommentLaws
 pub mod RoleLaws
 pub mod DatabaseLaws
 pub mod TableLaws

@@ -35,14 +35,11 @@ granted_by_avoids =
     avoids_either with_options.goes_on grantor (λ t e. rw ((word_no_sign (codes "granted") 44 t e), (words_apart (codes "granted") (codes "with") refl t e)) refl)
     no_grantor (λ t e. rw ((signs_apart 59 44 refl t e), (sign_no_word 59 (codes "with") t e)) refl)
 
-member_laws : Lawful member
-unfolding member with_options granted_by
-member_laws =
-    lawful_next name_laws (lawful_then (lawful_unless (false, (None, true)) (headed_word (codes "with") refl options_laws)) (lawful_either grantor no_grantor (sign_no_word 59 (codes "granted"))) granted_by_avoids) (λ t. refl)
-
 pub membership_is : (role : List ℕ) → Headed (is_word (codes "to")) (membership role)
-unfolding membership
-membership_is role = headed_word (codes "to") refl (lawful_seen (member_of role) member_laws)
+unfolding membership member with_options granted_by
+membership_is role =
+    let options_and_grantor = lawful_then (lawful_unless (false, (None, true)) (headed_word (codes "with") refl options_laws)) (lawful_either grantor no_grantor (sign_no_word 59 (codes "granted"))) granted_by_avoids in
+    headed_word (codes "to") refl (lawful_seen (member_of role) (lawful_next name_laws options_and_grantor (λ t. refl)))
 
 pub membership_ends : (role : List ℕ) (t : Lexeme) → (membership role).goes_on t ≡ false
 unfolding membership member granted_by

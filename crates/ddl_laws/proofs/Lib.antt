@@ -1,6 +1,4 @@
 pub mod Common
-pub mod GrammarLaws
-pub mod Whole
 pub mod ReadingLaws
 pub mod Respelled
 pub use Rattle.ddl_relation_texts.proofs.Behind
@@ -16,3 +14,10 @@ pub use Rattle.ddl_relation_texts.proofs.Standing
 pub use Rattle.ddl_relation_texts.proofs.Tokens
 pub use Rattle.ddl_relation_texts.proofs.Types
 pub use Rattle.ddl_relation_texts.proofs.Written
+pub use Rattle.ddl_syntax_laws.proofs.LeafFacts
+pub use Rattle.ddl_syntax_laws.proofs.LeafLaws
+pub use Rattle.ddl_syntax_laws.proofs.Owing
+pub use Rattle.ddl_syntax_laws.proofs.Said
+pub use Rattle.ddl_syntax_laws.proofs.Shapes
+pub use Rattle.ddl_syntax_laws.proofs.Spelled
+pub use Rattle.ddl_syntax_laws.proofs.Whole

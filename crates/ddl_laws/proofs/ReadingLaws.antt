@@ -1,14 +1,12 @@
 -- A text reads as statements exactly where it is read so, and a fault is the first: reading fails where a text fails at a
 -- fault, at the same place.
-use Rattle.ddl_laws.proofs.Common.{◌≡◌, ℕ, zero, suc, ◌+◌, Bool, true, false, List, [], ◌∷◌, ◌++◌, Option, Some, None, Result, Ok, Err, refl, sym, ap, ◌∙◌, length, ◌-◌, ◌<◌, ◌≤◌, subst, arith, append-nil, inl, inr, ◌⊎◌, Token, LexFault, next_token_of, Stmt, Piece, Lexeme, is_sign, is_sign_kind, is_word, start_of, lexeme_of, lexemes, value_of, gives, Collected, collected, collected_within, collected_by, semicolon, statement, command, none as no_gap, Closes, only_last, nothing_left, collected_has, spelling, is_keyword_of, lies_behind, Stop, Reading, Located, DdlFault, Wrong, meta_line, rows_bounds, ◌>>=◌, Whole, whole, whole_of, completed, line_in, line_at, line_fault, line_said, statements_at, first_start, fault_of, statement_of, statements_by, statements_within, statements_of, fault_by, shortened, Stopped, IsStatement, IsLine, line_token, Reads, all_read, one_read, line_read, IsLongThere, IsStuck, FailsAt, no_token, stuck, no_rows, bad_line, later, later_line}
+use Rattle.ddl_relation_texts.proofs.{Closing.only_last, Closing.nothing_left, Kept.collected_has}
+use Rattle.ddl_laws.proofs.Common.{◌≡◌, ℕ, zero, suc, ◌+◌, Bool, true, false, List, [], ◌∷◌, ◌++◌, Option, Some, None, Result, Ok, Err, refl, sym, ap, ◌∙◌, length, ◌-◌, ◌<◌, ◌≤◌, subst, arith, append-nil, inl, inr, ◌⊎◌, Token, LexFault, next_token_of, Stmt, Piece, Lexeme, is_sign, is_sign_kind, is_word, start_of, lexeme_of, lexemes, value_of, gives, Collected, collected, collected_within, collected_by, semicolon, statement, command, spelling, is_keyword_of, lies_behind, Stop, Reading, Located, DdlFault, Wrong, meta_line, rows_bounds, ◌>>=◌, Whole, whole, whole_of, completed, line_in, line_at, line_fault, line_said, statements_at, first_start, fault_of, statement_of, statements_by, statements_within, statements_of, fault_by, shortened, Stopped, IsStatement, IsLine, line_token, Reads, all_read, one_read, line_read, IsLongThere, IsStuck, FailsAt, no_token, stuck, no_rows, bad_line, later, later_line}
 use Rattle.ddl_scripts.specs.Reading.{listed, told, no_more}
+use Rattle.ddl_scripts.specs.Syntax.{part}
 use Rattle.std.proofs.lemmas.List.{append_cancel_right}
-use Rattle.ddl_laws.proofs.{Whole.statement_as, GrammarLaws.statement_laws}
+use Rattle.ddl_syntax_laws.proofs.{Commands.statement_laws, Whole.statement_closes}
 use Rattle.cat_model.specs.declared.stmt.Stmt.TheVariants as stmt
-
-pub statement_closes : Closes semicolon statement
-unfolding statement_as
-statement_closes = (statement_as no_gap).closes refl
 
 -- ---- the tokens that are collected
 
@@ -91,7 +89,7 @@ unfolding line_at
 no_line_left text at e = grind (arith, collected_first)
 
 begins_no_line : (text : List ℕ) (at start end : ℕ) (s : Option Stmt) → next_token_of text at ≡ Ok (Some (line_token start end)) → statement.Spells s (lexemes text (collected text at).pieces) → ⊥
-unfolding statement command is_sign is_word is_keyword_of
+unfolding statement command is_sign is_word is_keyword_of part
 begins_no_line text at start end s next spells =
     let t = line_token start end in
     let behind = collected_within (length text) text in
@@ -280,7 +278,7 @@ header_fails text at fault le h =
 -- ---- a statement has a token
 
 some_first : (text : List ℕ) (s : Option Stmt) (ps : List Piece) → statement.Spells s (lexemes text ps) → (start : ℕ) × (first_start ps ≡ Some start)
-unfolding statement command
+unfolding statement command part
 some_first text s [] spells = absurd (not_both (statement.read []) s (record { long = false; rest = [] }) (read_whole s [] spells) refl)
 some_first text s (p ∷ ps) spells = (p.token.start, refl)
 

@@ -1,10 +1,18 @@
 -- Written statements, joined, read as the same statements; and what is read of a text can be written.
-use Rattle.ddl_laws.proofs.Common.{and_parts, and_from, or_right, drop_all, list_all-append, IsUtf8-append, IsUtf8-from_is_utf8, is_utf8-from_IsUtf8, ◌≡◌, ℕ, suc, ◌+◌, Bool, true, cond, ◌-◌, List, [], ◌∷◌, ◌++◌, length, length-append, append_assoc, append-nil, Option, Some, None, Result, Ok, refl, sym, ap, subst, ◌∙◌, arith, ◌⊎◌, inl, inr, codes, ◌≤◌, ◌==◌, slice_index, list_all, is_utf8, IsUtf8, chars, encode, Token, LexFault, next_token_of, spelling as token_text, IsMetaLine, goes_on, token_at, written_kind, next_at_end, spelling_is_read, Piece, Lexeme, spelled, is_sign, start_of, name_value, is_name, is_name_kind, lexeme_of, lexemes, Collected, collected, collected_within, collected_by, nothing_more, preceded, name_begins, IsLine, IsStatement, Reads, all_read, one_read, line_read, line_token, a_name, Gap, passed, space, name_no_sign, name_means, none, IsName, is_blank, in_line, next_is, begins_line, doubled, quoted, written_name, MetaLine, connect_text, unknown, named, stands_alone, one_name, name_alone, connected, command_len, said_by, meta_line, Stmt, Located, semicolon, statement, Whole, whole, with_rows, completed, first_start, statements_of, DdlFault, AreRows, rows_behind, rows_read_back, read_are_rows, end_mark, QName, nothing_follows, joined-append, IsWritable, AllWritable, spellings, said, ends_with, only_last, Stood, placed, collects, columns, AllCame, have_come, came_token, IsTokenAt, newline as line_feed}
+use Rattle.ddl_relation_texts.proofs.{Closing.only_last, Closing.ends_with, Putting.nothing_follows, Tokens.passed, Kept.came_token, Standing.collects}
+use Rattle.ddl_scripts.specs.{Respelling.spelling, Respelling.in_words, Syntax.Fits, Syntax.pieces, Grammar.command}
+use Rattle.ddl_syntax_laws.proofs.Whole.{statement_closes, statement_put, command_text, command_made, fits_writable}
+use Rattle.ddl_grammar_laws.proofs.Common.{name_begins}
+use Rattle.ddl_laws.proofs.Common.{joined, and_parts, and_from, or_right, drop_all, list_all-append, IsUtf8-append, IsUtf8-from_is_utf8, is_utf8-from_IsUtf8, ◌≡◌, ℕ, suc, ◌+◌, Bool, true, cond, ◌-◌, List, [], ◌∷◌, ◌++◌, length, length-append, append_assoc, append-nil, Option, Some, None, Result, Ok, refl, sym, ap, subst, ◌∙◌, arith, ◌⊎◌, inl, inr, codes, ◌≤◌, ◌==◌, slice_index, list_all, is_utf8, IsUtf8, chars, encode, Token, LexFault, next_token_of, spelling as token_text, IsMetaLine, goes_on, token_at, written_kind, next_at_end, spelling_is_read, Piece, Lexeme, spelled, is_sign, start_of, name_value, is_name, is_name_kind, lexeme_of, lexemes, Collected, collected, collected_within, collected_by, nothing_more, preceded, IsLine, IsStatement, Reads, all_read, one_read, line_read, line_token, a_name, Gap, space, name_no_sign, name_means, none, IsName, is_blank, in_line, next_is, begins_line, doubled, quoted, written_name, MetaLine, connect_text, unknown, named, stands_alone, one_name, name_alone, connected, command_len, said_by, meta_line, Stmt, Located, semicolon, statement, Whole, whole, with_rows, completed, first_start, statements_of, DdlFault, AreRows, rows_behind, rows_read_back, read_are_rows, end_mark, QName, IsWritable, AllWritable, spellings, said, Stood, placed, columns, AllCame, have_come, IsTokenAt, newline as line_feed}
 use Rattle.ddl_relation_texts.proofs.{Tokens.newline, Passed.both_passed, Passed.feed_passed, Passed.comment_passed, Tokens.passes, Paths.name_utf8}
-use Rattle.ddl_scripts.specs.{Reading.listed, Reading.listed as listed_before, Spelling.spelling, Laying.Lays, Laying.no_more, Laying.empty_line, Laying.comment_line, Laying.statement_text, Laying.comment}
-use Rattle.ddl_laws.proofs.{ReadingLaws.collected_first, ReadingLaws.statement_closes, ReadingLaws.exact, ReadingLaws.only, ReadingLaws.ends_past, ReadingLaws.line_past, Whole.command_as, Whole.statement_as, Whole.IsSpelled, Whole.spelled_so, Whole.copy_head, Whole.copy_is, Whole.copy_spelled, Whole.both_behind}
+use Rattle.ddl_scripts.specs.{Reading.listed, Reading.listed as listed_before, Laying.Lays, Laying.no_more, Laying.empty_line, Laying.comment_line, Laying.statement_text, Laying.comment}
+use Rattle.ddl_laws.proofs.{ReadingLaws.collected_first, ReadingLaws.exact, ReadingLaws.only, ReadingLaws.ends_past, ReadingLaws.line_past}
 use Rattle.ddl_scripts.proofs.LineNames.{said_is_a_name}
 use Rattle.cat_model.specs.declared.stmt.Stmt.TheVariants as stmt
+
+-- pieces that stand in brackets there
+both_behind : (x l y e : List ℕ) → x ++ (l ++ (y ++ e)) ≡ (x ++ (l ++ y)) ++ e
+both_behind x l y e = simp append_assoc
 
 -- the line without its line feed
 abbrev pub connect_line : List ℕ → List ℕ
@@ -99,13 +107,13 @@ pub record IsLaidOut (g : List ℕ) (s : Stmt) (text : List ℕ) : Type 0 where
   pub says : (at : ℕ) → statement.Spells (Some s) (placed at tokens)
   pub last : only_last semicolon tokens ≡ true
 
-pub laid_out : {g : List ℕ} (gap : Gap g) (s : Stmt) (text : List ℕ) → IsSpelled gap s text → IsLaidOut g s text
-unfolding statement_as
-laid_out gap s text is =
-    let k = (statement_as gap).put (Some s) (inr (s, is.0, refl)) [] nothing_follows refl in
+pub laid_out : {g : List ℕ} (gap : Gap g) (s : Stmt) → Fits command s → IsLaidOut g s (in_words s)
+unfolding in_words
+laid_out {g} gap s fit =
+    let k = statement_put gap s fit [] nothing_follows refl in
     record {
       tokens = k.tokens;
-      bytes = ap (λ (x : List ℕ). x ++ 10 ∷ []) k.bytes ∙ (sym (joined-append ((command_as gap).written.pieces s is.0) ((10 ∷ []) ∷ [])) ∙ is.1);
+      bytes = ap (λ (x : List ℕ). x ++ 10 ∷ []) (k.bytes ∙ command_text g s) ∙ append_assoc g (joined (pieces [] command s)) (10 ∷ []);
       stood = subst Stood (append-nil k.tokens) k.stood;
       says = k.spells;
       last = ap (only_last semicolon) (sym (append-nil k.tokens)) ∙ k.last;
@@ -114,15 +122,14 @@ laid_out gap s text is =
 -- how a statement's text lies behind a gap: in tokens, with the rows of a COPY behind them, or as one line
 pub data Lies (g : List ℕ) : Stmt → List ℕ → Type 0 where
   by_tokens : (s : Stmt) (text : List ℕ) → IsLaidOut g s text → ((t : List ℕ) (end : ℕ) → completed t end (Some s) ≡ Ok (whole (Some s) end)) → Lies g s text
-  by_rows : (q : QName) (columns : List (List ℕ)) (rows : List ℕ) → IsLaidOut g (stmt.CopyRows q columns []) (copy_head q columns) → AreRows rows → Lies g (stmt.CopyRows q columns rows) (copy_head q columns ++ (rows ++ (end_mark ++ line_feed ∷ [])))
+  by_rows : (q : QName) (columns : List (List ℕ)) (rows : List ℕ) → IsLaidOut g (stmt.CopyRows q columns []) (in_words (stmt.CopyRows q columns [])) → AreRows rows → Lies g (stmt.CopyRows q columns rows) (in_words (stmt.CopyRows q columns []) ++ (rows ++ (end_mark ++ line_feed ∷ [])))
   by_line : (n : List ℕ) → IsName n → list_all in_line n ≡ true → Lies g (stmt.Connect n) (connect_line n ++ 10 ∷ [])
 
 pub can_be_written : {g : List ℕ} (gap : Gap g) (s : Stmt) → IsWritable s → Lies g s (spelling s)
 unfolding spelling connect_text
-can_be_written {g} gap (stmt.CopyRows q columns rows) is =
-    subst (Lies g (stmt.CopyRows q columns rows)) (sym (copy_is q columns rows)) (by_rows q columns rows (laid_out gap (stmt.CopyRows q columns []) (copy_head q columns) (copy_spelled gap q columns rows is)) is.2)
+can_be_written gap (stmt.CopyRows q columns rows) is = by_rows q columns rows (laid_out gap (stmt.CopyRows q columns []) is.0) is.1
 can_be_written gap (stmt.Connect n) is = by_line n is.0 is.1
-can_be_written gap s is = by_tokens s (spelling s) (laid_out gap s (spelling s) (spelled_so gap s tt is)) (λ t end. refl)
+can_be_written gap s is = by_tokens s (spelling s) (laid_out gap s is) (λ t end. refl)
 
 -- ---- where nothing is left
 
@@ -195,7 +202,7 @@ one_statement text front g _ _ more rest gap fresh (by_rows q columns rows l are
     let s = stmt.CopyRows q columns rows in
     let behind = rows ++ (end_mark ++ (line_feed ∷ rest)) in
     let e' : text ≡ front ++ (spelled l.tokens ++ (10 ∷ behind)) =
-    e ∙ ap (λ (x : List ℕ). front ++ (g ++ x)) (head_behind (copy_head q columns) rows end_mark (line_feed ∷ []) rest) ∙ ap (λ (x : List ℕ). front ++ x) (regrouped g (copy_head q columns) behind (spelled l.tokens) l.bytes) in
+    e ∙ ap (λ (x : List ℕ). front ++ (g ++ x)) (head_behind (in_words (stmt.CopyRows q columns [])) rows end_mark (line_feed ∷ []) rest) ∙ ap (λ (x : List ℕ). front ++ x) (regrouped g (in_words (stmt.CopyRows q columns [])) behind (spelled l.tokens) l.bytes) in
     let k = tokens_collected text front behind l.tokens (stmt.CopyRows q columns []) e' l.stood l.last l.says in
     let head = front ++ spelled l.tokens in
     let text_is : text ≡ head ++ (10 ∷ behind) = e' ∙ sym (append_assoc front (spelled l.tokens) (10 ∷ behind)) in
@@ -257,11 +264,8 @@ joined_read statements all = laid_out_read (spellings statements) statements (al
 -- ---- statements
 
 statement_yields : (s : Stmt) (ts : List Lexeme) (r : List ℕ) → AllCame ts r → statement.Spells (Some s) ts → IsWritable s
-unfolding statement_as
-statement_yields s ts r came spells = elim ((statement_as none).made (Some s) ts r came spells) [
-  | inl h ↦ absurd cc h.2
-  | inr h ↦ (let same : h.0 ≡ s = cc h.2 in subst IsWritable same ((command_as none).is h.0 h.1))
-]
+unfolding statement
+statement_yields s ts r came spells = elim spells [ inl h ↦ absurd cc h.1 | inr h ↦ (let same : h.0 ≡ s = cc h.1 in subst IsWritable same (fits_writable h.0 (command_made h.0 ts r came h.2))) ]
 
 -- ---- whole texts
 

@@ -1,4 +1,4 @@
-pub use Rattle.ddl_scripts.specs.AlterGrammar
+pub use Rattle.ddl_scripts.specs.OnlyGrammar
 pub use Rattle.ddl_scripts.specs.Collecting
 pub use Rattle.ddl_scripts.specs.Comments
 pub use Rattle.ddl_scripts.specs.CopyGrammar
@@ -21,7 +21,8 @@ pub use Rattle.ddl_scripts.specs.Rests
 pub use Rattle.ddl_scripts.specs.RightsGrammar
 pub use Rattle.ddl_scripts.specs.Roles
 pub use Rattle.ddl_scripts.specs.Rows
-pub use Rattle.ddl_scripts.specs.Spelling
+pub use Rattle.ddl_scripts.specs.Syntax
+pub use Rattle.ddl_scripts.specs.LeafParts
 pub use Rattle.ddl_scripts.specs.Spellings
 pub use Rattle.ddl_relation_texts.specs.Tables
 pub use Rattle.ddl_relation_texts.specs.Texts

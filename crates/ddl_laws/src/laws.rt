@@ -5,16 +5,15 @@ ghost use Rattle.ddl_scripts.specs.Collecting.{collected};
 ghost use Rattle.ddl_scripts.specs.Leaves.{qualified};
 ghost use Rattle.ddl_scripts.specs.Pieces.{lexemes};
 ghost use Rattle.ddl_relation_texts.specs.Laws.{Lawful};
-ghost use Rattle.ddl_scripts.specs.AlterGrammar.{constraint_body};
-ghost use Rattle.ddl_scripts.specs.RelationGrammar.{index_body};
+ghost use Rattle.ddl_scripts.specs.Grammar.{constraint_body, index_body};
+ghost use Rattle.ddl_scripts.specs.Syntax.{part};
 ghost use Rattle.ddl_scripts.specs.Shortened.{path_in};
 ghost use Rattle.ddl_scripts.specs.declared.located.Located.{Located};
 ghost use Rattle.ddl_scripts.specs.declared.fault.DdlFault.{DdlFault};
 ghost use Rattle.ddl_scripts.specs.Reading.{statements_of};
 ghost use Rattle.ddl_scripts.specs.Readings.{Reads, FailsAt};
 ghost use Rattle.cat_model.specs.declared.stmt.Stmt.{Stmt};
-ghost use Rattle.ddl_scripts.specs.Spelling.{spelling};
-ghost use Rattle.ddl_scripts.specs.Respelling.{IsWritable, AllWritable};
+ghost use Rattle.ddl_scripts.specs.Respelling.{IsWritable, AllWritable, spelling};
 ghost use Rattle.ddl_scripts.specs.Spellings.{spellings, said};
 ghost use Rattle.ddl_scripts.specs.Laying.{Lays};
 
@@ -33,8 +32,8 @@ pub fn the_first_fault_is_told()
 
 /// A constraint's definition, and that of an index, has the laws of a part.
 pub fn definitions_have_their_laws()
-    ensures constraints { Lawful constraint_body }
-    ensures indexes { Lawful index_body }
+    ensures constraints { Lawful (part constraint_body) }
+    ensures indexes { Lawful (part index_body) }
 {}
 
 /// A literal's text is a path exactly where all of its tokens together spell it, and no fault stands behind them.

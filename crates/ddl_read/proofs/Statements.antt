@@ -1,7 +1,6 @@
 -- A text read statement by statement: those so far and those behind are those of the text.
 use Rattle.ddl_read.proofs.Common.{some_left, ◌≡◌, ℕ, suc, ◌+◌, ◌-◌, ◌<◌, ◌≤◌, false, List, [], ◌∷◌, ◌++◌, length, Option, Some, None, Result, Ok, Err, refl, ap, ◌∙◌, arith, append_assoc, append-nil, LexFault, Token, next_token_of, spelling, Stmt, Piece, is_word, is_sign, lexeme_of, lexemes, value_of, Collected, collected, collected_within, collected_by, Reading, Whole, whole, whole_of, begins_statement, stray_in, stray, told, line_at, line_said, statements_at, listed, first_start, no_more, statement_of, statements_by, statements_within, statements_of}
-use Rattle.ddl_scripts.specs.{MetaLines.meta_line, Grammar.command, Grammar.statement, declared.fault.DdlFault.TheVariants.Unknown, declared.located.Located.Located, declared.fault.DdlFault.DdlFault, declared.fault.ReadStmtsError.ReadStmtsError, Reading.◌>>=◌, Reading.Fails}
-use Rattle.cat_model.specs.declared.stmt.Stmt.TheVariants as stmt
+use Rattle.ddl_scripts.specs.{MetaLines.meta_line, Grammar.command, Grammar.statement, Syntax.part, declared.fault.DdlFault.TheVariants.Unknown, declared.located.Located.Located, declared.fault.DdlFault.DdlFault, declared.fault.ReadStmtsError.ReadStmtsError, Reading.◌>>=◌, Reading.Fails}
 use Rattle.ddl_scripts.specs.declared.fault.ReadStmtsError.TheVariants as errors
 
 -- statements so far, before what is read behind them
@@ -81,7 +80,7 @@ collected_by_it text at t e =
     (_, ap (λ n. (collected_within n text at).pieces) fuel ∙ ap (λ r. (collected_by (collected_within (length text) text) at r).pieces) e)
 
 pub at_stray : (answer : Result (List Located) DdlFault) (text : List ℕ) (so_far : List Located) (at start : ℕ) → IsLeft answer text so_far at → line_at text at ≡ None → stray text at ≡ Some start → answer ≡ Err (Unknown start)
-unfolding stray statement_of statement command begins_statement is_sign is_word
+unfolding stray statement_of statement command part begins_statement is_sign is_word
 at_stray answer text so_far at start left no_line e =
     let s = strayed text (next_token_of text at) start e in
     let c = collected text at in

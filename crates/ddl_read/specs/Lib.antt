@@ -1,4 +1,6 @@
-pub use Rattle.ddl_scripts.specs.AlterGrammar
+pub use Rattle.ddl_scripts.specs.OnlyGrammar
+pub use Rattle.ddl_scripts.specs.LeafParts
+pub use Rattle.ddl_scripts.specs.Syntax
 pub use Rattle.ddl_scripts.specs.Clauses
 pub use Rattle.ddl_scripts.specs.Columns
 pub use Rattle.ddl_scripts.specs.Faults

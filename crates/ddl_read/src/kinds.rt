@@ -1,6 +1,7 @@
 //! Readers of the kinds of statement, each behind the words that tell it apart.
 ghost use Rattle.std.specs.Prelude.{drop};
 ghost use Rattle.ddl_scripts.specs.Pieces.{GivesPart, GivesValue, value_of};
+ghost use Rattle.ddl_grammar.specs.Syntax.{part};
 ghost use Rattle.ddl_scripts.specs.Grammar.{created, altered_domain, altered, selected, setting, command, statement};
 
 use cat_model::{CheckDef, Owned, Stmt};
@@ -12,9 +13,9 @@ use ddl_relations::{
 };
 use std::alloc::Global;
 
-#[tactic(auto, unfolding(ddl_grammar::specs::Grammar::created, ddl_grammar::specs::Grammar::create_schema))]
+#[tactic(auto, unfolding(ddl_grammar::specs::Syntax::part, ddl_grammar::specs::LeafParts::leaf_part, ddl_grammar::specs::Grammar::created))]
 fn created(alloc: Global, pieces: &Pieces<'_>, at: usize) -> Parsed<Stmt>
-    ensures { GivesPart pieces.now (λ s. s) result (created.read (drop at pieces.now)) }
+    ensures { GivesPart pieces.now (λ s. s) result ((part created).read (drop at pieces.now)) }
 {
     read!(alloc, pieces, at;
         if "schema" { name: .name; => Stmt::CreateSchema { name } }
@@ -26,18 +27,18 @@ fn created(alloc: Global, pieces: &Pieces<'_>, at: usize) -> Parsed<Stmt>
         -> created_relation)
 }
 
-#[tactic(auto, unfolding(ddl_grammar::specs::Grammar::altered_domain, ddl_grammar::specs::Grammar::domain_change, ddl_grammar::specs::Grammar::new_check))]
+#[tactic(auto, unfolding(ddl_grammar::specs::Syntax::part, ddl_grammar::specs::LeafParts::leaf_part, ddl_grammar::specs::Grammar::altered_domain, ddl_grammar::specs::Grammar::new_owner))]
 fn altered_domain(alloc: Global, pieces: &Pieces<'_>, at: usize) -> Parsed<Stmt>
-    ensures { GivesPart pieces.now (λ s. s) result (altered_domain.read (drop at pieces.now)) }
+    ensures { GivesPart pieces.now (λ s. s) result ((part altered_domain).read (drop at pieces.now)) }
 {
     read!(alloc, pieces, at; q: qualified_name
         if at "owner" { role: new_owner => Stmt::OwnerTo { object: Owned::Domain(q), role } }
         "add" (CheckDef { name, text }): named_check; => Stmt::AddDomainCheck { q, name, text })
 }
 
-#[tactic(auto, unfolding(ddl_grammar::specs::Grammar::altered, ddl_grammar::specs::Grammar::name_and_owner, ddl_grammar::specs::Grammar::path_and_owner))]
+#[tactic(auto, unfolding(ddl_grammar::specs::Syntax::part, ddl_grammar::specs::LeafParts::leaf_part, ddl_grammar::specs::Grammar::altered))]
 fn altered(alloc: Global, pieces: &Pieces<'_>, at: usize) -> Parsed<Stmt>
-    ensures { GivesPart pieces.now (λ s. s) result (altered.read (drop at pieces.now)) }
+    ensures { GivesPart pieces.now (λ s. s) result ((part altered).read (drop at pieces.now)) }
 {
     read!(alloc, pieces, at;
         if "schema" { name: .name role: new_owner => Stmt::OwnerTo { object: Owned::Schema(name), role } }
@@ -50,27 +51,27 @@ fn altered(alloc: Global, pieces: &Pieces<'_>, at: usize) -> Parsed<Stmt>
         "role" -> alter_role)
 }
 
-#[tactic(auto, unfolding(ddl_grammar::specs::Grammar::selected, ddl_grammar::specs::Grammar::set_config))]
+#[tactic(auto, unfolding(ddl_grammar::specs::Syntax::part, ddl_grammar::specs::LeafParts::leaf_part, ddl_grammar::specs::Grammar::selected))]
 fn selected(alloc: Global, pieces: &Pieces<'_>, at: usize) -> Parsed<Stmt>
-    ensures { GivesPart pieces.now (λ s. s) result (selected.read (drop at pieces.now)) }
+    ensures { GivesPart pieces.now (λ s. s) result ((part selected).read (drop at pieces.now)) }
 {
     read!(alloc, pieces, at; "pg_catalog" .
         if "set_config" { (name: .literal, value: .literal, "false"); => Stmt::SetConfig { name, value } }
         "setval" -> set_value)
 }
 
-#[tactic(auto, unfolding(ddl_grammar::specs::Grammar::setting, ddl_grammar::specs::Grammar::equals_or_to))]
+#[tactic(auto, unfolding(ddl_grammar::specs::Syntax::part, ddl_grammar::specs::LeafParts::leaf_part, ddl_grammar::specs::Grammar::setting, ddl_grammar::specs::Clauses::equals_or_to))]
 fn setting(alloc: Global, pieces: &Pieces<'_>, at: usize) -> Parsed<Stmt>
-    ensures { GivesPart pieces.now (λ s. s) result (setting.read (drop at pieces.now)) }
+    ensures { GivesPart pieces.now (λ s. s) result ((part setting).read (drop at pieces.now)) }
 {
     read!(alloc, pieces, at; name: .name
         if = { value: .expression; => Stmt::Set { name, value } }
         "to" value: .expression; => Stmt::Set { name, value })
 }
 
-#[tactic(auto, unfolding(ddl_grammar::specs::Grammar::command))]
+#[tactic(auto, unfolding(ddl_grammar::specs::Syntax::part, ddl_grammar::specs::LeafParts::leaf_part, ddl_grammar::specs::Grammar::command))]
 fn command(alloc: Global, pieces: &Pieces<'_>, at: usize) -> Parsed<Stmt>
-    ensures { GivesPart pieces.now (λ s. s) result (command.read (drop at pieces.now)) }
+    ensures { GivesPart pieces.now (λ s. s) result ((part command).read (drop at pieces.now)) }
 {
     read!(alloc, pieces, at;
         if "create" { -> created }

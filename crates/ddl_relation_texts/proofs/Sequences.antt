@@ -1,8 +1,9 @@
--- CREATE SEQUENCE with the text that it is written in: each clause is an item behind those before it.
-use Rattle.ddl_relation_texts.proofs.Common.{◌≡◌, ℕ, ℤ, Bool, true, false, not, cond, ◌&&◌, ◌||◌, List, [], ◌∷◌, ◌++◌, Option, Some, None, refl, sym, ap, subst, ◌∙◌, inl, inr, codes, arith, signed_decimal, QName, Lexeme, is_word, never, starts, Part, ◌▸◌, joined, only_if as words_if, usual_min, usual_max, type_words, bound, min_text, max_text, Clauses, no_clauses, with_clause, with_clauses, clause_behind, begins_clause, clausing, sequence_clauses, sequence_of, Words, Safe, number_as, space, indented, Written, is_key, word_as, mark_as, lead_as, word_then, nothing_as, seen_as, choose_as, after_as, OptionFit, Follows, IsPut, followed, same_text, put_as, none_put, then_put, joined-append, then_opens, Opens, admits, admitted, meets, covers, indent, not_closed, Yields, AllCame, came_front, came_behind, Many, no_more, spelled, ◌then◌, str_to_ascii_lowercase, IsInt, IsWritable}
-use Rattle.std.specs.{Ordering.int_eq, Str.str_eq_ignore_ascii_case}
+-- The clauses of a sequence with the text that it is written in: each clause is an item behind those before it.
+use Rattle.ddl_relation_texts.proofs.Common.{◌≡◌, ℕ, ℤ, Bool, true, false, not, cond, ◌&&◌, ◌||◌, List, [], ◌∷◌, ◌++◌, Option, Some, None, refl, sym, ap, subst, ◌∙◌, inl, inr, codes, arith, signed_decimal, Lexeme, is_word, never, starts, Part, ◌▸◌, joined, only_if as words_if, usual_min, usual_max, type_words, bound, min_text, max_text, Clauses, no_clauses, with_clause, with_clauses, clause_behind, begins_clause, clausing, sequence_clauses, sequence_of, Words, Safe, number_as, space, indented, Written, is_key, word_as, mark_as, lead_as, word_then, nothing_as, seen_as, choose_as, after_as, OptionFit, Follows, IsPut, followed, same_text, put_as, none_put, then_put, joined-append, then_opens, Opens, admits, admitted, meets, covers, indent, not_closed, AllCame, came_front, came_behind, Many, no_more, spelled, ◌then◌, str_to_ascii_lowercase, IsInt, IsSequence, sequence, clauses_text, bound_or, shown_as, pieces_as, append-nil}
+use Rattle.cat_model.specs.declared.value.Sequence.{Sequence}
+use Rattle.std.specs.{Option.unwrap_or, Ordering.int_eq, Str.str_eq_ignore_ascii_case}
 use Rattle.cat_model.specs.{declared.constraint.SequenceKind.SequenceKind, declared.constraint.SequenceKind.TheVariants.SmallInt, declared.constraint.SequenceKind.TheVariants.Integer, declared.constraint.SequenceKind.TheVariants.BigInt}
-use Rattle.ddl_grammar.specs.{Parts.one_more, Respelling.IsPath, SequenceGrammar.is_unsaid, SequenceGrammar.integer_kind, SequenceGrammar.usual_bound, declared.sequences.Bound.Bound, declared.sequences.Bound.TheVariants.Usual, declared.sequences.Bound.TheVariants.Given, declared.sequences.Clause.Clause, declared.sequences.Clause.TheVariants.Kind, declared.sequences.Clause.TheVariants.Start, declared.sequences.Clause.TheVariants.Step, declared.sequences.Clause.TheVariants.Least, declared.sequences.Clause.TheVariants.Greatest, declared.sequences.Clause.TheVariants.Cache, declared.sequences.Clause.TheVariants.Cycle}
+use Rattle.ddl_grammar.specs.{Parts.one_more, SequenceGrammar.is_unsaid, SequenceGrammar.integer_kind, SequenceGrammar.usual_bound, declared.sequences.Bound.Bound, declared.sequences.Bound.TheVariants.Usual, declared.sequences.Bound.TheVariants.Given, declared.sequences.Clause.Clause, declared.sequences.Clause.TheVariants.Kind, declared.sequences.Clause.TheVariants.Start, declared.sequences.Clause.TheVariants.Step, declared.sequences.Clause.TheVariants.Least, declared.sequences.Clause.TheVariants.Greatest, declared.sequences.Clause.TheVariants.Cache, declared.sequences.Clause.TheVariants.Cycle}
 use Rattle.ddl_part_laws.proofs.{Sequence.lead_begins, Telling.same_by}
 use Rattle.ddl_forms.proofs.{Putting.begun, Written.items_from}
 
@@ -12,13 +13,10 @@ abbrev pub IsBound : Bound → Type 0
 IsBound Usual = Unit {0}
 IsBound (Given n) = IsInt n
 
--- a type that has words
-abbrev pub IsNamed : SequenceKind → Type 0
-IsNamed BigInt = ⊥
-IsNamed kind = Unit {0}
-
+-- bigint has no words
 abbrev pub IsClause : Clause → Type 0
-IsClause (Kind kind) = IsNamed kind
+IsClause (Kind BigInt) = ⊥
+IsClause (Kind kind) = Unit {0}
 IsClause (Start n) = IsInt n
 IsClause (Step n) = IsInt n
 IsClause (Least b) = IsBound b
@@ -46,12 +44,9 @@ clause_is v is = grind arith
 -- a clause behind others is one behind none
 anywhere : (c : Clauses) (v : Clause) (ts : List Lexeme) → (clause_behind c).Spells v ts → (clause_behind no_clauses).Spells v ts
 unfolding clause_behind
-anywhere c v ts spells = elim spells [ inl s ↦ inl (s.0, s.1, (s.2.0, s.2.1, s.2.2, s.2.3, any_bound (is_unsaid c.least) (is_unsaid c.greatest) s.0.1 s.2.1 s.2.4)) | inr s ↦ inr s ]
-  where
-    any_bound : (least greatest : Bool) (v : Clause) (ts : List Lexeme) → (usual_bound least greatest).Spells v ts → (usual_bound true true).Spells v ts
-    any_bound true true v ts s = s
-    any_bound true false v ts s = inl s
-    any_bound false x v ts s = inr s
+anywhere c v ts spells =
+    let any : (least greatest : Bool) (v : Clause) (ts : List Lexeme) → (usual_bound least greatest).Spells v ts → (usual_bound true true).Spells v ts = λ least greatest v ts s. grind arith in
+    elim spells [ inl s ↦ inl (s.0, s.1, (s.2.0, s.2.1, s.2.2, s.2.3, any (is_unsaid c.least) (is_unsaid c.greatest) s.0.1 s.2.1 s.2.4)) | inr s ↦ inr s ]
 
 -- ---- the numbers so far
 
@@ -61,13 +56,13 @@ AreGiven c = OptionFit IsInt c.start × (OptionFit IsInt c.step × (OptionFit Is
 pub one_given : (c : Clauses) (v : Clause) → AreGiven c → IsClause v → AreGiven (with_clause c v)
 one_given c v given is = grind arith
 
-all_given : (c : Clauses) (vs : List Clause) (ts : List Lexeme) (r : List ℕ) → AllCame ts r → AreGiven c → Many clausing c vs ts → AreGiven (with_clauses c vs)
+pub all_given : (c : Clauses) (vs : List Clause) (ts : List Lexeme) (r : List ℕ) → AllCame ts r → AreGiven c → Many clausing c vs ts → AreGiven (with_clauses c vs)
 all_given c _ _ r came given (no_more _) = given
 all_given c _ _ r came given (one_more _ v vs a b spells others) = all_given (with_clause c v) vs b r (came_behind a b r came) (one_given c v given (clause_is v (clause_as.made v a (spelled b ++ r) (came_front a b r came) (anywhere c v a spells.1)))) others
 
-pub writable : (q : QName) (c : Clauses) → IsPath q → AreGiven c → IsWritable (sequence_of q c)
+pub sequence_is : (c : Clauses) → AreGiven c → IsSequence (sequence_of c)
 unfolding sequence_of usual_min usual_max
-writable q c path given = grind arith
+sequence_is c given = grind arith
 
 -- ---- clauses with their texts
 
@@ -110,19 +105,6 @@ one {p} {vs} {more} c v word is w fit texts meet safe same unsaid here m =
       begins = subst (Opens true Safe) (sym (joined-append texts more)) (then_opens true true Safe Safe (joined texts) (joined more) begins m.begins);
     }
 
--- a sequence's type and numbers, and whether it cycles
-pub record Values : Type 0 where
-  pub kind : SequenceKind
-  pub start : ℤ
-  pub step : ℤ
-  pub min : ℤ
-  pub max : ℤ
-  pub cache : ℤ
-  pub cycle : Bool
-
-abbrev pub AreInts : Values → Type 0
-AreInts v = IsInt v.start × IsInt v.step × IsInt v.min × IsInt v.max × IsInt v.cache
-
 abbrev pub bound_of : Bool → ℤ → Bound
 bound_of true n = Usual
 bound_of false n = Given n
@@ -133,7 +115,7 @@ said SmallInt = Some SmallInt
 said Integer = Some Integer
 said BigInt = None
 
-abbrev pub written : Values → Clauses
+abbrev pub written : Sequence → Clauses
 written v = record {
   kind = said v.kind;
   start = Some v.start;
@@ -148,7 +130,7 @@ abbrev pub with_cycle : Bool → List Clause
 with_cycle true = Cycle ∷ []
 with_cycle false = []
 
-abbrev pub numbers_written : Values → List Clause
+abbrev pub numbers_written : Sequence → List Clause
 numbers_written v =
     Start v.start ∷ Step v.step ∷ Least (bound_of (int_eq v.min (usual_min v.kind v.step)) v.min) ∷ Greatest (bound_of (int_eq v.max (usual_max v.kind v.step)) v.max) ∷ Cache v.cache ∷ with_cycle v.cycle
 
@@ -156,15 +138,15 @@ abbrev pub with_kind : SequenceKind → List Clause → List Clause
 with_kind BigInt vs = vs
 with_kind kind vs = Kind kind ∷ vs
 
-abbrev pub clauses_written : Values → List Clause
+abbrev pub clauses_written : Sequence → List Clause
 clauses_written v = with_kind v.kind (numbers_written v)
 
-abbrev number_pieces : Values → List (List ℕ)
+abbrev number_pieces : Sequence → List (List ℕ)
 number_pieces v =
     codes "\n    START WITH " ∷ signed_decimal v.start ∷ codes "\n    INCREMENT BY " ∷ signed_decimal v.step ∷ min_text v.kind v.step v.min ∷ max_text v.kind v.step v.max
     ∷ codes "\n    CACHE " ∷ signed_decimal v.cache ∷ words_if v.cycle (codes "\n    CYCLE") ∷ []
 
-abbrev pub clause_pieces : Values → List (List ℕ)
+abbrev pub clause_pieces : Sequence → List (List ℕ)
 clause_pieces v = type_words v.kind ∷ number_pieces v
 
 pub min_put : (d : Clauses) {vs : List Clause} {more : List (List ℕ)} (usual : Bool) (n : ℤ) → IsInt n → Put (record d { least = Some (bound_of usual n); greatest = None }) vs more
@@ -185,7 +167,7 @@ max_put d least false n is m =
     one (record d { least = Some least; greatest = None }) (Greatest (Given n)) (codes "MAXVALUE") refl (seen_as (λ n. Greatest (Given n)) (number_as space)) (n, is, refl) ((codes "\n    MAXVALUE " ++ signed_decimal n) ∷ []) refl refl refl refl (λ ts s. inr (inr (inr (inr (inr (inl s)))))) m
 
 -- clause by clause
-pub clauses_put : (v : Values) → AreInts v → Put no_clauses (clauses_written v) (clause_pieces v)
+pub clauses_put : (v : Sequence) → IsSequence v → Put no_clauses (clauses_written v) (clause_pieces v)
 unfolding clause_behind is_key
 clauses_put v is = by v.kind
   where
@@ -211,33 +193,33 @@ clauses_put v is = by v.kind
     by Integer = one no_clauses (Kind Integer) (codes "AS") refl (seen_as (λ u. Kind Integer) (mark_as (word_as space (codes "integer") refl))) (tt, tt, refl) (codes "\n    AS integer" ∷ []) refl refl refl refl (λ ts s. inr (inl (s.0, s.1, (s.2.0, s.2.1, s.2.2, s.2.3, inr s.2.4)))) (behind (Some Integer))
     by BigInt = let m = behind None in record { put = m.put; begins = m.begins }
 
-pub said_so : (v : Values) → with_clauses no_clauses (clauses_written v) ≡ written v
-said_so v = by v.kind v.cycle
-  where
-    by : (kind : SequenceKind) (cycle : Bool) → with_clauses no_clauses (with_kind kind (numbers_written (record v { cycle = cycle }))) ≡ record (written v) { kind = said kind; cycle = cycle }
-    by kind cycle = grind arith
+pub said_so : (v : Sequence) → with_clauses no_clauses (clauses_written v) ≡ written v
+said_so v = grind arith
 
--- what spells the clauses that are written spells them
-pub clauses_as_put : (c : Clauses) (v : Values) → AreInts v → written v ≡ c → (others : List Lexeme) → Follows others → admits Safe (spelled others) ≡ true → IsPut sequence_clauses c (joined (clause_pieces v)) others
+unfoldable pub clauses_as : Written sequence_clauses
 unfolding sequence_clauses
-clauses_as_put c v is e others follows h =
-    put_as (items_from clausing no_clauses) sequence_clauses (clauses_written v) c (joined (clause_pieces v)) others ((clauses_put v is).put others follows h) (λ ts s. (clauses_written v, sym (said_so v ∙ e), s))
-
-pub clauses_made : Yields AreGiven sequence_clauses
-unfolding sequence_clauses
-clauses_made c ts r came s = subst AreGiven (sym s.1) (all_given no_clauses s.0 ts r came (tt, (tt, (tt, (tt, tt)))) s.2)
-
-abbrev pub clauses_as : Written sequence_clauses
 clauses_as = record {
-  Fit = λ c. (v : Values) × AreInts v × (written v ≡ c);
+  Fit = λ c. (v : Sequence) × IsSequence v × (written v ≡ c);
   Is = AreGiven;
   pieces = λ c fit. clause_pieces fit.0;
   after = Safe;
   opens = Safe;
   lacks = true;
   closed = false;
-  put = λ c fit. clauses_as_put c fit.0 fit.1 fit.2;
+  put = λ c fit others follows h. put_as (items_from clausing no_clauses) sequence_clauses (clauses_written fit.0) c (joined (clause_pieces fit.0)) others ((clauses_put fit.0 fit.1).put others follows h) (λ ts s. (clauses_written fit.0, sym (said_so fit.0 ∙ fit.2), s));
   begins = λ c fit. (clauses_put fit.0 fit.1).begins;
-  made = clauses_made;
+  made = λ c ts r came s. subst AreGiven (sym s.1) (all_given no_clauses s.0 ts r came (tt, (tt, (tt, (tt, tt)))) s.2);
   closes = not_closed sequence_clauses;
 }
+
+-- the numbers that are written are the sequence's
+pub sequence_same : (v : Sequence) → sequence_of (written v) ≡ v
+unfolding sequence_of
+sequence_same v =
+    let bound_is : (usual n : ℤ) → bound_or usual (Some (bound_of (int_eq n usual) n)) ≡ n = λ usual n. grind arith in
+    let said_is : (kind : SequenceKind) → unwrap_or (said kind) BigInt ≡ kind = λ x. grind arith in
+    rw (said_is v.kind, bound_is (usual_min v.kind v.step) v.min, bound_is (usual_max v.kind v.step) v.max) refl
+
+unfoldable pub sequence_as : Written sequence
+unfolding sequence clauses_text clauses_as
+sequence_as = pieces_as (shown_as sequence_of clauses_as IsSequence (λ v is. (written v, (v, is, refl), sequence_same v)) sequence_is) (λ v is. clauses_text v ∷ []) (λ v is. sym (append-nil (clauses_text v)))

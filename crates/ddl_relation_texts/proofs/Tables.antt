@@ -1,6 +1,5 @@
 -- CREATE TYPE, CREATE DOMAIN and CREATE TABLE: each part of their grammar with the text that it is written in.
-use Rattle.ddl_relation_texts.proofs.Common.{◌≡◌, arith, ℕ, Bool, true, false, cond, List, [], ◌∷◌, ◌++◌, map, append_assoc, append-nil, Option, Some, None, Ok, Err, refl, sym, ap, ◌∙◌, ◌⊎◌, inl, inr, codes, flat_map, AllByRecursion, is_reserved, written_kind, written_name, written_literal, IsName, IsText, ColumnDef, CheckDef, Lexeme, is_word, many, literal, is_literal, name_value, item_of, listing, joined, only_if, given_default, check_text, column_text, table_lines, create_enum, enum_of, Attributes, not_null, given, null_first, default_first, attributes, typed, checking, domain_of, create_domain, column_name, column_name_value, column_of, column, element, last_element, element_at, elements, more_elements, parted, table_elements, table_of, create_table, column_name_is, IsDefaultText, Words, Safe, default_as, space, newline, indented, indent, tabbed, no_key, value_name, Written, Kinds, name_said, is_key, opening_as, closing_as, comma_as, literal_as, path_as, then_as, lead_as, close_as, word_then, end_as, seen_as, like_as, shown_as, pieces_as, choose_as, nothing_as, maybe_as, OptionFit, AllFit, items_pieces, many_as, alike_as, kind_as, led_as, or_as, IsCheck, IsColumn, IsDefault, IsWritable, listed}
-use Rattle.ddl_forms.specs.Tables.{lines}
+use Rattle.ddl_relation_texts.proofs.Common.{◌≡◌, arith, ℕ, Bool, true, false, cond, List, [], ◌∷◌, ◌++◌, map, append-nil, Option, Some, None, Ok, Err, refl, sym, ap, ◌∙◌, ◌⊎◌, inl, inr, codes, flat_map, AllByRecursion, is_reserved, written_kind, written_name, written_literal, IsName, IsText, ColumnDef, CheckDef, Lexeme, is_word, many, literal, is_literal, name_value, item_of, listing, joined, only_if, given_default, check_text, column_text, table_lines, Attributes, not_null, given, null_first, default_first, attributes, typed, checking, column_name, column_name_value, column_of, column, element, last_element, element_at, elements, more_elements, parted, table_elements, column_name_is, IsDefaultText, Words, Safe, default_as, space, indented, indent, tabbed, no_key, value_name, Written, name_said, is_key, comma_as, literal_as, then_as, lead_as, word_then, end_as, seen_as, like_as, shown_as, pieces_as, choose_as, nothing_as, maybe_as, OptionFit, AllFit, items_pieces, many_as, alike_as, IsCheck, IsColumn, IsDefault, listed, Gap, domain_rest, domain_text, in_lines, IsType, is_as, subst}
 use Rattle.ddl_forms.proofs.{Types.type_as, Defaults.null_words, Defaults.default_and_null_as}
 use Rattle.ddl_relation_texts.proofs.Relations.{lines_of_items, named_check_as}
 use Rattle.ddl_grammar.specs.{declared.tables.TableElement.TableElement, declared.tables.TableElement.TheVariants.Column, declared.tables.TableElement.TheVariants.Check, declared.tables.Spot.Spot, declared.tables.Spot.TheVariants.Opening, declared.tables.Spot.TheVariants.BehindColumn, declared.tables.Spot.TheVariants.BehindCheck}
@@ -14,18 +13,9 @@ label_as false = literal_as indented
 abbrev pub labels_as : Written (listed is_literal literal)
 labels_as = alike_as label_as IsText (elim [ true ↦ λ t is. is | false ↦ λ t is. is ]) (elim [ true ↦ λ t is. is | false ↦ λ t is. is ]) Words (elim [ true ↦ refl | false ↦ refl ])
 
--- lines without the line feed behind the last
+-- a line behind others
 abbrev pub in_line : List ℕ → List ℕ
 in_line line = codes ",\n    " ++ line
-
-abbrev pub in_lines : List (List ℕ) → List ℕ
-in_lines [] = []
-in_lines (first ∷ more) = (indent ++ first) ++ flat_map in_line more
-
-pub lines_end : (l : List (List ℕ)) (e : List ℕ) → in_lines l ++ 10 ∷ e ≡ lines l ++ e
-unfolding lines
-lines_end [] e = refl
-lines_end (first ∷ more) e = sym (append_assoc (in_lines (first ∷ more)) (10 ∷ []) e)
 
 pub labels_same : (labels : List (List ℕ)) (all : AllByRecursion IsText labels) → joined (labels_as.pieces labels all) ≡ in_lines (map written_literal labels) ++ []
 labels_same [] all = refl
@@ -35,11 +25,8 @@ labels_same (t ∷ labels) all = ap (λ (x : List ℕ). (indent ++ written_liter
     more [] fit = refl
     more (t ∷ labels) fit = ap (λ (x : List ℕ). in_line (written_literal t) ++ x) (more labels fit.1)
 
-unfoldable pub create_enum_as : Kinds IsWritable create_enum
-unfolding create_enum is_key
-create_enum_as =
-    let bracket = lead_as (opening_as space) (end_as (close_as (pieces_as labels_as (λ ls is. in_lines (map written_literal ls) ∷ []) labels_same) (closing_as newline) refl) refl) refl in
-    kind_as enum_of (then_as (path_as space) (word_then (codes "AS") refl (word_then (codes "ENUM") refl bracket refl) refl) refl) (λ x is. is)
+unfoldable pub lines_as : Written (listed is_literal literal)
+lines_as = pieces_as labels_as (λ ls is. in_lines (map written_literal ls) ∷ []) labels_same
 
 -- ---- defaults and NOT NULL
 
@@ -85,9 +72,9 @@ attributes_as domain = pieces_as (either_attributes_as domain) (λ x is. attribu
     by false (Some v) true is = refl
     by x d b is = refl
 
-unfoldable pub typed_as : (domain : Bool) → Written typed
+unfoldable pub typed_as : {g : List ℕ} → Gap g → (domain : Bool) → Written typed
 unfolding typed attributes_as
-typed_as domain = then_as (type_as space) (attributes_as domain) refl
+typed_as gap domain = then_as (type_as gap) (attributes_as domain) refl
 
 -- ---- CREATE DOMAIN
 
@@ -100,9 +87,12 @@ checks_as =
     pieces_as (alike_as (λ s. named_check_as tabbed) IsCheck (λ s c is. is) (λ s c is. is) Safe (λ s. refl)) (λ checks is. flat_map (λ c. codes "\n\t" ++ check_line c) checks ∷ [])
     (λ checks is. lines_of_items checking (λ s. named_check_as tabbed) (λ c. codes "\n\t" ++ check_line c) (λ s c fit more. refl) tt checks _ ∙ sym (append-nil (flat_map (λ c. codes "\n\t" ++ check_line c) checks)))
 
-unfoldable pub create_domain_as : Kinds IsWritable create_domain
-unfolding create_domain is_key typed_as checks_as
-create_domain_as = kind_as domain_of (then_as (path_as space) (word_then (codes "AS") refl (then_as (typed_as true) (end_as checks_as refl) refl) refl) refl) (λ x is. (is.0, is.1.0.0, is.1.0.1, is.1.1))
+-- up to its semicolon
+unfoldable pub domain_as : {g : List ℕ} → Gap g → Written domain_rest
+unfolding domain_rest typed_as attributes_as checks_as domain_text
+domain_as {g} gap =
+    let whole : Written domain_rest = then_as (typed_as gap true) (end_as checks_as refl) refl in
+    pieces_as (like_as whole (λ x. (IsType x.0.0 × IsDefault x.0.1.0) × AllByRecursion IsCheck x.1) (λ x is. is) (λ x is. is)) (λ x is. g ∷ domain_text x.0.0 x.0.1.1 x.0.1.0 x.1 ∷ []) (λ x is. ap (λ (t : List ℕ). g ++ t) (sym (append-nil (domain_text x.0.0 x.0.1.1 x.0.1.0 x.1))))
 
 -- ---- CREATE TABLE
 
@@ -116,26 +106,31 @@ column_name_as = name_said indented IsName IsName (λ n. n) (λ n is. is) column
 unfoldable pub column_as : Written column
 unfolding column typed_as column_text
 column_as =
-    pieces_as (shown_as column_of (then_as column_name_as (typed_as false) refl) IsColumn (λ c is. ((c.name, (c.type_name, (c.default, c.not_null))), (is.0, (is.1, is.2)), refl)) (λ x is. (is.0, is.1.0, is.1.1)))
+    pieces_as (shown_as column_of (then_as column_name_as (typed_as space false) refl) IsColumn (λ c is. ((c.name, (c.type_name, (c.default, c.not_null))), (is.0, (is.1, is.2)), refl)) (λ x is. (is.0, is.1.0, is.1.1)))
     (λ c is. indent ∷ column_text c ∷ []) (λ c is. ap (λ (x : List ℕ). indent ++ x) (sym (append-nil (column_text c))))
 
 abbrev pub IsElement : TableElement → Type 0
 IsElement (Column c) = IsColumn c
 IsElement (Check c) = IsCheck c
 
-unfoldable pub element_as : Kinds IsElement element
+unfoldable pub element_as : Written element
 unfolding element named_check_as column_as
-element_as = or_as (kind_as Check (named_check_as indented) (λ c is. is)) (kind_as Column column_as (λ c is. is))
+element_as = is_as (choose_as (seen_as Check (named_check_as indented)) (seen_as Column column_as)) IsElement (λ v h. elim h [ inl x ↦ subst IsElement x.2 x.1 | inr y ↦ subst IsElement y.2 y.1 ])
 
-unfoldable pub at_spot : (s : Spot) → Kinds IsElement (element_at s)
+unfoldable pub at_spot : (s : Spot) → Written (element_at s)
 unfolding element_as last_element named_check_as
 at_spot Opening = element_as
-at_spot BehindColumn = led_as comma_as element_as refl
-at_spot BehindCheck = led_as comma_as (kind_as Check (named_check_as indented) (λ c is. is)) refl
+at_spot BehindColumn = lead_as comma_as element_as refl
+at_spot BehindCheck = lead_as comma_as (seen_as Check (named_check_as indented)) refl
+
+pub element_is : (s : Spot) (v : TableElement) → (at_spot s).Is v → IsElement v
+unfolding at_spot element_as named_check_as
+element_is BehindCheck v h = subst IsElement h.2 h.1
+element_is s v h = h
 
 unfoldable pub many_elements_as : Written (many more_elements elements)
 unfolding at_spot
-many_elements_as = many_as (λ s. (at_spot s).written) IsElement (λ s v h. (at_spot s).is v h) Safe (elim [ Opening ↦ refl | x ↦ refl ])
+many_elements_as = many_as at_spot IsElement element_is Safe (elim [ Opening ↦ refl | x ↦ refl ])
 
 abbrev pub listed_elements : List ColumnDef → List CheckDef → List TableElement
 listed_elements columns checks = map Column columns ++ map Check checks
@@ -151,7 +146,7 @@ spot_lines s l = flat_map in_line l
 -- columns and checks from a spot on, with their lines, are parted into them
 abbrev pub AreLaid : Spot → List ColumnDef → List CheckDef → Type 0
 AreLaid s columns checks =
-    (fit : AllFit elements (λ s. (at_spot s).written) s (listed_elements columns checks)) × (joined (items_pieces elements (λ s. (at_spot s).written) s (listed_elements columns checks) fit) ≡ spot_lines s (table_lines columns checks)) × (parted (listed_elements columns checks) ≡ (columns, checks))
+    (fit : AllFit elements at_spot s (listed_elements columns checks)) × (joined (items_pieces elements at_spot s (listed_elements columns checks) fit) ≡ spot_lines s (table_lines columns checks)) × (parted (listed_elements columns checks) ≡ (columns, checks))
 
 pub checks_laid : (s : Spot) (checks : List CheckDef) → AllByRecursion IsCheck checks → AreLaid s [] checks
 unfolding at_spot element_as named_check_as last_element
@@ -182,15 +177,10 @@ AreElements x = AllByRecursion IsColumn x.0 × AllByRecursion IsCheck x.1
 
 pub are_elements : (es : List TableElement) → AllByRecursion IsElement es → AreElements (parted es)
 are_elements [] all = (tt, tt)
-are_elements (Column c ∷ es) all = let others = are_elements es all.1 in ((all.0, others.0), others.1)
-are_elements (Check c ∷ es) all = let others = are_elements es all.1 in (others.0, (all.0, others.1))
+are_elements (e ∷ es) all = let others = are_elements es all.1 in grind arith
 
 unfoldable pub table_elements_as : Written table_elements
 unfolding table_elements many_elements_as
 table_elements_as =
     pieces_as (shown_as parted many_elements_as AreElements (λ x is. let laid = elements_laid true x.0 x.1 is.0 is.1 in (listed_elements x.0 x.1, laid.0, laid.2)) are_elements) (λ x is. in_lines (table_lines x.0 x.1) ∷ [])
     (λ x is. (elements_laid true x.0 x.1 is.0 is.1).1 ∙ sym (append-nil (in_lines (table_lines x.0 x.1))))
-
-unfoldable pub create_table_as : Kinds IsWritable create_table
-unfolding create_table table_elements_as
-create_table_as = kind_as table_of (then_as (path_as space) (lead_as (opening_as space) (end_as (close_as table_elements_as (closing_as newline) refl) refl) refl) refl) (λ x is. (is.0, is.1.0, is.1.1))

@@ -1,8 +1,9 @@
 //! Readers of ALTER TABLE, behind these words.
 ghost use Rattle.std.specs.Prelude.{◌≡◌, drop};
 ghost use Rattle.ddl_grammar.specs.Pieces.{GivesPart};
-ghost use Rattle.ddl_grammar.specs.Clauses.{new_owner};
-ghost use Rattle.ddl_grammar.specs.AlterGrammar.{constraint_body, constrained, own_change, table_change, table_changed, altered_table};
+ghost use Rattle.ddl_grammar.specs.Syntax.{part};
+ghost use Rattle.ddl_grammar.specs.OnlyGrammar.{table_and};
+ghost use Rattle.ddl_grammar.specs.Grammar.{new_owner, constraint_body, constrained, own_change, table_change, table_changed, altered_table};
 
 use crate::columns::columns;
 use crate::rests::{foreign_rest, key_rest};
@@ -13,17 +14,17 @@ use ddl_pieces::{Parsed, Pieces, qualified_name, read};
 use std::alloc::Global;
 
 /// The new owner, and the place behind the semicolon.
-#[tactic(auto, unfolding(ddl_grammar::specs::Clauses::new_owner))]
+#[tactic(auto, unfolding(ddl_grammar::specs::Syntax::part, ddl_grammar::specs::LeafParts::leaf_part, ddl_grammar::specs::Grammar::new_owner))]
 pub fn new_owner(alloc: Global, pieces: &Pieces<'_>, at: usize) -> Parsed<Name>
-    ensures { GivesPart pieces.now (λ n. n) result (new_owner.read (drop at pieces.now)) }
+    ensures { GivesPart pieces.now (λ n. n) result ((part new_owner).read (drop at pieces.now)) }
 {
     read!(alloc, pieces, at; "owner" "to" role: .name; => role)
 }
 
 /// What a constraint says: its definition, from a place of the tokens on.
-#[tactic(auto, unfolding(ddl_grammar::specs::AlterGrammar::constraint_body, ddl_grammar::specs::AlterGrammar::check_body, ddl_grammar::specs::AlterGrammar::primary_body, ddl_grammar::specs::AlterGrammar::unique_body, ddl_grammar::specs::AlterGrammar::foreign_body))]
+#[tactic(auto, unfolding(ddl_grammar::specs::Syntax::part, ddl_grammar::specs::LeafParts::leaf_part, ddl_grammar::specs::Grammar::constraint_body))]
 pub fn constraint_body(alloc: Global, pieces: &Pieces<'_>, at: usize) -> Parsed<Constraint>
-    ensures { GivesPart pieces.now (λ c. c) result (constraint_body.read (drop at pieces.now)) }
+    ensures { GivesPart pieces.now (λ c. c) result ((part constraint_body).read (drop at pieces.now)) }
 {
     read!(alloc, pieces, at;
         if "check" { (text: .expression) => Constraint::Check(text) }
@@ -34,18 +35,18 @@ pub fn constraint_body(alloc: Global, pieces: &Pieces<'_>, at: usize) -> Parsed<
 }
 
 /// A change of the table alone, before which ONLY may stand.
-#[tactic(auto, unfolding(ddl_grammar::specs::AlterGrammar::own_change, ddl_grammar::specs::AlterGrammar::added, ddl_grammar::specs::AlterGrammar::new_default))]
+#[tactic(auto, unfolding(ddl_grammar::specs::Syntax::part, ddl_grammar::specs::LeafParts::leaf_part, ddl_grammar::specs::Grammar::own_change))]
 fn own_change(alloc: Global, pieces: &Pieces<'_>, at: usize) -> Parsed<TableChange>
-    ensures { GivesPart pieces.now (λ c. c) result (own_change.read (drop at pieces.now)) }
+    ensures { GivesPart pieces.now (λ c. c) result ((part own_change).read (drop at pieces.now)) }
 {
     read!(alloc, pieces, at;
         if "add" { "constraint" name: .name said: constraint_body; => TableChange::Added(name, said) }
         "alter" "column" column: .name "set" "default" text: .default_text; => TableChange::Default(column, text))
 }
 
-#[tactic(auto, unfolding(ddl_grammar::specs::AlterGrammar::table_change))]
+#[tactic(auto, unfolding(ddl_grammar::specs::Syntax::part, ddl_grammar::specs::LeafParts::leaf_part, ddl_grammar::specs::Grammar::table_change, ddl_grammar::specs::Grammar::new_owner))]
 fn table_change(alloc: Global, pieces: &Pieces<'_>, at: usize) -> Parsed<TableChange>
-    ensures { GivesPart pieces.now (λ c. c) result (table_change.read (drop at pieces.now)) }
+    ensures { GivesPart pieces.now (λ c. c) result ((part table_change).read (drop at pieces.now)) }
 {
     read!(alloc, pieces, at; if at "owner" { role: new_owner => TableChange::Owner(role) } -> own_change)
 }
@@ -93,14 +94,22 @@ fn changed(q: QName, change: TableChange) -> Stmt
     }
 }
 
-/// ALTER TABLE, behind these words.
-#[tactic(auto, unfolding(ddl_grammar::specs::AlterGrammar::altered_table, ddl_grammar::specs::AlterGrammar::only_value, ddl_grammar::specs::AlterGrammar::behind_only, ddl_grammar::specs::AlterGrammar::other_path, ddl_grammar::specs::AlterGrammar::other_value))]
-pub fn altered_table(alloc: Global, pieces: &Pieces<'_>, at: usize) -> Parsed<Stmt>
-    ensures { GivesPart pieces.now (λ s. s) result (altered_table.read (drop at pieces.now)) }
+/// A table and its change; or ONLY, a table and a change of it alone.
+#[tactic(auto, unfolding(ddl_grammar::specs::OnlyGrammar::only_value, ddl_grammar::specs::OnlyGrammar::other_path, ddl_grammar::specs::OnlyGrammar::other_value))]
+fn table_and_change(alloc: Global, pieces: &Pieces<'_>, at: usize) -> Parsed<(QName, TableChange)>
+    ensures { GivesPart pieces.now (λ x. (x.0, x.1)) result ((table_and (part own_change) (part table_change)).read (drop at pieces.now)) }
 {
     read!(alloc, pieces, at;
         if at "only" { schema: .name
-            if . { name: .name change: table_change => changed(QName { schema, name }, change) }
-            q: qualified_name change: own_change => changed(q, change) }
-        schema: .name . name: .name change: table_change => changed(QName { schema, name }, change))
+            if . { name: .name change: table_change => (QName { schema, name }, change) }
+            q: qualified_name change: own_change => (q, change) }
+        schema: .name . name: .name change: table_change => (QName { schema, name }, change))
+}
+
+/// ALTER TABLE, behind these words.
+pub fn altered_table(alloc: Global, pieces: &Pieces<'_>, at: usize) -> Parsed<Stmt>
+    ensures { GivesPart pieces.now (λ s. s) result ((part altered_table).read (drop at pieces.now)) }
+{
+    let ((q, change), end) = table_and_change(alloc, pieces, at)?;
+    Ok((changed(q, change), end))
 }

@@ -1,15 +1,14 @@
-//! Readers of CREATE SEQUENCE, behind these words.
+//! Readers of the clauses of CREATE SEQUENCE.
 ghost use Rattle.std.specs.Prelude.{◌≡◌, false, drop};
 ghost use Rattle.std.specs.Option.{unwrap_or};
 ghost use Rattle.ddl_grammar.specs.Lexemes.{starts};
 ghost use Rattle.ddl_grammar.specs.Pieces.{GivesPart};
-ghost use Rattle.ddl_grammar.specs.SequenceGrammar.{usual_bound, with_clause, clause_behind, begins_clause, sequence_clauses, bound_or, usual_start, sequence_of, create_sequence};
+ghost use Rattle.ddl_grammar.specs.SequenceGrammar.{usual_bound, with_clause, clause_behind, begins_clause, sequence_clauses, bound_or, usual_start, sequence_of, sequence};
 
-use cat_model::{QName, SequenceKind, Stmt};
+use cat_model::{Sequence, SequenceKind};
 use ddl_grammar::{Bound, Clause, Clauses};
-use ddl_pieces::{Parsed, Pieces, by_word, qualified_name, read, whole_number};
+use ddl_pieces::{Parsed, Pieces, by_word, read, whole_number};
 use ddl_spelling::{usual_max, usual_min};
-use std::alloc::Global;
 
 /// The clauses with one more.
 fn with_clause(mut clauses: Clauses, clause: Clause) -> Clauses
@@ -113,17 +112,16 @@ fn usual_start(step: i64, min: i64, max: i64) -> i64
     if step < 0 { max } else { min }
 }
 
-/// The statement with these clauses.
+/// The numbers that a sequence with these clauses gives out.
 #[tactic(auto, unfolding(ddl_grammar::specs::SequenceGrammar::sequence_of))]
-fn sequence_of(q: QName, clauses: Clauses) -> Stmt
-    ensures { result ≡ sequence_of q clauses }
+fn sequence_of(clauses: Clauses) -> Sequence
+    ensures { result ≡ sequence_of clauses }
 {
     let kind = clauses.kind.unwrap_or(SequenceKind::BigInt);
     let step = clauses.step.unwrap_or(1);
     let min = bound_or(usual_min(kind, step), clauses.least);
     let max = bound_or(usual_max(kind, step), clauses.greatest);
-    Stmt::CreateSequence {
-        q,
+    Sequence {
         kind,
         start: clauses.start.unwrap_or(usual_start(step, min, max)),
         step,
@@ -134,9 +132,10 @@ fn sequence_of(q: QName, clauses: Clauses) -> Stmt
     }
 }
 
-#[tactic(auto, unfolding(ddl_grammar::specs::SequenceGrammar::create_sequence))]
-pub(crate) fn create_sequence(alloc: Global, pieces: &Pieces<'_>, at: usize) -> Parsed<Stmt>
-    ensures { GivesPart pieces.now (λ s. s) result (create_sequence.read (drop at pieces.now)) }
+/// The clauses at a place, as numbers that a sequence gives out.
+#[tactic(auto, unfolding(ddl_grammar::specs::SequenceGrammar::sequence))]
+pub(crate) fn sequence(pieces: &Pieces<'_>, at: usize) -> Parsed<Sequence>
+    ensures { GivesPart pieces.now (λ s. s) result (sequence.read (drop at pieces.now)) }
 {
-    read!(alloc, pieces, at; q: qualified_name clauses: sequence_clauses[pieces, at]; => sequence_of(q, clauses))
+    read!(pieces, at; clauses: sequence_clauses => sequence_of(clauses))
 }

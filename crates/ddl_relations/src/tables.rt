@@ -6,7 +6,9 @@ ghost use Rattle.ddl_grammar.specs.Lists.{listed, listing};
 ghost use Rattle.ddl_grammar.specs.Leaves.{literal, is_literal};
 ghost use Rattle.ddl_grammar.specs.Pieces.{GivesPart};
 ghost use Rattle.ddl_grammar.specs.Clauses.{named_check};
-ghost use Rattle.ddl_grammar.specs.TableGrammar.{create_enum, attributes, checking, create_domain, element, element_begins, element_at, columns_of, checks_of, spot_behind, table_elements, create_table};
+ghost use Rattle.ddl_grammar.specs.TableGrammar.{attributes, checking, element, element_begins, element_at, columns_of, checks_of, spot_behind, table_elements};
+ghost use Rattle.ddl_grammar.specs.Syntax.{part};
+ghost use Rattle.ddl_grammar.specs.Grammar.{create_enum, create_domain, create_table};
 
 use cat_model::{CheckDef, ColumnDef, Items, Stmt};
 use copy_text::Text;
@@ -62,9 +64,9 @@ fn labels(alloc: Global, pieces: &Pieces<'_>, from: usize) -> Parsed<Vec<Text>>
 }
 
 /// CREATE TYPE of an enum, behind these words.
-#[tactic(auto, unfolding(ddl_grammar::specs::TableGrammar::create_enum))]
+#[tactic(auto, unfolding(ddl_grammar::specs::Syntax::part, ddl_grammar::specs::LeafParts::leaf_part, ddl_grammar::specs::Grammar::create_enum))]
 pub fn create_enum(alloc: Global, pieces: &Pieces<'_>, at: usize) -> Parsed<Stmt>
-    ensures { GivesPart pieces.now (λ s. s) result (create_enum.read (drop at pieces.now)) }
+    ensures { GivesPart pieces.now (λ s. s) result ((part create_enum).read (drop at pieces.now)) }
 {
     read!(alloc, pieces, at; q: qualified_name "as" "enum" (labels: labels);
         => Stmt::CreateEnum { q, labels: Items::new(labels) })
@@ -97,9 +99,9 @@ fn checks(alloc: Global, pieces: &Pieces<'_>, from: usize) -> Parsed<Vec<CheckDe
 }
 
 /// CREATE DOMAIN, behind these words.
-#[tactic(auto, unfolding(ddl_grammar::specs::TableGrammar::create_domain, ddl_grammar::specs::TableGrammar::typed))]
+#[tactic(auto, unfolding(ddl_grammar::specs::Syntax::part, ddl_grammar::specs::LeafParts::leaf_part, ddl_grammar::specs::Grammar::create_domain, ddl_grammar::specs::TableGrammar::domain_rest, ddl_grammar::specs::TableGrammar::typed))]
 pub fn create_domain(alloc: Global, pieces: &Pieces<'_>, at: usize) -> Parsed<Stmt>
-    ensures { GivesPart pieces.now (λ s. s) result (create_domain.read (drop at pieces.now)) }
+    ensures { GivesPart pieces.now (λ s. s) result ((part create_domain).read (drop at pieces.now)) }
 {
     read!(alloc, pieces, at;
         q: qualified_name "as" base: .type_name (default, not_null): attributes checks: checks;
@@ -184,9 +186,9 @@ fn table_elements(
 }
 
 /// CREATE TABLE, behind these words.
-#[tactic(auto, unfolding(ddl_grammar::specs::TableGrammar::create_table))]
+#[tactic(auto, unfolding(ddl_grammar::specs::Syntax::part, ddl_grammar::specs::LeafParts::leaf_part, ddl_grammar::specs::Grammar::create_table))]
 pub fn create_table(alloc: Global, pieces: &Pieces<'_>, at: usize) -> Parsed<Stmt>
-    ensures { GivesPart pieces.now (λ s. s) result (create_table.read (drop at pieces.now)) }
+    ensures { GivesPart pieces.now (λ s. s) result ((part create_table).read (drop at pieces.now)) }
 {
     read!(alloc, pieces, at; q: qualified_name ((columns, checks): table_elements);
         => Stmt::CreateTable { q, columns: Items::new(columns), checks: Items::new(checks) })

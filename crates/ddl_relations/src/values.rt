@@ -2,7 +2,9 @@
 ghost use Rattle.std.specs.Prelude.{◌≡◌, drop};
 ghost use Rattle.ddl_grammar.specs.Pieces.{GivesPart};
 ghost use Rattle.ddl_grammar.specs.Shortened.{path_in};
-ghost use Rattle.ddl_grammar.specs.ValueGrammar.{GivesPath, literal_path, truth, set_value};
+ghost use Rattle.ddl_grammar.specs.ValueGrammar.{GivesPath, literal_path, truth};
+ghost use Rattle.ddl_grammar.specs.Syntax.{part};
+ghost use Rattle.ddl_grammar.specs.Grammar.{set_value};
 
 use cat_model::{QName, Stmt};
 use ddl_pieces::{
@@ -47,9 +49,9 @@ fn truth(pieces: &Pieces<'_>, at: usize) -> Parsed<bool>
 }
 
 /// setval with its values, behind its name.
-#[tactic(auto, unfolding(ddl_grammar::specs::ValueGrammar::set_value))]
+#[tactic(auto, unfolding(ddl_grammar::specs::Syntax::part, ddl_grammar::specs::LeafParts::leaf_part, ddl_grammar::specs::Grammar::set_value))]
 pub fn set_value(alloc: Global, pieces: &Pieces<'_>, at: usize) -> Parsed<Stmt>
-    ensures { GivesPart pieces.now (λ s. s) result (set_value.read (drop at pieces.now)) }
+    ensures { GivesPart pieces.now (λ s. s) result ((part set_value).read (drop at pieces.now)) }
 {
     read!(alloc, pieces, at; (q: literal_path, value: whole_number[pieces, at], called: truth[pieces, at]);
         => Stmt::SetVal { q, value, called })

@@ -3,7 +3,7 @@
 use Rattle.std.specs.{Prelude.◌≡◌, Prelude.ℕ, Prelude.true, Prelude.List, Prelude.[], Prelude.◌∷◌, Prelude.◌++◌, List.list_all, Str.IsUtf8}
 use Rattle.sql_lex.specs.Bytes.{in_line}
 use Rattle.cat_model.specs.declared.stmt.Stmt.{Stmt}
-use Rattle.ddl_grammar.specs.{Spelling.spelling, Respelling.IsWritable}
+use Rattle.ddl_grammar.specs.{Respelling.spelling, Respelling.IsWritable}
 
 -- what may stand behind two dashes up to the end of their line
 abbrev pub IsShown : List ℕ → Type 0

@@ -11,7 +11,9 @@ pub mod CopyExamples
 pub mod RightsExamples
 pub mod Spellings
 pub mod Laying
-pub use Rattle.ddl_grammar.specs.AlterGrammar
+pub use Rattle.ddl_grammar.specs.OnlyGrammar
+pub use Rattle.ddl_grammar.specs.LeafParts
+pub use Rattle.ddl_grammar.specs.Syntax
 pub use Rattle.ddl_grammar.specs.Clauses
 pub use Rattle.ddl_grammar.specs.Collecting
 pub use Rattle.ddl_grammar.specs.Columns
@@ -34,7 +36,6 @@ pub use Rattle.ddl_grammar.specs.Rows
 pub use Rattle.ddl_grammar.specs.RowsText
 pub use Rattle.ddl_grammar.specs.SequenceGrammar
 pub use Rattle.ddl_grammar.specs.Shortened
-pub use Rattle.ddl_grammar.specs.Spelling
 pub use Rattle.ddl_grammar.specs.Types
 pub use Rattle.ddl_grammar.specs.Writable
 pub use Rattle.ddl_grammar.specs.declared.alters

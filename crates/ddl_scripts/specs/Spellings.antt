@@ -1,8 +1,7 @@
 -- The spellings of several statements joined, and what located statements say.
 use Rattle.std.specs.Prelude.{ℕ, List, [], ◌∷◌, ◌++◌, map}
 use Rattle.cat_model.specs.declared.stmt.Stmt.{Stmt}
-use Rattle.cat_model.specs.declared.stmt.Stmt.TheVariants as stmt
-use Rattle.ddl_grammar.specs.Spelling.{spelling}
+use Rattle.ddl_grammar.specs.Respelling.{spelling}
 use Rattle.ddl_scripts.specs.declared.located.Located.{Located}
 
 -- the spellings of statements, one after another

@@ -6,4 +6,3 @@ pub mod RowsText
 pub mod RightsText
 pub mod Roles
 pub mod Tables
-pub mod Spelling

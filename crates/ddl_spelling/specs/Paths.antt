@@ -16,6 +16,11 @@ unfoldable pub listed : List (List ℕ) → List ℕ
 listed [] = codes "()"
 listed (first ∷ more) = (codes "(" ++ written_name first) ++ flat_map (λ n. codes ", " ++ written_name n) more ++ codes ")"
 
+-- the same behind a space, where there are some
+abbrev pub some_listed : List (List ℕ) → List ℕ
+some_listed [] = []
+some_listed (first ∷ more) = codes " " ++ listed (first ∷ more)
+
 -- texts one after another
 abbrev pub joined : List (List ℕ) → List ℕ
 joined texts = flat_map (λ text. text) texts

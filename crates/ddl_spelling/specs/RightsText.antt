@@ -1,11 +1,10 @@
 -- The spelling of GRANT and REVOKE of rights, and of COMMENT.
 use Rattle.std.specs.{Prelude.ℕ, Prelude.Bool, Prelude.true, Prelude.false, Prelude.◌&&◌, Prelude.◌||◌, Prelude.not, Prelude.List, Prelude.[], Prelude.◌∷◌, Prelude.◌++◌, Prelude.Option, Prelude.Some, Prelude.None, Prelude.if◌then◌else◌, Prelude.codes, List.flat_map}
 use Rattle.sql_lex.specs.Written.{written_name, written_literal}
-use Rattle.cat_model.specs.{declared.grant.Rights.Rights, declared.grant.Granted.Granted, declared.grant.Commented.Commented, declared.grant.Grantee.Grantee}
+use Rattle.cat_model.specs.{declared.grant.Rights.Rights, declared.grant.Granted.Granted, declared.grant.Grantee.Grantee}
 use Rattle.cat_model.specs.declared.grant.Granted.TheVariants as on
-use Rattle.cat_model.specs.declared.grant.Commented.TheVariants as commented
 use Rattle.cat_model.specs.declared.grant.Grantee.TheVariants as grantee
-use Rattle.ddl_spelling.specs.Paths.{path, ending, joined, only_if}
+use Rattle.ddl_spelling.specs.Paths.{path, joined, only_if}
 
 -- ---- rights
 
@@ -61,33 +60,20 @@ abbrev pub grantee_text : Grantee → List ℕ
 grantee_text grantee.Public = codes "PUBLIC"
 grantee_text (grantee.Role name) = written_name name
 
+-- behind GRANT
 unfoldable pub grant_text : Granted → Rights → Grantee → Bool → List ℕ
 grant_text object rights who option = joined (
-    codes "GRANT " ∷ rights_text object rights ∷ (granted_words object ++ granted_name object) ∷ codes " TO " ∷ grantee_text who
-    ∷ only_if option (codes " WITH GRANT OPTION") ∷ ending ∷ [])
+    codes " " ∷ rights_text object rights ∷ (granted_words object ++ granted_name object) ∷ codes " TO " ∷ grantee_text who
+    ∷ only_if option (codes " WITH GRANT OPTION") ∷ codes ";" ∷ [])
 
+-- behind REVOKE
 unfoldable pub revoke_text : Granted → Rights → Grantee → List ℕ
 revoke_text object rights who = joined (
-    codes "REVOKE " ∷ rights_text object rights ∷ (granted_words object ++ granted_name object) ∷ codes " FROM " ∷ grantee_text who ∷ ending ∷ [])
+    codes " " ∷ rights_text object rights ∷ (granted_words object ++ granted_name object) ∷ codes " FROM " ∷ grantee_text who ∷ codes ";" ∷ [])
 
 -- ---- comments
 
+-- NULL, or a text
 abbrev pub remark_text : Option (List ℕ) → List ℕ
-remark_text None = codes " IS NULL"
-remark_text (Some text) = codes " IS " ++ written_literal text
-
-abbrev pub named_comment : List ℕ → List ℕ → Option (List ℕ) → List ℕ
-named_comment kind object text = joined (codes "COMMENT ON " ∷ kind ∷ object ∷ remark_text text ∷ ending ∷ [])
-
-unfoldable pub comment_text : Commented → Option (List ℕ) → List ℕ
-comment_text (commented.Schema name) text = named_comment (codes "SCHEMA ") (written_name name) text
-comment_text (commented.Type q) text = named_comment (codes "TYPE ") (path q) text
-comment_text (commented.Domain q) text = named_comment (codes "DOMAIN ") (path q) text
-comment_text (commented.Table q) text = named_comment (codes "TABLE ") (path q) text
-comment_text (commented.View q) text = named_comment (codes "VIEW ") (path q) text
-comment_text (commented.Sequence q) text = named_comment (codes "SEQUENCE ") (path q) text
-comment_text (commented.Index q) text = named_comment (codes "INDEX ") (path q) text
-comment_text (commented.Column q column) text =
-    joined (codes "COMMENT ON COLUMN " ∷ path q ∷ codes "." ∷ written_name column ∷ remark_text text ∷ ending ∷ [])
-comment_text (commented.Constraint q name) text =
-    joined (codes "COMMENT ON CONSTRAINT " ∷ written_name name ∷ codes " ON " ∷ path q ∷ remark_text text ∷ ending ∷ [])
+remark_text None = codes "NULL"
+remark_text (Some text) = written_literal text

@@ -2,10 +2,7 @@
 use Rattle.std.specs.{Prelude.ℕ, Prelude.ℤ, Prelude.Bool, Prelude.true, Prelude.false, Prelude.List, Prelude.[], Prelude.◌∷◌, Prelude.◌++◌, Prelude.Option, Prelude.Some, Prelude.None, Prelude.codes, Fmt.signed_decimal}
 use Rattle.sql_lex.specs.Written.{written_name, written_literal}
 use Rattle.cat_model.specs.{declared.table.RoleChanges.RoleChanges, declared.constraint.Encoding.Encoding, declared.constraint.Encoding.TheVariants.Utf8}
-use Rattle.ddl_spelling.specs.Paths.{ending, joined}
-
-unfoldable pub role_text : List ℕ → List ℕ
-role_text name = joined (codes "CREATE ROLE " ∷ written_name name ∷ ending ∷ [])
+use Rattle.ddl_spelling.specs.Paths.{joined}
 
 -- an attribute that is named: its word, or the word behind NO
 abbrev pub flag_text : List ℕ → Option Bool → List ℕ
@@ -25,13 +22,12 @@ abbrev pub given_name : List ℕ → Option (List ℕ) → List ℕ
 given_name words None = []
 given_name words (Some name) = words ++ written_name name
 
-unfoldable pub changes_text : List ℕ → RoleChanges → List ℕ
-changes_text name c = joined (
-    codes "ALTER ROLE " ∷ written_name name ∷ codes " WITH"
-    ∷ flag_text (codes "SUPERUSER") c.superuser ∷ flag_text (codes "INHERIT") c.inherit ∷ flag_text (codes "CREATEROLE") c.create_role
+unfoldable pub attributes_text : RoleChanges → List ℕ
+attributes_text c = joined (
+    flag_text (codes "SUPERUSER") c.superuser ∷ flag_text (codes "INHERIT") c.inherit ∷ flag_text (codes "CREATEROLE") c.create_role
     ∷ flag_text (codes "CREATEDB") c.create_db ∷ flag_text (codes "LOGIN") c.login ∷ flag_text (codes "REPLICATION") c.replication
     ∷ flag_text (codes "BYPASSRLS") c.bypass_rls ∷ limit_text c.limit
-    ∷ given_literal (codes " PASSWORD ") c.password ∷ given_literal (codes " VALID UNTIL ") c.valid_until ∷ ending ∷ [])
+    ∷ given_literal (codes " PASSWORD ") c.password ∷ given_literal (codes " VALID UNTIL ") c.valid_until ∷ [])
 
 -- ---- memberships
 
@@ -43,20 +39,17 @@ abbrev pub inherit_text : Option Bool → List ℕ
 inherit_text None = []
 inherit_text (Some b) = codes ", INHERIT " ++ truth b
 
+-- behind GRANT
 unfoldable pub member_text : List ℕ → List ℕ → Option (List ℕ) → Bool → Option Bool → Bool → List ℕ
 member_text role member grantor admin inherit may_set = joined (
-    codes "GRANT " ∷ written_name role ∷ codes " TO " ∷ written_name member ∷ codes " WITH ADMIN " ∷ truth admin ∷ inherit_text inherit
-    ∷ codes ", SET " ∷ truth may_set ∷ given_name (codes " GRANTED BY ") grantor ∷ ending ∷ [])
+    codes " " ∷ written_name role ∷ codes " TO " ∷ written_name member ∷ codes " WITH ADMIN " ∷ truth admin ∷ inherit_text inherit
+    ∷ codes ", SET " ∷ truth may_set ∷ given_name (codes " GRANTED BY ") grantor ∷ codes ";" ∷ [])
 
 -- ---- databases
 
 abbrev pub encoding_text : Option Encoding → List ℕ
 encoding_text None = []
 encoding_text (Some Utf8) = codes " ENCODING = 'UTF8'"
-
-unfoldable pub database_text : List ℕ → Option Encoding → List ℕ
-database_text name encoding =
-    joined (codes "CREATE DATABASE " ∷ written_name name ∷ codes " WITH TEMPLATE = template0" ∷ encoding_text encoding ∷ ending ∷ [])
 
 -- a line that begins with a backslash
 unfoldable pub connect_text : List ℕ → List ℕ

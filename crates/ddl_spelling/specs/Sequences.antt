@@ -1,8 +1,7 @@
--- The spelling of statements about sequences.
+-- The spelling of statements about sequences: their clauses.
 use Rattle.std.specs.{Prelude.ℕ, Prelude.ℤ, Prelude.pos, Prelude.negsuc, Prelude.Bool, Prelude.true, Prelude.false, Prelude.List, Prelude.[], Prelude.◌∷◌, Prelude.◌++◌, Prelude.if◌then◌else◌, Prelude.codes, Ordering.int_eq, Fmt.signed_decimal}
-use Rattle.sql_lex.specs.Written.{written_name, written_literal}
-use Rattle.cat_model.specs.{declared.object.QName.QName, declared.constraint.SequenceKind.SequenceKind, declared.constraint.SequenceKind.TheVariants.SmallInt, declared.constraint.SequenceKind.TheVariants.Integer, declared.constraint.SequenceKind.TheVariants.BigInt}
-use Rattle.ddl_spelling.specs.Paths.{path, ending, joined, only_if}
+use Rattle.cat_model.specs.{declared.value.Sequence.Sequence, declared.constraint.SequenceKind.SequenceKind, declared.constraint.SequenceKind.TheVariants.SmallInt, declared.constraint.SequenceKind.TheVariants.Integer, declared.constraint.SequenceKind.TheVariants.BigInt}
+use Rattle.ddl_spelling.specs.Paths.{joined, only_if}
 
 abbrev pub falls : ℤ → Bool
 falls (pos n) = false
@@ -45,22 +44,13 @@ min_text kind step n = bound (int_eq n (usual_min kind step)) (codes "\n    NO M
 abbrev pub max_text : SequenceKind → ℤ → ℤ → List ℕ
 max_text kind step n = bound (int_eq n (usual_max kind step)) (codes "\n    NO MAXVALUE") (codes "\n    MAXVALUE ") n
 
-unfoldable pub sequence_text : QName → SequenceKind → ℤ → ℤ → ℤ → ℤ → ℤ → Bool → List ℕ
-sequence_text q kind start step min max cache cycle = joined (
-    codes "CREATE SEQUENCE " ∷ path q ∷ type_words kind
-    ∷ codes "\n    START WITH " ∷ signed_decimal start ∷ codes "\n    INCREMENT BY " ∷ signed_decimal step
-    ∷ min_text kind step min ∷ max_text kind step max
-    ∷ codes "\n    CACHE " ∷ signed_decimal cache ∷ only_if cycle (codes "\n    CYCLE") ∷ ending ∷ [])
+-- a sequence's clauses, a line for each
+unfoldable pub clauses_text : Sequence → List ℕ
+clauses_text s = joined (
+    type_words s.kind ∷ codes "\n    START WITH " ∷ signed_decimal s.start ∷ codes "\n    INCREMENT BY " ∷ signed_decimal s.step
+    ∷ min_text s.kind s.step s.min ∷ max_text s.kind s.step s.max
+    ∷ codes "\n    CACHE " ∷ signed_decimal s.cache ∷ only_if s.cycle (codes "\n    CYCLE") ∷ [])
 
-unfoldable pub owned_by_text : QName → QName → List ℕ → List ℕ
-owned_by_text q table column =
-    joined (codes "ALTER SEQUENCE " ∷ path q ∷ codes " OWNED BY " ∷ path table ∷ codes "." ∷ written_name column ∷ ending ∷ [])
-
-abbrev pub called_words : Bool → List ℕ
-called_words true = codes ", true)"
-called_words false = codes ", false)"
-
--- the sequence's path stands in a literal
-unfoldable pub value_text : QName → ℤ → Bool → List ℕ
-value_text q n called =
-    joined (codes "SELECT pg_catalog.setval(" ∷ written_literal (path q) ∷ codes ", " ∷ signed_decimal n ∷ called_words called ∷ ending ∷ [])
+abbrev pub truth_word : Bool → List ℕ
+truth_word true = codes "true"
+truth_word false = codes "false"

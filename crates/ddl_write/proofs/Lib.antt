@@ -1,2 +1,3 @@
 pub mod CommaLemmas
 pub mod LineLemmas
+pub mod Spelled

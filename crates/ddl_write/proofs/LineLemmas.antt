@@ -3,7 +3,7 @@ use Rattle.std.proofs.Common.{◌≡◌, ℕ, ◌<◌, ◌-◌, ◌++◌, List, 
 use Rattle.std.proofs.{lemmas.List.Folds.flat_map-map, lemmas.Grind.flat_map-append, lemmas.List.take_all}
 use Rattle.std.specs.List.{flat_map}
 use Rattle.sql_lex.specs.Written.{written_name}
-use Rattle.ddl_spelling.specs.{Paths.listed, Tables.lines}
+use Rattle.ddl_spelling.specs.{Paths.listed, Tables.in_lines}
 
 -- all but the first item
 abbrev pub rest : {A : Type 0} → List A → List A
@@ -28,17 +28,15 @@ pub more_of : {A : Type 0} (f : A → List ℕ) (xs : List A) → flat_map (λ l
 more_of f xs = flat_map-map (λ line. codes ",\n    " ++ line) f xs
 
 abbrev pub lines_text : List ℕ → List ℕ → List ℕ
-lines_text first more = (codes "\n    " ++ first) ++ more ++ codes "\n"
+lines_text first more = (codes "\n    " ++ first) ++ more
 
-pub lines_at : {A : Type 0} (f : A → List ℕ) (xs : List A) (first : A) → 0 < length xs → first ≡ get_or xs 0 first → lines (map f xs) ≡ lines_text (f first) (more_lines f (rest xs))
-unfolding lines
+pub lines_at : {A : Type 0} (f : A → List ℕ) (xs : List A) (first : A) → 0 < length xs → first ≡ get_or xs 0 first → in_lines (map f xs) ≡ lines_text (f first) (more_lines f (rest xs))
 lines_at f [] first some is = absurd (omega arith)
 lines_at {A} f (x ∷ xs) first some is =
     ap (lines_text (f x)) (more_of f xs ∙ ap (more_lines f) (rest_of x xs)) ∙ ap (λ (y : A). lines_text (f y) (more_lines f (rest (x ∷ xs)))) (sym is)
 
 pub both_lines_at : {A B : Type 0} (f : A → List ℕ) (g : B → List ℕ) (xs : List A) (ys : List B) (first : A) → 0 < length xs → first ≡ get_or xs 0 first
-    → lines (map f xs ++ map g ys) ≡ lines_text (f first) (more_lines f (rest xs) ++ more_lines g ys)
-unfolding lines
+    → in_lines (map f xs ++ map g ys) ≡ lines_text (f first) (more_lines f (rest xs) ++ more_lines g ys)
 both_lines_at f g [] ys first some is = absurd (omega arith)
 both_lines_at {A} f g (x ∷ xs) ys first some is =
     ap (lines_text (f x)) (flat_map-append (λ (line : List ℕ). codes ",\n    " ++ line) (map f xs) (map g ys) ∙ ap (λ (l : List ℕ). l ++ flat_map (λ line. codes ",\n    " ++ line) (map g ys)) (more_of f xs)

@@ -8,7 +8,7 @@ use Rattle.cat_model.specs.declared.grant.Granted.TheVariants as on
 use Rattle.cat_model.specs.declared.grant.Grantee.TheVariants as grantee
 use Rattle.cat_model.specs.declared.grant.Commented.TheVariants as commented
 use Rattle.cat_model.specs.declared.stmt.Stmt.TheVariants as stmt
-use Rattle.ddl_spelling.specs.Spelling.{spelling}
+use Rattle.ddl_grammar.specs.Respelling.{spelling}
 
 abbrev pub public : List ℕ → QName
 public name = record { schema = codes "public"; name = name }

@@ -1,12 +1,16 @@
 pub mod Pieces
 pub mod Outcome
+pub mod Said
 pub mod Examples
+pub use Rattle.ddl_grammar.specs.Grammar
+pub use Rattle.ddl_grammar.specs.LeafParts
+pub use Rattle.ddl_grammar.specs.Respelling
+pub use Rattle.ddl_grammar.specs.Syntax
 pub use Rattle.ddl_spelling.specs.Keys
 pub use Rattle.ddl_spelling.specs.Paths
 pub use Rattle.ddl_spelling.specs.RightsText
 pub use Rattle.ddl_spelling.specs.Roles
 pub use Rattle.ddl_spelling.specs.RowsText
 pub use Rattle.ddl_spelling.specs.Sequences
-pub use Rattle.ddl_spelling.specs.Spelling
 pub use Rattle.ddl_spelling.specs.Tables
 pub use Rattle.ddl_spelling.specs.Views

@@ -1,10 +1,13 @@
 //! Statements of SQL, each written in one spelling.
 #![tactic(auto)]
 
-/// Appends pieces of a statement's text, each named by its kind, to the text that stands first.
+/// Appends pieces, each named by its kind: some of a text, or those that are the text of a statement.
 macro_rules! put {
     ($out:expr; $($kind:ident($($value:expr),*)),+) => {
         $crate::words::put_all(&[$($crate::words::Piece::$kind($($value),*)),+], $out)
+    };
+    ($stmt:expr, $out:expr; $($kind:ident($($value:expr),*)),+) => {
+        $crate::writing::put_said($stmt, &[$($crate::words::Piece::$kind($($value),*)),+], $out)
     };
 }
 

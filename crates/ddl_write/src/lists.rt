@@ -3,8 +3,8 @@ ghost use Rattle.std.specs.Prelude.{◌≡◌, ◌++◌, map, codes, OnOk};
 ghost use Rattle.std.specs.List.{flat_map};
 ghost use Rattle.sql_lex.specs.Written.{written_name, written_literal};
 ghost use Rattle.ddl_write.specs.Outcome.{Extends};
-ghost use Rattle.ddl_spelling.specs.Paths.{listed};
-ghost use Rattle.ddl_spelling.specs.Tables.{check_text, column_text, lines, table_lines};
+ghost use Rattle.ddl_spelling.specs.Paths.{listed, some_listed};
+ghost use Rattle.ddl_spelling.specs.Tables.{check_text, column_text, in_lines, table_lines};
 
 use crate::words::Written;
 use cat_model::{CheckDef, ColumnDef};
@@ -109,18 +109,30 @@ pub(crate) fn put_names(names: &[Name], out: &mut Vec<u8>) -> Written
     }
 }
 
+/// The same behind a space, where there are some.
+pub(crate) fn put_some_names(names: &[Name], out: &mut Vec<u8>) -> Written
+    ensures ok { OnOk result (out.new.items ≡ out.old.items ++ some_listed names.now) }
+    ensures kept { Extends out.old.items out.new.items }
+{
+    match names {
+        [] => Ok(()),
+        names => {
+            out.push(b' ')?;
+            put_names(names, out)
+        }
+    }
+}
+
 /// Items with commas, each in a line.
-#[tactic(auto, unfolding(ddl_spelling::specs::Tables::lines))]
 pub(crate) fn put_lines<T: Put>(items: &[T], out: &mut Vec<u8>) -> Written
-    ensures ok { OnOk result (out.new.items ≡ out.old.items ++ lines (map T.text items.now)) }
+    ensures ok { OnOk result (out.new.items ≡ out.old.items ++ in_lines (map T.text items.now)) }
     ensures kept { Extends out.old.items out.new.items }
 {
     match items {
-        [] => out.extend_from_slice(b"\n"),
+        [] => Ok(()),
         [first, more @ ..] => {
             put_item(b"\n    ", first, out)?;
             put_each(b",\n    ", more, out)?;
-            out.extend_from_slice(b"\n")?;
             Ok(())
         }
     }
@@ -128,7 +140,7 @@ pub(crate) fn put_lines<T: Put>(items: &[T], out: &mut Vec<u8>) -> Written
 
 /// The columns of a table and then its checks, each in a line.
 pub(crate) fn put_elements(columns: &[ColumnDef], checks: &[CheckDef], out: &mut Vec<u8>) -> Written
-    ensures ok { OnOk result (out.new.items ≡ out.old.items ++ lines (table_lines columns.now checks.now)) }
+    ensures ok { OnOk result (out.new.items ≡ out.old.items ++ in_lines (table_lines columns.now checks.now)) }
     ensures kept { Extends out.old.items out.new.items }
 {
     match columns {
@@ -137,7 +149,6 @@ pub(crate) fn put_elements(columns: &[ColumnDef], checks: &[CheckDef], out: &mut
             put_item(b"\n    ", first, out)?;
             put_each(b",\n    ", more, out)?;
             put_each(b",\n    ", checks, out)?;
-            out.extend_from_slice(b"\n")?;
             Ok(())
         }
     }

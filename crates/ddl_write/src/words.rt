@@ -9,10 +9,10 @@ ghost use Rattle.ddl_spelling.specs.Sequences.{bound, max_text, min_text};
 ghost use Rattle.ddl_write.specs.Pieces.{text_of};
 ghost use Rattle.ddl_write.specs.Outcome.{Extends};
 
-use crate::lists::{Put, put_check, put_each, put_lines, put_names};
+use crate::lists::{Put, put_check, put_each, put_lines, put_names, put_some_names};
 use crate::rights::put_rights;
 use crate::views::space_before;
-use cat_model::{CheckDef, Granted, Grantee, Owned, QName, Rights, SequenceKind, TypeName};
+use cat_model::{CheckDef, Encoding, Granted, Grantee, QName, Rights, SequenceKind, TypeName};
 use copy_text::{Name, Text};
 use ddl_spelling::{is_usual_max, is_usual_min};
 use itoa::Buffer;
@@ -41,6 +41,8 @@ pub(crate) enum Piece<'a> {
     GivenName(&'a [u8], &'a Option<Name>),
     /// Names with commas, in brackets.
     Names(&'a [Name]),
+    /// The same behind a space, where there are some.
+    SomeNames(&'a [Name]),
     /// A qualified name.
     Path(&'a QName),
     /// A qualified name in a literal.
@@ -61,8 +63,16 @@ pub(crate) enum Piece<'a> {
     Limit(Option<i64>),
     /// What a comment is.
     Remark(&'a Option<Text>),
-    /// What gets an owner.
-    Owned(&'a Owned),
+    /// Whether a sequence's value was given out.
+    Called(bool),
+    /// The type of a sequence, but for bigint.
+    Kind(SequenceKind),
+    /// Whether a membership has an option.
+    Truth(bool),
+    /// INHERIT of a membership, where it is named.
+    Inherit(Option<bool>),
+    /// The encoding of a database, where it is named.
+    Encoding(Option<Encoding>),
     /// Rights on an object.
     Rights(&'a Granted, Rights),
     /// What they are granted on.
@@ -173,7 +183,7 @@ fn put_max(kind: SequenceKind, step: &i64, number: &i64, out: &mut Vec<u8>) -> W
 impl<'a> Put for Piece<'a> {
     ghost text = { text_of };
 
-    #[tactic(auto, unfolding(ddl_spelling::specs::Tables::type_text, ddl_spelling::specs::Spelling::owned_object))]
+    #[tactic(auto, unfolding(ddl_spelling::specs::Tables::type_text))]
     fn put(&self, out: &mut Vec<u8>) -> Written {
         match *self {
             Piece::OnlyIf(false, _)
@@ -181,6 +191,9 @@ impl<'a> Put for Piece<'a> {
             | Piece::GivenLiteral(_, None)
             | Piece::Flag(_, None)
             | Piece::Limit(None)
+            | Piece::Kind(SequenceKind::BigInt)
+            | Piece::Inherit(None)
+            | Piece::Encoding(None)
             | Piece::Default(None) => Ok(()),
             Piece::Words(words) | Piece::OnlyIf(true, words) => out.extend_from_slice(words),
             Piece::Text(text) => out.extend_from_slice(text.as_bytes()),
@@ -189,6 +202,7 @@ impl<'a> Put for Piece<'a> {
             Piece::Name(name) => write_name(name.as_bytes(), out),
             Piece::GivenName(words, Some(name)) => put_named(words, name, out),
             Piece::Names(names) => put_names(names, out),
+            Piece::SomeNames(names) => put_some_names(names, out),
             Piece::Path(q) => put_path(b"", q, out),
             Piece::PathLiteral(q) => put_path_literal(q, out),
             Piece::Literal(words, text) => put_literal(words, text, out),
@@ -199,15 +213,17 @@ impl<'a> Put for Piece<'a> {
             Piece::Flag(word, Some(true)) => put_both(b" ", word, out),
             Piece::Flag(word, Some(false)) => put_both(b" NO", word, out),
             Piece::Limit(Some(limit)) => put_number(b" CONNECTION LIMIT ", limit, out),
-            Piece::Remark(None) => out.extend_from_slice(b" IS NULL"),
-            Piece::Remark(Some(text)) => put_literal(b" IS ", text, out),
-            Piece::Owned(Owned::Schema(name)) => put_named(b"SCHEMA ", name, out),
-            Piece::Owned(Owned::Type(q)) => put_path(b"TYPE ", q, out),
-            Piece::Owned(Owned::Domain(q)) => put_path(b"DOMAIN ", q, out),
-            Piece::Owned(Owned::Table(q)) => put_path(b"TABLE ", q, out),
-            Piece::Owned(Owned::Sequence(q)) => put_path(b"SEQUENCE ", q, out),
-            Piece::Owned(Owned::View(q)) => put_path(b"VIEW ", q, out),
-            Piece::Owned(Owned::Database(name)) => put_named(b"DATABASE ", name, out),
+            Piece::Remark(None) => out.extend_from_slice(b"NULL"),
+            Piece::Remark(Some(text)) => put_literal(b"", text, out),
+            Piece::Called(true) => out.extend_from_slice(b"true"),
+            Piece::Called(false) => out.extend_from_slice(b"false"),
+            Piece::Kind(SequenceKind::SmallInt) => out.extend_from_slice(b"\n    AS smallint"),
+            Piece::Kind(SequenceKind::Integer) => out.extend_from_slice(b"\n    AS integer"),
+            Piece::Truth(true) => out.extend_from_slice(b"TRUE"),
+            Piece::Truth(false) => out.extend_from_slice(b"FALSE"),
+            Piece::Inherit(Some(true)) => out.extend_from_slice(b", INHERIT TRUE"),
+            Piece::Inherit(Some(false)) => out.extend_from_slice(b", INHERIT FALSE"),
+            Piece::Encoding(Some(Encoding::Utf8)) => out.extend_from_slice(b" ENCODING = 'UTF8'"),
             Piece::Rights(object, rights) => put_rights(object, rights, out),
             Piece::On(Granted::Table(q)) => put_path(b" ON TABLE ", q, out),
             Piece::On(Granted::Sequence(q)) => put_path(b" ON SEQUENCE ", q, out),

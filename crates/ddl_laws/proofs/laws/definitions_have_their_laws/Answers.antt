@@ -1,4 +1,4 @@
-use Rattle.ddl_laws.proofs.GrammarLaws.{constraint_body_laws, index_body_laws}
+use Rattle.ddl_syntax_laws.proofs.Commands.{constraint_body_laws, index_body_laws}
 use Rattle.ddl_laws.proofs.laws.definitions_have_their_laws.Goals as goal
 
 pub returns : goal.returns

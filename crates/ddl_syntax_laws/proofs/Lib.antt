@@ -1,0 +1,11 @@
+pub mod LeafLaws
+pub mod LeafReading
+pub mod OnlyLaws
+pub mod Lawfully
+pub mod Commands
+pub mod Owing
+pub mod Shapes
+pub mod LeafFacts
+pub mod Said
+pub mod Whole
+pub use Rattle.ddl_grammar.proofs.Spelled
