@@ -1,1 +1,2 @@
 pub mod SameSets
+pub use Rattle.ddl_read.proofs.Computing

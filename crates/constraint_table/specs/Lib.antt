@@ -3,10 +3,5 @@ pub mod Keys
 pub mod KeySets
 pub mod Table
 pub use Rattle.text_tables.specs.Sequences
-pub use Rattle.ddl_read.specs.AlterGrammar
-pub use Rattle.ddl_read.specs.Clauses
-pub use Rattle.ddl_read.specs.Columns
-pub use Rattle.ddl_read.specs.Grammar
 pub use Rattle.ddl_read.specs.Reading
-pub use Rattle.ddl_read.specs.Rests
 pub use Rattle.text_tables.specs.Comments

@@ -16,7 +16,7 @@ use Rattle.cat_model.specs.Grants.{rights_less, has_rights}
 use Rattle.cat_model.specs.Values.{Bytes}
 use Rattle.cat_names.specs.declared.rights.GrantKind.{GrantKind}
 use Rattle.cat_names.specs.Rights.{is_empty_list}
-use Rattle.ddl_write.specs.Spelling.{spelling}
+use Rattle.ddl_write.specs.Respelling.{spelling}
 use Rattle.dump_grants.specs.Held.{all_rights, public_rights, is_plain}
 use Rattle.dump_grants.specs.Holders.{owner_item, public_item, role_items}
 

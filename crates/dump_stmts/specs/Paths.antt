@@ -4,7 +4,7 @@ use Rattle.std.specs.Str.{bytes_eq}
 use Rattle.cat_model.specs.declared.object.QName.{QName}
 use Rattle.cat_model.specs.declared.stmt.Stmt.{Stmt}
 use Rattle.cat_model.specs.Values.{Bytes}
-use Rattle.ddl_write.specs.Spelling.{spelling}
+use Rattle.ddl_write.specs.Respelling.{spelling}
 use Rattle.graph_parts.specs.declared.object.Obj.{Obj}
 
 abbrev pub joined : Option Bytes → Option Bytes → Option QName

@@ -1,7 +1,7 @@
 //! Sequences, their values and their owners.
 ghost use Rattle.std.specs.Prelude.{◌≡◌, Some, option_map, IfOk};
 ghost use Rattle.std.specs.Option.{option_and_then};
-ghost use Rattle.ddl_write.specs.Spelling.{spelling};
+ghost use Rattle.ddl_write.specs.Respelling.{spelling};
 ghost use Rattle.dump_stmts.specs.Paths.{written};
 ghost use Rattle.dump_stmts.specs.Sequences.{of_kind, sequence_stmt, value_stmt, owned_in, owned_stmt};
 

@@ -7,7 +7,8 @@ use Rattle.copy_text.specs.Texts.{is_name}
 use Rattle.cat_model.specs.declared.object.QName.{QName}
 use Rattle.cat_model.specs.declared.grant.Owned.{Owned}
 use Rattle.cat_model.specs.declared.grant.Owned.TheVariants as owned
-use Rattle.ddl_write.specs.Spelling.{owner_text}
+use Rattle.cat_model.specs.declared.stmt.Stmt.TheVariants as stmt
+use Rattle.ddl_write.specs.Respelling.{spelling}
 use Rattle.toc_entry.specs.declared.entry.Entry.{Entry}
 use Rattle.fmt_text.specs.declared.owner.OwnedKind.{OwnedKind}
 use Rattle.fmt_text.specs.declared.owner.OwnedKind.TheVariants as kinds
@@ -54,7 +55,7 @@ owned_object e = object_of e (kind_of e.desc)
 -- ---- its text
 
 abbrev pub given : Option Owned → Option (List ℕ) → List ℕ
-given (Some object) (Some role) = owner_text object role ++ codes "\n"
+given (Some object) (Some role) = spelling (stmt.OwnerTo object role) ++ codes "\n"
 given object role = []
 
 -- the owner statement of an entry and an empty line, in a script with owners

@@ -2,7 +2,8 @@
 ghost use Rattle.std.specs.Prelude.{◌≡◌, ◌++◌, OnOk, IfOk, Some, option_and_then};
 ghost use Rattle.std.specs.Option.{option_copied};
 ghost use Rattle.copy_text.specs.Rows.{Extends};
-ghost use Rattle.ddl_write.specs.Spelling.{owner_text};
+ghost use Rattle.cat_model.specs.declared.stmt.Stmt.TheVariants.{OwnerTo};
+ghost use Rattle.ddl_write.specs.Respelling.{spelling};
 ghost use Rattle.fmt_text.specs.Owners.{kind_of, name_in, path_of, object_of, owned_object, owner_part};
 
 use cat_model::{Owned, QName, Stmt};
@@ -111,9 +112,8 @@ pub fn owned_object(alloc: Global, entry: &Entry) -> Result<Option<Owned>, Alloc
 }
 
 /// Appends the statement that gives an object to a role.
-#[tactic(auto, unfolding(ddl_spelling::specs::Spelling::spelling))]
 fn put_owner_to(object: Owned, role: Name, out: &mut Vec<u8>) -> Result<(), AllocError>
-    ensures ok { OnOk result (out.new.items ≡ out.old.items ++ owner_text object role) }
+    ensures ok { OnOk result (out.new.items ≡ out.old.items ++ spelling (OwnerTo object role)) }
     ensures kept { Extends out.old.items out.new.items }
 {
     let statement = Stmt::OwnerTo { object, role };

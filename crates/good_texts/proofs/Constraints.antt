@@ -20,36 +20,35 @@ use Rattle.cat_sound.specs.Itself.{check_of, IsConstraint, IsOfKind}
 use Rattle.cat_model.specs.Values.{Bytes}
 use Rattle.ddl_laws.specs.Collecting.{Collected, collected, collected_within, collected_by}
 use Rattle.ddl_laws.specs.Expressions.{nested}
-use Rattle.ddl_laws.specs.Lexemes.{Lexeme, start_of, is_word}
-use Rattle.ddl_laws.specs.Parts.{Part, mark, seen, branch, one_of, ◌▸◌}
+use Rattle.ddl_laws.specs.Lexemes.{Lexeme, start_of}
 use Rattle.ddl_laws.specs.Pieces.{lexemes}
 use Rattle.ddl_laws.specs.pieces.Piece.{Piece}
 use Rattle.ddl_laws.specs.Texts.{semicolon}
-use Rattle.ddl_laws.proofs.Closing.{ends_with, only_last}
-use Rattle.ddl_laws.proofs.Expressions.{expression_as}
-use Rattle.ddl_laws.proofs.Putting.{IsPut, nothing_follows, joined-append}
-use Rattle.ddl_laws.proofs.Standing.{Stood, placed}
-use Rattle.ddl_laws.proofs.Tokens.{none, space, newline}
-use Rattle.ddl_laws.proofs.Written.{Written, heard_as, is_key, name_as, path_as, then_as, lead_as, close_as, word_as, word_then, choose_as, seen_as, ending_as}
 use Rattle.ddl_laws.specs.alters.Constraint.{Constraint}
 use Rattle.ddl_laws.specs.alters.Constraint.TheVariants.{Check, Primary, Unique, Foreign as ForeignKey}
-use Rattle.ddl_laws.specs.alters.TableChange.TheVariants.{Added}
-use Rattle.ddl_laws.proofs.GrammarLaws.{deferral_laws, reactions_laws}
+use Rattle.ddl_laws.specs.alters.TableChange.{TableChange}
+use Rattle.ddl_laws.specs.alters.TableChange.TheVariants.{Added, Owner}
 use Rattle.ddl_laws.specs.fault.DdlFault.{DdlFault}
-use Rattle.ddl_laws.specs.AlterGrammar.{added, added_of, own_change, behind_only, key_word, only_changed, altered_table, constrained}
-use Rattle.ddl_laws.specs.Grammar.{altered, command, statement, owned_name, owned_path, altered_domain, created, selected, setting}
-use Rattle.ddl_laws.specs.RelationGrammar.{altered_sequence}
-use Rattle.ddl_laws.specs.CopyGrammar.{copy_from}
-use Rattle.ddl_laws.specs.Grants.{granted, revoked}
-use Rattle.ddl_laws.specs.Comments.{comment_on}
-use Rattle.ddl_laws.specs.Roles.{alter_role}
-use Rattle.cat_model.specs.declared.grant.Owned.TheVariants as owned
+use Rattle.ddl_laws.specs.LeafParts.{leaf_has, name}
+use Rattle.ddl_laws.specs.Syntax.{none, blank, feed, Syntax, leaf, led, both, seen, ended, either, tabled, part, has, Fits, pieces}
+use Rattle.ddl_laws.specs.Grammar.{constraint_body, own_change, table_change, constrained, table_changed, change_of, altered_table, altered, command, statement}
 use Rattle.ddl_laws.specs.Reading.{Whole, whole, completed, first_start, listed}
 use Rattle.ddl_laws.specs.Paths.{path, joined, listed as names_listed}
 use Rattle.ddl_laws.specs.Keys.{rest_text}
 use Rattle.ddl_laws.specs.Readings.{IsStatement, Reads, all_read, one_read}
-use Rattle.ddl_laws.proofs.ReadingLaws.{collected_first, only, statement_closes}
-use Rattle.ddl_laws.proofs.Relations.{constraint_body_as, only_name_as, columns_as, key_rest_as, foreign_rest_as}
+use Rattle.ddl_laws.proofs.Closing.{ends_with, only_last}
+use Rattle.ddl_laws.proofs.Putting.{IsPut, put_as, same_text, nothing_follows, joined-append}
+use Rattle.ddl_laws.proofs.Spelled.{by_syntax}
+use Rattle.ddl_laws.proofs.Standing.{Stood, placed}
+use Rattle.ddl_laws.proofs.Tokens.{none as no_gap, is_single}
+use Rattle.ddl_laws.proofs.Written.{is_key}
+use Rattle.ddl_laws.proofs.ReadingLaws.{collected_first, only}
+use Rattle.ddl_laws.proofs.LeafFacts.{leaf_as, leaf_sound, leaf_shape}
+use Rattle.ddl_laws.proofs.LeafLaws.{deferral_laws, reactions_laws}
+use Rattle.ddl_laws.proofs.Owing.{Owes, Apart, LeafApart}
+use Rattle.ddl_laws.proofs.Said.{shape, sound, said}
+use Rattle.ddl_laws.proofs.Shapes.{begins_with}
+use Rattle.ddl_laws.proofs.Whole.{table_back, constraint_owes, statement_closes}
 use Rattle.cat_naming.specs.Constraints.{constraint_value}
 use Rattle.std.specs.Option.{option_and_then}
 use Rattle.constraint_table.specs.Said.{statement_text, only_statement, statement_said}
@@ -60,44 +59,34 @@ use Rattle.good_texts.proofs.Wholes.{are_collected, ends_well}
 
 -- ---- the statement around a constraint's text
 
-abbrev unwritten : {A : Type 0} → {p : Part A} → Written p
-unwritten = heard_as (λ v. Unit {0}) (λ v ts r came spells. tt)
+-- the change of the table alone with spaces as they are there: ADD stands in the same line, and the semicolon in the next
+abbrev others_of : {A : Type 0} → Syntax A → Syntax A
+others_of (either gap w s t) = t
+others_of s = s
 
-unfoldable added_as : Written added
-unfolding added is_key constraint_body_as
-added_as = seen_as added_of (word_then (codes "CONSTRAINT") refl (then_as (name_as space) (close_as constraint_body_as.written (ending_as newline) refl) refl) refl)
+unfoldable own_there : Syntax TableChange
+own_there = either blank (codes "ADD") (seen (λ x. Added x.0 x.1) (elim [ Added n c ↦ Some (n, c) | _ ↦ None ]) (led blank (codes "CONSTRAINT") (both (leaf blank name) (ended constraint_body feed 59)))) (others_of own_change)
 
-unfoldable own_as : Written own_change
-unfolding own_change is_key added_as
-own_as = choose_as (lead_as (word_as space (codes "ADD") refl) added_as refl) unwritten
+unfoldable there : Syntax Stmt
+there = led none (codes "ALTER") (led blank (codes "TABLE") (seen (λ x. table_changed x.0 x.1) change_of (tabled own_there table_change)))
 
-unfoldable behind_as : Written behind_only
-unfolding behind_only own_as
-behind_as = choose_as unwritten (seen_as (λ x. key_word x.0 x.1) (then_as (path_as space) own_as refl))
+there_sound : sound there ≡ true
+unfolding there own_there own_change table_change constraint_body sound shape begins_with leaf_sound leaf_shape leaf_as is_single is_key
+there_sound = refl
 
-unfoldable table_as : Written altered_table
-unfolding altered_table behind_as
-table_as = choose_as (seen_as (λ x. only_changed x.0 x.1) (then_as only_name_as behind_as refl)) unwritten
+there_fits_own : (c : TableChange) → has own_there c ≡ true → Fits table_change c → Fits own_there c
+unfolding own_there own_change table_change has Fits
+there_fits_own (Owner role) e fit = absurd cc
+there_fits_own c e fit = fit
 
-unfoldable altered_as : Written altered
-unfolding altered is_key table_as
-altered_as =
-    let schema : Written (branch (owned_name (codes "schema") owned.Schema)) = unwritten in
-    let types : Written (branch (owned_path (codes "type") owned.Type)) = unwritten in
-    let domain : Written (is_word (codes "domain") ▸ altered_domain) = unwritten in
-    let others : Written (one_of (record { key = codes "sequence"; part = altered_sequence }) (owned_path (codes "view") owned.View ∷ owned_name (codes "database") owned.Database ∷ record { key = codes "role"; part = alter_role } ∷ [])) = unwritten in
-    choose_as schema (choose_as types (choose_as domain (choose_as (word_then (codes "TABLE") refl table_as refl) others)))
+there_owes : Owes there
+unfolding there own_there own_change table_change has leaf_has Owes Apart LeafApart
+there_owes = search (arith, table_back, there_fits_own, constraint_owes)
 
-unfoldable command_as : Written command
-unfolding command is_key altered_as
-command_as =
-    let create : Written (is_word (codes "create") ▸ created) = unwritten in
-    let others : Written (one_of (record { key = codes "select"; part = selected }) (record { key = codes "set"; part = setting } ∷ record { key = codes "copy"; part = copy_from } ∷ record { key = codes "grant"; part = granted } ∷ record { key = codes "revoke"; part = revoked } ∷ record { key = codes "comment"; part = comment_on } ∷ [])) = unwritten in
-    choose_as create (choose_as (lead_as (word_as none (codes "ALTER") refl) altered_as refl) others)
-
-unfoldable statement_as : Written statement
-unfolding statement command_as
-statement_as = choose_as {p = seen (λ x. None) (mark semicolon)} unwritten (seen_as Some command_as)
+-- what is spelled so is a statement
+there_spells : (s : Stmt) (ts : List Lexeme) → (part there).Spells s ts → statement.Spells (Some s) ts
+unfolding there own_there own_change part statement command altered altered_table
+there_spells s ts h = inr (s, refl, inr (inl (h.0, h.1, (h.2.0, h.2.1, h.2.2, h.2.3, inr (inr (inr (inl h.2.4)))))))
 
 -- ---- what a text in tokens that spell a statement reads as
 
@@ -119,9 +108,7 @@ added_to c = constrained some_table (codes "a") c
 
 is_whole : (c : Constraint) (text : Bytes) (end : ℕ) → completed text end (Some (added_to c)) ≡ Ok (whole (Some (added_to c)) end)
 is_whole (Check v) text end = refl
-is_whole (Primary columns rest) text end = refl
-is_whole (Unique columns rest) text end = refl
-is_whole (ForeignKey columns parent parents rest) text end = refl
+is_whole c text end = refl
 
 abbrev ends_at : Stmt → ℕ → Result Whole DdlFault
 ends_at s n = Ok (whole (Some s) n)
@@ -158,23 +145,27 @@ path_written : path some_table ≡ codes "a.a"
 unfolding path
 path_written = ap (λ (x : Bytes). x ++ (46 ∷ x)) a_written
 
-fit_said : (c : Constraint) (fit : constraint_body_as.written.Fit c) (text : Bytes) → joined (constraint_body_as.written.pieces c fit) ≡ 32 ∷ text → statement_said text ≡ Some (added_to c)
-unfolding statement_as command_as altered_as table_as behind_as own_as added_as
+there_fits : (c : Constraint) → Fits constraint_body c → Fits there (added_to c)
+unfolding there own_there by_syntax
+there_fits (Check text) fit = (((a_named, a_named), ((a_named, fit), refl)), refl)
+there_fits c fit = (((a_named, a_named), ((a_named, fit), refl)), refl)
+
+there_text : (c : Constraint) → joined (pieces [] there (added_to c)) ≡ codes "ALTER TABLE ONLY " ++ (path some_table ++ (codes " ADD CONSTRAINT " ++ (written_name (codes "a") ++ joined (pieces [] constraint_body c ++ (codes "\n" ∷ codes ";" ∷ [])))))
+unfolding there own_there by_syntax
+there_text (Check text) = refl
+there_text c = refl
+
+fit_said : (c : Constraint) → Fits constraint_body c → (text : Bytes) → joined (pieces [] constraint_body c) ≡ 32 ∷ text → statement_said text ≡ Some (added_to c)
 fit_said c fit text is =
     let s = added_to c in
-    let x = Added (codes "a") c in
-    let own = inl (((codes "a", c), (a_named, fit), refl)) in
-    let behind = inr ((some_table, x), ((a_named, a_named), own), refl) in
-    let table = inl ((codes "only", key_word some_table x), (refl, behind), refl) in
-    let k : IsPut statement (Some s) (joined (statement_as.pieces (Some s) (inr (s, inr (inl (inr (inr (inr (inl table))))), refl)))) [] = statement_as.put (Some s) (inr (s, inr (inl (inr (inr (inr (inl table))))), refl)) [] nothing_follows (ends_well statement_as.after) in
-    put_said c text (subst (λ (t : Bytes). IsPut statement (Some s) t []) (bytes c fit text is) k)
+    let k = (said no_gap there there_sound there_owes).put s (there_fits c fit) [] nothing_follows (ends_well (shape there).after) in
+    put_said c text (put_as (part there) statement s (Some s) (statement_text text) [] (same_text (joined (pieces [] there s)) (statement_text text) (there_text c ∙ bytes) k) (there_spells s))
   where
-    bytes : (c : Constraint) (fit : constraint_body_as.written.Fit c) (text : Bytes) → joined (constraint_body_as.written.pieces c fit) ≡ 32 ∷ text
-        → codes "ALTER TABLE ONLY " ++ (path some_table ++ (codes " ADD CONSTRAINT " ++ (written_name (codes "a") ++ joined (constraint_body_as.written.pieces c fit ++ ((10 ∷ 59 ∷ []) ∷ []))))) ≡ statement_text text
-    bytes c fit text is =
-        ap (λ (p : Bytes). codes "ALTER TABLE ONLY " ++ (p ++ (codes " ADD CONSTRAINT " ++ (written_name (codes "a") ++ joined (constraint_body_as.written.pieces c fit ++ ((10 ∷ 59 ∷ []) ∷ [])))))) path_written
-        ∙ ap (λ (p : Bytes). codes "ALTER TABLE ONLY a.a ADD CONSTRAINT " ++ (p ++ joined (constraint_body_as.written.pieces c fit ++ ((10 ∷ 59 ∷ []) ∷ [])))) a_written
-        ∙ ap (λ (p : Bytes). codes "ALTER TABLE ONLY a.a ADD CONSTRAINT a" ++ p) (joined-append (constraint_body_as.written.pieces c fit) ((10 ∷ 59 ∷ []) ∷ []) ∙ ap (λ (p : Bytes). p ++ 10 ∷ 59 ∷ []) is)
+    last : List Bytes
+    last = codes "\n" ∷ codes ";" ∷ []
+
+    bytes : codes "ALTER TABLE ONLY " ++ (path some_table ++ (codes " ADD CONSTRAINT " ++ (written_name (codes "a") ++ joined (pieces [] constraint_body c ++ last)))) ≡ statement_text text
+    bytes = rw (path_written, a_written, joined-append (pieces [] constraint_body c) last, is) refl
 
 -- ---- each kind
 
@@ -182,29 +173,29 @@ key_bytes : (words : Bytes) (columns : List Bytes) (rest : Bytes) → words ++ (
 key_bytes words columns rest = ap (λ (x : Bytes). words ++ (names_listed columns ++ x)) (append-nil (rest_text rest))
 
 pub primaries_read : (columns : List Bytes) (rest : Bytes) → grammar.constraint (record { kind = kinds.Primary; columns = columns; parent = None; text = rest }) ≡ true → statement_said (key_said (codes "PRIMARY KEY ") columns rest) ≡ Some (stmt.AddPrimary some_table (codes "a") columns rest)
-unfolding constraint_body_as columns_as key_rest_as
+unfolding by_syntax
 primaries_read columns rest e =
     let a = and_parts _ _ e in
-    fit_said (Primary columns rest) (inr (inl ((columns, rest), (columns_from columns a.0, rest_from deferral_laws rest a.1), refl))) (key_said (codes "PRIMARY KEY ") columns rest) (key_bytes (codes " PRIMARY KEY ") columns rest)
+    fit_said (Primary columns rest) ((columns_from columns a.0, rest_from deferral_laws rest a.1), refl) (key_said (codes "PRIMARY KEY ") columns rest) (key_bytes (codes " PRIMARY KEY ") columns rest)
 
 pub uniques_read : (columns : List Bytes) (rest : Bytes) → grammar.constraint (record { kind = kinds.Unique; columns = columns; parent = None; text = rest }) ≡ true → statement_said (key_said (codes "UNIQUE ") columns rest) ≡ Some (stmt.AddUnique some_table (codes "a") columns rest)
-unfolding constraint_body_as columns_as key_rest_as
+unfolding by_syntax
 uniques_read columns rest e =
     let a = and_parts _ _ e in
-    fit_said (Unique columns rest) (inr (inr (inl ((columns, rest), (columns_from columns a.0, rest_from deferral_laws rest a.1), refl)))) (key_said (codes "UNIQUE ") columns rest) (key_bytes (codes " UNIQUE ") columns rest)
+    fit_said (Unique columns rest) ((columns_from columns a.0, rest_from deferral_laws rest a.1), refl) (key_said (codes "UNIQUE ") columns rest) (key_bytes (codes " UNIQUE ") columns rest)
 
 pub foreign_keys_read : (columns : List Bytes) (parent : QName) (parents : List Bytes) (rest : Bytes) → grammar.constraint (record { kind = kinds.Foreign; columns = columns; parent = Some (parent, parents); text = rest }) ≡ true → statement_said (foreign_said columns parent parents rest) ≡ Some (stmt.AddForeign some_table (codes "a") columns parent parents rest)
-unfolding constraint_body_as columns_as foreign_rest_as
+unfolding by_syntax
 foreign_keys_read columns parent parents rest e =
     let a = and_parts _ _ e in
     let b = and_parts _ _ a.1 in
     let c = and_parts _ _ b.0 in
-    fit_said (ForeignKey columns parent parents rest) (inr (inr (inr ((columns, (parent, (parents, rest))), (columns_from columns a.0, (path_from parent c.0, (columns_from parents c.1, rest_from reactions_laws rest b.1))), refl)))) (foreign_said columns parent parents rest)
+    fit_said (ForeignKey columns parent parents rest) ((columns_from columns a.0, (path_from parent c.0, (columns_from parents c.1, rest_from reactions_laws rest b.1))), refl) (foreign_said columns parent parents rest)
     (ap (λ (x : Bytes). codes " FOREIGN KEY " ++ (names_listed columns ++ (codes " REFERENCES " ++ (path parent ++ (names_listed parents ++ x))))) (append-nil (rest_text rest)))
 
 pub checks_read : (v : Bytes) → grammar.constraint (check_of v) ≡ true → statement_said (check_said v) ≡ Some (stmt.AddCheck some_table (codes "a") v)
-unfolding constraint_body_as expression_as
-checks_read v e = fit_said (Check v) (inl (v, run_from (nested false false) v e, refl)) (check_said v) refl
+unfolding by_syntax
+checks_read v e = fit_said (Check v) (run_from (nested false false) v e, refl) (check_said v) refl
 
 -- ---- all of them
 

@@ -24,6 +24,7 @@ use Rattle.dump_grants.specs.Holders.{gives, is_name, is_of_role, is_of_public, 
 use Rattle.dump_grants.specs.Stmts.{granting, item_stmts, owner_stmts, lacking, public_stmts, role_stmts, all_stmts, are_default, grant_stmts}
 use Rattle.grant_laws.specs.Items.{kind_on, IsRoleName, IsItem}
 use Rattle.grant_laws.proofs.Held.{Allowed, AllowedItem, item_allowed, no_item_allowed, less_allowed, all_within}
+use Rattle.ddl_grammar.proofs.Spelled.{by_syntax}
 use Rattle.stmt_laws.proofs.Lists.{Known, chosen_have, ordered_have}
 
 -- ---- statements
@@ -39,6 +40,7 @@ kind_within (granted.Schema n) r is = all_within (kind_on (granted.Schema n)) r 
 kind_within (granted.Type q) r is = all_within (kind_on (granted.Type q)) r is
 
 granting_can : (what : Granted) → IsObject what → (r : Rights) → Allowed (kind_on what) r → (who : Grantee) → IsGrantee who → (option : Bool) → AllWritable (granting what r who option)
+unfolding by_syntax
 granting_can what is r allowed who to option = elim (cases_Bool (has_rights r)) [ inl some ↦ rw some ((is, (some, kind_within what r allowed), to), tt) | inr none ↦ rw none tt ]
 
 item_can : (what : Granted) → IsObject what → (who : Grantee) → IsGrantee who → (item : Item) → AllowedItem (kind_on what) item → AllWritable (item_stmts what who item)
@@ -55,12 +57,14 @@ all_can (granted.Schema n) = (refl, refl)
 all_can (granted.Type q) = (refl, refl)
 
 owner_can : (what : Granted) → IsObject what → (owner : Bytes) → IsRoleName owner → (item : Item) → AllowedItem (kind_on what) item → AllWritable (owner_stmts what (all_rights (kind_on what)) owner item)
+unfolding by_syntax
 owner_can what is owner role item allowed = elim (cases_Bool (is_plain item (all_rights (kind_on what)))) [
   | inl plain ↦ rw plain tt
   | inr other ↦ rw other ((is, all_can what, role), item_can what is (grantee.Role owner) role item allowed)
 ]
 
 lacking_can : (what : Granted) → IsObject what → (item : Item) → AllWritable (lacking what (public_rights (kind_on what)) item)
+unfolding by_syntax
 lacking_can (granted.Table q) is item = tt
 lacking_can (granted.Sequence q) is item = tt
 lacking_can (granted.Schema n) is item = tt

@@ -38,6 +38,7 @@ use Rattle.dump_toc.specs.Tags.{tag_of, comment_tag, grants_tag}
 use Rattle.dump_toc.specs.Toc.{standing_of, comment_drafts, taken_at, places_of, object_drafts, counts_of, granted_at, grants_of, drafts_of, toc_of}
 use Rattle.restore_steps.specs.Faults.{left_out}
 use Rattle.stmt_laws.specs.Named.{HoldsCells}
+use Rattle.ddl_grammar.proofs.Spelled.{by_syntax}
 use Rattle.stmt_laws.proofs.Lists.{Known, known_so, known_map, found_has, chosen_have, seen_have}
 use Rattle.stmt_laws.proofs.Objects.{given, owned_can}
 use Rattle.stmt_laws.proofs.Rows.{IsOf, rows_hold}
@@ -138,10 +139,10 @@ module _ (law : LaidLaw) (laws : Laws) (cat : Catalogue) (holds : HoldsCells cat
   numbered ids id (d ∷ ds) all = (renumbered ids id d all.0, numbered ids (id + 1) ds all.1)
 
   database_ready : (row : DatabaseRow) → IsName row.datname → IsReady (database_entry cat row)
-  unfolding left_out
+  unfolding left_out by_syntax
   database_ready row name =
       let s = stmt.CreateDatabase row.datname (Some Utf8) in
-      let lays = spelled_lays laws.spelled s name in
+      let lays = spelled_lays laws.spelled s ((name, tt), refl) in
       (refl, λ rows has. made_runs (database_entry cat row) rows (s ∷ []) refl refl (law _ _ lays) (law _ _ (lines_behind _ _ lays)))
 
   encoding_ready : IsReady encoding

@@ -14,9 +14,10 @@ use Rattle.cat_model.specs.declared.stmt.Stmt.{Stmt}
 use Rattle.cat_model.specs.declared.stmt.Stmt.TheVariants as stmt
 use Rattle.ddl_laws.specs.located.Located.{Located}
 use Rattle.ddl_laws.specs.Reading.{statements_of}
-use Rattle.ddl_laws.specs.Spelling.{spelling, owner_text}
+use Rattle.ddl_grammar.proofs.Spelled.{by_syntax}
+use Rattle.ddl_laws.specs.Respelling.{spelling}
 use Rattle.ddl_laws.specs.Laying.{Lays, no_more, empty_line, statement_text}
-use Rattle.ddl_laws.specs.{Respelling.IsPath, Respelling.IsOwnedName, Spellings.said}
+use Rattle.ddl_laws.specs.{Respelling.IsPath, Respelling.IsWritable, Spellings.said}
 use Rattle.fmt_text.specs.declared.owner.OwnedKind.{OwnedKind}
 use Rattle.fmt_text.specs.declared.owner.OwnedKind.TheVariants as kinds
 use Rattle.fmt_text.specs.Owners.{name_in, joined, path_of, object_of, owned_object, given, owner_part}
@@ -59,22 +60,26 @@ entry_path_known : NameLaw → (e : Entry) → Known IsPath (path_of e)
 unfolding path_of
 entry_path_known law e = path_known (option_and_then name_in e.namespace) (name_in e.tag) (name_behind law e.namespace) (name_known law e.tag)
 
-mapped : {A : Type 0} (P : A → Type 0) (f : A → Owned) (o : Option A) → ((x : A) → P x → IsOwnedName (f x)) → Known P o → Known IsOwnedName (option_map f o)
+-- an object that can be given to any role
+abbrev IsOwned : Owned → Type 0
+IsOwned object = (role : List ℕ) → IsName role → IsWritable (stmt.OwnerTo object role)
+
+mapped : {A : Type 0} (P : A → Type 0) (f : A → Owned) (o : Option A) → ((x : A) → P x → IsOwned (f x)) → Known P o → Known IsOwned (option_map f o)
 mapped P f None h k = tt
 mapped P f (Some x) h k = h x k
 
-object_known : NameLaw → (e : Entry) (kind : Option OwnedKind) → Known IsOwnedName (object_of e kind)
+object_known : NameLaw → (e : Entry) (kind : Option OwnedKind) → Known IsOwned (object_of e kind)
+unfolding by_syntax
 object_known law e None = tt
-object_known law e (Some kinds.Schema) = mapped IsName owned.Schema (name_in e.tag) (λ n is. is) (name_known law e.tag)
-object_known law e (Some kinds.Type) = mapped IsPath owned.Type (path_of e) (λ q is. is) (entry_path_known law e)
-object_known law e (Some kinds.Domain) = mapped IsPath owned.Domain (path_of e) (λ q is. is) (entry_path_known law e)
-object_known law e (Some kinds.Table) = mapped IsPath owned.Table (path_of e) (λ q is. is) (entry_path_known law e)
-object_known law e (Some kinds.Sequence) = mapped IsPath owned.Sequence (path_of e) (λ q is. is) (entry_path_known law e)
-object_known law e (Some kinds.View) = mapped IsPath owned.View (path_of e) (λ q is. is) (entry_path_known law e)
+object_known law e (Some kinds.Schema) = mapped IsName owned.Schema (name_in e.tag) (λ n is role named. ((is, named), refl)) (name_known law e.tag)
+object_known law e (Some kinds.Type) = mapped IsPath owned.Type (path_of e) (λ q is role named. ((is, named), refl)) (entry_path_known law e)
+object_known law e (Some kinds.Domain) = mapped IsPath owned.Domain (path_of e) (λ q is role named. ((is, (named, refl)), refl)) (entry_path_known law e)
+object_known law e (Some kinds.Table) = mapped IsPath owned.Table (path_of e) (λ q is role named. ((is, (named, refl)), refl)) (entry_path_known law e)
+object_known law e (Some kinds.Sequence) = mapped IsPath owned.Sequence (path_of e) (λ q is role named. ((is, (named, refl)), refl)) (entry_path_known law e)
+object_known law e (Some kinds.View) = mapped IsPath owned.View (path_of e) (λ q is role named. ((is, named), refl)) (entry_path_known law e)
 
-given_lays : (o : Option Owned) (r : Option (List ℕ)) → Known IsOwnedName o → Known IsName r → Lays (given o r) (given_to o r)
-unfolding spelling
-given_lays (Some object) (Some role) is named = statement_text (stmt.OwnerTo object role) (10 ∷ []) [] (is, named) (empty_line [] [] no_more)
+given_lays : (o : Option Owned) (r : Option (List ℕ)) → Known IsOwned o → Known IsName r → Lays (given o r) (given_to o r)
+given_lays (Some object) (Some role) is named = statement_text (stmt.OwnerTo object role) (10 ∷ []) [] (is role named) (empty_line [] [] no_more)
 given_lays None r is named = no_more
 given_lays (Some object) None is named = no_more
 

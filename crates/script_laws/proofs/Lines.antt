@@ -10,7 +10,7 @@ use Rattle.std.proofs.lemmas.Str.{IsUtf8-append, IsUtf8-from_is_utf8}
 use Rattle.std.proofs.lemmas.List.Folds.{list_all-append}
 use Rattle.sql_lex.specs.Bytes.{in_line}
 use Rattle.cat_model.specs.declared.stmt.Stmt.{Stmt}
-use Rattle.ddl_laws.specs.Spelling.{spelling}
+use Rattle.ddl_laws.specs.Respelling.{spelling}
 use Rattle.ddl_laws.specs.Laying.{Lays, IsShown, comment, no_more, empty_line, comment_line, statement_text}
 use Rattle.fmt_text.specs.Lines.{title, shown, shown_or_dash}
 use Rattle.fmt_text.specs.Parts.{is_table_data, group, told_owner, about}

@@ -1,13 +1,11 @@
 -- The statements that prepare the session can be written, and lie in the head of a script.
 use Rattle.std.proofs.Common.{◌≡◌, ℕ, List, [], ◌∷◌, ◌++◌, Ok, refl, subst, codes}
-use Rattle.sql_lex.specs.Reserved.{is_reserved}
-use Rattle.sql_lex.specs.Written.{begins_bare, in_bare, is_bare, doubled, quoted, written_name, written_literal}
-use Rattle.sql_lex.specs.Bytes.{is_digit}
 use Rattle.cat_model.specs.declared.stmt.Stmt.{Stmt}
 use Rattle.cat_model.specs.declared.stmt.Stmt.TheVariants as stmt
 use Rattle.ddl_laws.specs.located.Located.{Located}
 use Rattle.ddl_laws.specs.Reading.{statements_of}
-use Rattle.ddl_laws.specs.Spelling.{set_text, setting_text, spelling}
+use Rattle.ddl_grammar.proofs.Spelled.{spelled_out}
+use Rattle.ddl_laws.specs.Respelling.{spelling}
 use Rattle.ddl_laws.specs.Laying.{Lays, no_more, empty_line, statement_text}
 use Rattle.ddl_laws.specs.{Respelling.AllWritable, Spellings.said}
 use Rattle.ddl_laws.proofs.Computing.{reads}
@@ -66,7 +64,7 @@ spelled_before : (law : ReadLaw) (s : Stmt) (read words text : List ℕ) (end : 
 spelled_before law s read words text end ss e spells lays = subst (λ (x : List ℕ). Lays (x ++ text) (s ∷ ss)) spells (statement_text s text ss (law read (alone s end) e).0 lays)
 
 pub session_lays : ReadLaw → Lays session session_statements
-unfolding session set_text setting_text spelling is_digit is_reserved begins_bare in_bare is_bare doubled quoted written_name written_literal
+unfolding session spelled_out
 session_lays law =
     spelled_before law (stmt.Set (codes "statement_timeout") (codes "0")) _ (codes "SET statement_timeout = 0;\n") _ 26 _ timeout_read refl (
     spelled_before law (stmt.Set (codes "lock_timeout") (codes "0")) _ (codes "SET lock_timeout = 0;\n") _ 21 _ lock_read refl (

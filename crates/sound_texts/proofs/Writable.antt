@@ -1,10 +1,11 @@
 -- Statements that can be written are fit, and so are those that are read.
-use Rattle.std.proofs.Common.{◌≡◌, Bool, true, false, not, ◌&&◌, ◌||◌, List, [], ◌∷◌, Option, Some, None, refl, sym, ap, ◌∙◌}
+use Rattle.std.proofs.Common.{◌≡◌, Bool, true, false, ◌&&◌, List, [], ◌∷◌, Option, Some, None, refl, sym, ap, ◌∙◌}
 use Rattle.std.proofs.lemmas.Bool.{and_from}
 use Rattle.std.specs.List.{AllByRecursion}
-use Rattle.copy_text.specs.Texts.{IsName}
+use Rattle.copy_text.specs.Texts.{IsName, is_name}
 use Rattle.copy_text.proofs.TextLemmas.{test_from_name}
 use Rattle.cat_model.specs.declared.grant.Granted.{Granted}
+use Rattle.cat_model.specs.declared.object.QName.{QName}
 use Rattle.cat_model.specs.declared.grant.Granted.TheVariants as on
 use Rattle.cat_model.specs.declared.grant.Rights.{Rights}
 use Rattle.cat_model.specs.declared.stmt.Stmt.{Stmt}
@@ -13,14 +14,19 @@ use Rattle.cat_model.specs.declared.table.ColumnDef.{ColumnDef}
 use Rattle.cat_model.specs.declared.table.CheckDef.{CheckDef}
 use Rattle.cat_model.specs.Values.{Bytes}
 use Rattle.ddl_laws.specs.Expressions.{nested}
-use Rattle.ddl_laws.proofs.GrammarLaws.{deferral_laws, reactions_laws}
+use Rattle.ddl_laws.specs.Laws.{Lawful}
+use Rattle.ddl_laws.specs.Parts.{Part}
+use Rattle.ddl_laws.specs.Texts.{IsPath, IsBracketText}
+use Rattle.ddl_laws.proofs.LeafLaws.{deferral_laws, reactions_laws}
 use Rattle.ddl_laws.specs.RightsGrammar.{within, kind_rights}
 use Rattle.ddl_laws.specs.Writable.{kind_of}
-use Rattle.ddl_laws.specs.Respelling.{IsWritable, AllWritable, IsDefault as IsGivenDefault, IsCheck, IsColumn}
+use Rattle.ddl_laws.specs.Respelling.{AreColumns, IsRest, IsWritable, AllWritable, IsDefault as IsGivenDefault, IsCheck, IsColumn}
+use Rattle.ddl_laws.proofs.Spelled.{by_syntax}
 use Rattle.cat_sound.specs.Fit.{IsFit, AreFitColumns, AreFitChecks}
 use Rattle.cat_sound.specs.Itself.{IsDefault}
 use Rattle.cat_sound.specs.Rights.{implies, is_within, rights_on}
 use Rattle.sound_texts.specs.Grammar.{grammar}
+use Rattle.sound_texts.specs.Tests.{is_path, is_bracketed, are_columns, is_rest}
 use Rattle.sound_texts.proofs.Tested.{run_to, bracket_to, path_to, type_to, columns_to, rest_to}
 
 -- ---- rights
@@ -60,20 +66,28 @@ checks_fit (c ∷ cs) is = (run_to (nested false false) c.text is.0.1, checks_fi
 
 -- ---- statements
 
+key_fit : {p : Part (Unit {0})} → Lawful p → (columns : List Bytes) (rest : Bytes) → AreColumns columns × IsRest p rest → (are_columns columns && is_rest p rest) ≡ true
+key_fit laws columns rest is = and_from _ _ (columns_to columns is.0) (rest_to laws rest is.1)
+
+index_fit : (q : QName) (name method rest : Bytes) → IsName name × (IsPath q × (IsName method × IsBracketText rest)) → (is_path q && (is_name name && (is_name method && is_bracketed rest))) ≡ true
+index_fit q name method rest is = and_from _ _ (path_to q is.1.0) (and_from _ _ (test_from_name name is.0) (and_from _ _ (test_from_name method is.1.1.0) (bracket_to rest is.1.1.1)))
+
 pub writable_fit : (s : Stmt) → IsWritable s → IsFit grammar s
-writable_fit (stmt.CreateDomain q base not_null default checks) is = (type_to base is.1, default_fit default is.2, checks_fit checks is.3)
-writable_fit (stmt.AddDomainCheck q name text) is = run_to (nested false false) text is.2
-writable_fit (stmt.CreateTable q columns checks) is = (columns_fit columns is.1, checks_fit checks is.2)
-writable_fit (stmt.CreateView q body) is = run_to (nested false false) body is.1
-writable_fit (stmt.ReplaceView q body) is = run_to (nested false false) body is.1
-writable_fit (stmt.SetDefault q column text) is = run_to (nested true false) text is.2
-writable_fit (stmt.AddPrimary q name columns rest) is = and_from _ _ (columns_to columns is.2) (rest_to deferral_laws rest is.3)
-writable_fit (stmt.AddUnique q name columns rest) is = and_from _ _ (columns_to columns is.2) (rest_to deferral_laws rest is.3)
+unfolding by_syntax
+writable_fit (stmt.CreateDomain q base not_null default checks) is = (type_to base is.0.1.0.0, default_fit default is.0.1.0.1, checks_fit checks is.0.1.1)
+writable_fit (stmt.AddDomainCheck q name text) is = run_to (nested false false) text is.0.1.0.1
+writable_fit (stmt.CreateTable q columns checks) is = (columns_fit columns is.0.1.0, checks_fit checks is.0.1.1)
+writable_fit (stmt.CreateView q body) is = run_to (nested false false) body is.0.1
+writable_fit (stmt.ReplaceView q body) is = run_to (nested false false) body is.0.1
+writable_fit (stmt.SetDefault q column text) is = run_to (nested true false) text is.0.1.0.1
+writable_fit (stmt.AddPrimary q name columns rest) is = key_fit deferral_laws columns rest is.0.1.0.1.0
+writable_fit (stmt.AddUnique q name columns rest) is = key_fit deferral_laws columns rest is.0.1.0.1.0
 writable_fit (stmt.AddForeign q name columns parent parents rest) is =
-    and_from _ _ (columns_to columns is.2) (and_from _ _ (and_from _ _ (path_to parent is.3) (columns_to parents is.4)) (rest_to reactions_laws rest is.5))
-writable_fit (stmt.AddCheck q name text) is = run_to (nested false false) text is.2
-writable_fit (stmt.CreateIndex q name method rest) is = and_from _ _ (path_to q is.0) (and_from _ _ (test_from_name name is.1) (and_from _ _ (test_from_name method is.2) (bracket_to rest is.3)))
-writable_fit (stmt.CreateUniqueIndex q name method rest) is = and_from _ _ (path_to q is.0) (and_from _ _ (test_from_name name is.1) (and_from _ _ (test_from_name method is.2) (bracket_to rest is.3)))
+    let c = is.0.1.0.1.0 in
+    and_from _ _ (columns_to columns c.0) (and_from _ _ (and_from _ _ (path_to parent c.1.0) (columns_to parents c.1.1.0)) (rest_to reactions_laws rest c.1.1.1))
+writable_fit (stmt.AddCheck q name text) is = run_to (nested false false) text is.0.1.0.1.0
+writable_fit (stmt.CreateIndex q name method rest) is = index_fit q name method rest is.0.0
+writable_fit (stmt.CreateUniqueIndex q name method rest) is = index_fit q name method rest is.0.0
 writable_fit (stmt.Grant what r who option) is = rights what r is.1.1
 writable_fit _ is = tt
 

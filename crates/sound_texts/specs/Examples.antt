@@ -1,5 +1,5 @@
 -- Worked examples: texts that are good by the grammar, and texts that aren't.
-use Rattle.std.specs.Prelude.{◌≡◌, Bool, true, false, List, [], ◌∷◌, Option, Some, None, codes}
+use Rattle.std.specs.Prelude.{◌≡◌, true, false, List, [], ◌∷◌, Option, Some, None, codes}
 use Rattle.cat_model.specs.declared.constraint.ConstraintKind.{ConstraintKind}
 use Rattle.cat_model.specs.declared.constraint.ConstraintKind.TheVariants as kinds
 use Rattle.cat_model.specs.declared.object.QName.{QName}

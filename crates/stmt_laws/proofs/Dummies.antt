@@ -32,7 +32,7 @@ use Rattle.ddl_grammar.specs.Types.{typing, is_word_kind, is_number_kind, is_typ
 use Rattle.ddl_forms.proofs.Basics.{run_none}
 use Rattle.ddl_forms.specs.Tables.{type_text}
 use Rattle.ddl_forms.specs.Texts.{semicolon, IsType, IsExpressionText}
-use Rattle.ddl_forms.proofs.Behind.{Behind, Words, Safe, admits}
+use Rattle.ddl_forms.proofs.Behind.{Words, Safe, admits}
 use Rattle.ddl_forms.proofs.Expressions.{nested_plain}
 use Rattle.ddl_forms.proofs.Kept.{AllPlain, spelled-append}
 use Rattle.ddl_forms.proofs.Putting.{Follows, nothing_follows}

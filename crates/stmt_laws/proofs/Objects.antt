@@ -52,6 +52,7 @@ use Rattle.stmt_laws.specs.Named.{HoldsCells, IsNamed}
 use Rattle.stmt_laws.proofs.Lists.{Known, known_so, so_known, known_then, known_map, found_has, kept_have, numbered_have, ordered_have, chosen_have, seen_have}
 use Rattle.stmt_laws.proofs.Rows.{IsOf, All, rows_hold, class_path_known}
 use Rattle.stmt_laws.proofs.Dummies.{nulls_are}
+use Rattle.ddl_grammar.proofs.Spelled.{by_syntax}
 
 -- ---- what texts say
 
@@ -81,8 +82,9 @@ given_default (Some v) k = k
 -- ---- schemas
 
 schema_can : (name : Option (List ℕ)) → Known IsName name → Known IsWritable (schema_stmt name)
+unfolding by_syntax
 schema_can None k = tt
-schema_can (Some name) k = elim (cases_Bool (is_public name)) [ inl is ↦ rw is tt | inr isnt ↦ rw isnt k ]
+schema_can (Some name) k = elim (cases_Bool (is_public name)) [ inl is ↦ rw is tt | inr isnt ↦ rw isnt (k, refl) ]
 
 -- ---- checks
 
@@ -101,7 +103,7 @@ checks_can laws rows all = chosen_have (IsOf table.PgConstraint constraint_cells
 -- ---- types
 
 type_can : (cat : Catalogue) (o : Obj) → Given cat o → Known IsWritable (type_stmt cat o)
-unfolding type_stmt
+unfolding type_stmt by_syntax
 type_can cat o g =
     let types = rows_hold cat g.holds table.PgType type_cells cat.pg_type refl in
     known_then (IsOf table.PgType type_cells) IsWritable (λ row. option_and_then (type_in cat row) (path_of o)) (type_of cat.pg_type o.id.oid)
@@ -130,10 +132,10 @@ type_can cat o g =
         any (Some text) = tt
 
     domain : (row : TypeRow) (q : QName) → IsPath q → Known IsWritable (domain_stmt cat row q)
-    domain row q path = known_map IsType IsWritable (domain_over cat row q) (type_named row.basetext) (known_so IsType (type_named row.basetext) (g.laws.types row.basetext)) (λ base is. (path, is, default row, of_domain row))
+    domain row q path = known_map IsType IsWritable (domain_over cat row q) (type_named row.basetext) (known_so IsType (type_named row.basetext) (g.laws.types row.basetext)) (λ base is. ((path, ((is, default row), of_domain row)), refl))
 
     one : (row : TypeRow) (q : QName) → IsPath q → Known IsWritable (type_in cat row q)
-    one row q path = elim (cases_Bool (is_domain_letter row.typtype)) [ inl is ↦ rw is (domain row q path) | inr isnt ↦ rw isnt (path, labels row) ]
+    one row q path = elim (cases_Bool (is_domain_letter row.typtype)) [ inl is ↦ rw is (domain row q path) | inr isnt ↦ rw isnt ((path, labels row), refl) ]
 
 -- ---- tables
 
@@ -155,7 +157,7 @@ column_known cat laws standing row is =
     by (Some d) = one d
 
 table_can : (cat : Catalogue) (standing : List ℕ) (o : Obj) → Given cat o → Known IsWritable (table_stmt cat standing o)
-unfolding table_stmt
+unfolding table_stmt by_syntax
 table_can cat standing o g =
     let oid = o.id.oid in
     let constraints = rows_hold cat g.holds table.PgConstraint constraint_cells cat.pg_constraint refl in
@@ -163,19 +165,19 @@ table_can cat standing o g =
     let checks = kept_have (IsOf table.PgConstraint constraint_cells) is_check (filter (λ c. same_oid oid c.conrelid) cat.pg_constraint) mine in
     let checks_ok = checks_can g.laws (table_checks cat oid) (ordered_have (IsOf table.PgConstraint constraint_cells) name_less (filter is_check (filter (λ c. same_oid oid c.conrelid) cat.pg_constraint)) checks) in
     let columns_ok = chosen_have (IsOf table.PgAttribute attribute_cells) IsColumn (column_def cat standing) (columns_of cat oid) (columns_hold cat g.holds oid) (column_known cat g.laws standing) in
-    known_map IsPath IsWritable (table_at cat standing oid) (path_of o) g.path (λ q path. (path, columns_ok, checks_ok))
+    known_map IsPath IsWritable (table_at cat standing oid) (path_of o) g.path (λ q path. ((path, (columns_ok, checks_ok)), refl))
 
 pub column_found : (cat : Catalogue) → HoldsCells cat → (relation : ℕ) (number : ℤ) → Known (IsOf table.PgAttribute attribute_cells) (column_at cat relation number)
 column_found cat holds relation number = found_has (IsOf table.PgAttribute attribute_cells) (λ a. same_oid relation a.attrelid && int_eq number a.attnum) cat.pg_attribute (rows_hold cat holds table.PgAttribute attribute_cells cat.pg_attribute refl)
 
 default_can : (cat : Catalogue) (o : Obj) → Given cat o → Known IsWritable (default_stmt cat o)
-unfolding default_stmt
+unfolding default_stmt by_syntax
 default_can cat o g = by (default_of cat o.id.oid)
   where
     one : (row : AttrdefRow) (q : QName) → IsPath q → Known IsWritable (default_in cat row q)
     one row q path =
         known_then IsDefaultText IsWritable (λ text. option_map (set_default q text) (column_at cat row.adrelid row.adnum)) (default_said row.adexpr) (known_so IsDefaultText (default_said row.adexpr) (g.laws.defaults row.adexpr))
-        (λ text is. known_map (IsOf table.PgAttribute attribute_cells) IsWritable (set_default q text) (column_at cat row.adrelid row.adnum) (column_found cat g.holds row.adrelid row.adnum) (λ a column. (path, column.cells.1.1.0, is)))
+        (λ text is. known_map (IsOf table.PgAttribute attribute_cells) IsWritable (set_default q text) (column_at cat row.adrelid row.adnum) (column_found cat g.holds row.adrelid row.adnum) (λ a column. ((path, ((column.cells.1.1.0, is), refl)), refl)))
 
     by : (r : Option AttrdefRow) → Known IsWritable (option_and_then (λ row. option_and_then (default_in cat row) (path_of o)) r)
     by None = tt
@@ -184,25 +186,25 @@ default_can cat o g = by (default_of cat o.id.oid)
 -- ---- views
 
 view_can : (cat : Catalogue) (o : Obj) → Given cat o → Known IsWritable (view_stmt cat o)
-unfolding view_stmt
+unfolding view_stmt by_syntax
 view_can cat o g = by (view_rewrite cat o.id.oid)
   where
     by : (r : Option RewriteRow) → Known IsWritable (option_and_then (λ row. option_and_then (view_of row) (path_of o)) r)
     by None = tt
-    by (Some row) = known_then IsPath IsWritable (view_of row) (path_of o) g.path (λ q path. known_map IsExpressionText IsWritable (stmt.CreateView q) (view_body row.viewdef) (known_so IsExpressionText (view_body row.viewdef) (g.laws.views row.viewdef)) (λ body is. (path, is)))
+    by (Some row) = known_then IsPath IsWritable (view_of row) (path_of o) g.path (λ q path. known_map IsExpressionText IsWritable (stmt.CreateView q) (view_body row.viewdef) (known_so IsExpressionText (view_body row.viewdef) (g.laws.views row.viewdef)) (λ body is. ((path, is), refl)))
 
 rule_can : (cat : Catalogue) (o : Obj) → Given cat o → Known IsWritable (rule_stmt cat o)
-unfolding rule_stmt
+unfolding rule_stmt by_syntax
 rule_can cat o g = by (rewrite_of cat o.id.oid)
   where
     by : (r : Option RewriteRow) → Known IsWritable (option_and_then (λ row. option_and_then (replaced_by row) (path_of o)) r)
     by None = tt
-    by (Some row) = known_then IsPath IsWritable (replaced_by row) (path_of o) g.path (λ q path. known_map IsExpressionText IsWritable (stmt.ReplaceView q) (view_body row.viewdef) (known_so IsExpressionText (view_body row.viewdef) (g.laws.views row.viewdef)) (λ body is. (path, is)))
+    by (Some row) = known_then IsPath IsWritable (replaced_by row) (path_of o) g.path (λ q path. known_map IsExpressionText IsWritable (stmt.ReplaceView q) (view_body row.viewdef) (known_so IsExpressionText (view_body row.viewdef) (g.laws.views row.viewdef)) (λ body is. ((path, is), refl)))
 
 dummy_can : (cat : Catalogue) (o : Obj) → Given cat o → Known IsWritable (dummy_stmt cat o)
-unfolding dummy_stmt
+unfolding dummy_stmt by_syntax
 dummy_can cat o g =
-    known_map IsPath IsWritable (λ q. stmt.CreateView q (dummy_body cat o.id.oid)) (path_of o) g.path (λ q path. (path, nulls_are g.laws.types (columns_of cat o.id.oid) (columns_hold cat g.holds o.id.oid)))
+    known_map IsPath IsWritable (λ q. stmt.CreateView q (dummy_body cat o.id.oid)) (path_of o) g.path (λ q path. ((path, nulls_are g.laws.types (columns_of cat o.id.oid) (columns_hold cat g.holds o.id.oid)), refl))
 
 -- ---- sequences
 
@@ -210,7 +212,7 @@ sequence_found : (cat : Catalogue) → HoldsCells cat → (oid : ℕ) → Known 
 sequence_found cat holds oid = found_has (IsOf table.PgSequence sequence_cells) (λ s. same_oid oid s.seqrelid) cat.pg_sequence (rows_hold cat holds table.PgSequence sequence_cells cat.pg_sequence refl)
 
 sequence_can : (cat : Catalogue) (o : Obj) → Given cat o → Known IsWritable (sequence_stmt cat o)
-unfolding sequence_stmt
+unfolding sequence_stmt by_syntax
 sequence_can cat o g =
     known_then (IsOf table.PgSequence sequence_cells) IsWritable (sequence_in o) (sequence_of cat o.id.oid) (sequence_found cat g.holds o.id.oid) (λ row is. by row is (sequence_kind row.seqtype))
   where
@@ -218,22 +220,22 @@ sequence_can cat o g =
     by row is None = tt
     by row is (Some kind) =
         let c = is.cells.1.1 in
-        known_map IsPath IsWritable (of_kind row kind) (path_of o) g.path (λ q path. (path, c.0, c.1.0, c.1.1.1.0, c.1.1.0, c.1.1.1.1.0))
+        known_map IsPath IsWritable (of_kind row kind) (path_of o) g.path (λ q path. ((path, (c.0, c.1.0, c.1.1.1.0, c.1.1.0, c.1.1.1.1.0)), refl))
 
 value_can : (cat : Catalogue) (o : Obj) → Given cat o → Known IsWritable (value_stmt cat o)
-unfolding value_stmt
+unfolding value_stmt by_syntax
 value_can cat o g =
     known_then (IsOf table.PgSequence sequence_cells) IsWritable (λ row. option_map (value_of row) (path_of o)) (sequence_of cat o.id.oid) (sequence_found cat g.holds o.id.oid)
-    (λ row is. known_map IsPath IsWritable (value_of row) (path_of o) g.path (λ q path. (path, is.cells.1.1.1.1.1.1.1.1.0)))
+    (λ row is. known_map IsPath IsWritable (value_of row) (path_of o) g.path (λ q path. ((path, (is.cells.1.1.1.1.1.1.1.1.0, tt)), refl)))
 
 pub owned_can : (cat : Catalogue) (o : Obj) → Given cat o → Known IsWritable (owned_stmt cat o)
-unfolding owned_stmt
+unfolding owned_stmt by_syntax
 owned_can cat o g = by (sequence_of cat o.id.oid)
   where
     one : (row : SequenceRow) (q : QName) → IsPath q → Known IsWritable (owned_in cat row q)
     one row q path =
         known_then IsPath IsWritable (λ t. option_map (owned q t) (column_at cat row.ownrel row.owncol)) (class_path_of cat row.ownrel) (class_path_known cat g.holds row.ownrel)
-        (λ t is. known_map (IsOf table.PgAttribute attribute_cells) IsWritable (owned q t) (column_at cat row.ownrel row.owncol) (column_found cat g.holds row.ownrel row.owncol) (λ a column. (path, is, column.cells.1.1.0)))
+        (λ t is. known_map (IsOf table.PgAttribute attribute_cells) IsWritable (owned q t) (column_at cat row.ownrel row.owncol) (column_found cat g.holds row.ownrel row.owncol) (λ a column. ((path, ((is, column.cells.1.1.0), refl)), refl)))
 
     by : (r : Option SequenceRow) → Known IsWritable (option_and_then (λ row. option_and_then (owned_in cat row) (path_of o)) r)
     by None = tt
@@ -242,9 +244,10 @@ owned_can cat o g = by (sequence_of cat o.id.oid)
 -- ---- constraints and indexes
 
 added_can : (q : QName) (name : List ℕ) (s : Stmt) → IsPath q → IsName name → IsWritable s → Known IsWritable (added_to q name s)
-added_can q name (stmt.AddPrimary t key columns rest) path named is = (path, named, is.2, is.3)
-added_can q name (stmt.AddUnique t key columns rest) path named is = (path, named, is.2, is.3)
-added_can q name (stmt.AddForeign t key columns parent parents rest) path named is = (path, named, is.2, is.3, is.4, is.5)
+unfolding by_syntax
+added_can q name (stmt.AddPrimary t key columns rest) path named is = ((path, ((named, is.0.1.0.1), refl)), refl)
+added_can q name (stmt.AddUnique t key columns rest) path named is = ((path, ((named, is.0.1.0.1), refl)), refl)
+added_can q name (stmt.AddForeign t key columns parent parents rest) path named is = ((path, ((named, is.0.1.0.1), refl)), refl)
 added_can q name s path named is = tt
 
 constraint_can : (cat : Catalogue) (o : Obj) → Given cat o → Known IsWritable (constraint_stmt cat o)
@@ -256,11 +259,11 @@ constraint_can cat o g =
     (λ q path. known_then IsWritable IsWritable (added_to q row.conname) (statement_said row.condef) (known_so IsWritable (statement_said row.condef) (g.laws.constraints row.condef)) (λ s can. added_can q row.conname s path is.cells.1.0 can)))
 
 index_can : (cat : Catalogue) (o : Obj) → Given cat o → Known IsWritable (index_stmt cat o)
-unfolding index_stmt
+unfolding index_stmt by_syntax
 index_can cat o g = by (index_of cat o.id.oid)
   where
     one : (said : IndexText) → IsIndex said → IsWritable (index_by said)
-    one said is = elim (cases_Bool said.unique) [ inl unique ↦ rw unique (is.1, is.0, is.2, is.3) | inr plain ↦ rw plain (is.1, is.0, is.2, is.3) ]
+    one said is = elim (cases_Bool said.unique) [ inl unique ↦ rw unique (((is.0, (is.1, (is.2, is.3))), refl), refl) | inr plain ↦ rw plain (((is.0, (is.1, (is.2, is.3))), refl), refl) ]
 
     by : (r : Option IndexRow) → Known IsWritable (option_and_then (λ row. option_map index_by (index_said row.indexdef)) r)
     by None = tt

@@ -19,6 +19,7 @@ use Rattle.ddl_laws.specs.located.Located.{Located}
 use Rattle.ddl_laws.specs.Reading.{statements_of}
 use Rattle.ddl_laws.proofs.Expressions.{expression_as, default_as}
 use Rattle.ddl_laws.proofs.Kept.{AllCame, have_come}
+use Rattle.ddl_laws.proofs.Spelled.{by_syntax}
 use Rattle.ddl_laws.proofs.Tokens.{none, space}
 use Rattle.ddl_laws.proofs.Types.{type_as}
 use Rattle.ddl_laws.proofs.Written.{Written, choose_as, is_key, name_as, path_as, end_as, then_as, word_then, seen_as}
@@ -96,7 +97,8 @@ pub statement_can : ReadLaw → (text : Bytes) (s : Stmt) → statement_said tex
 statement_can law text s e = only_can (length (statement_text text)) (statements_of (statement_text text)) s (law (statement_text text)) e
 
 check_in : (s : Stmt) (text : Bytes) → IsWritable s → said_by s ≡ Some (Check text) → IsExpressionText text
-check_in (stmt.AddCheck q name kept) text is e = let same : kept ≡ text = cc e in subst IsExpressionText same is.2
+unfolding by_syntax
+check_in (stmt.AddCheck q name kept) text is e = let same : kept ≡ text = cc e in subst IsExpressionText same is.0.1.0.1.0
 check_in (stmt.AddPrimary q name columns rest) text is e = absurd cc
 check_in (stmt.AddUnique q name columns rest) text is e = absurd cc
 check_in (stmt.AddForeign q name columns parent parents rest) text is e = absurd cc

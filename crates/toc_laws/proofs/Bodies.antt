@@ -22,10 +22,8 @@ use Rattle.cat_rows.specs.RowCells.{attribute_cells}
 use Rattle.cat_book.specs.Chains.{type_of, is_domain_letter}
 use Rattle.ddl_laws.specs.Rows.{AreRows}
 use Rattle.ddl_spelling.specs.Paths.{path, listed}
-use Rattle.ddl_spelling.specs.RowsText.{copy_text}
-use Rattle.ddl_spelling.specs.Spelling.{spelling}
 use Rattle.ddl_laws.specs.Laying.{Lays, no_more, comment_line, statement_text}
-use Rattle.ddl_laws.specs.Respelling.{IsPath, IsWritable, AllWritable}
+use Rattle.ddl_laws.specs.Respelling.{IsPath, IsWritable, AllWritable, spelling}
 use Rattle.graph_parts.specs.declared.object.Obj.{Obj}
 use Rattle.graph_parts.specs.declared.object.ObjKind.{ObjKind}
 use Rattle.graph_parts.specs.declared.object.ObjKind.TheVariants as kind
@@ -39,6 +37,7 @@ use Rattle.dump_toc.specs.Tags.{type_desc, desc_of_kind}
 use Rattle.fmt_text.specs.Parts.{is_table_data, text_or_none}
 use Rattle.script_laws.proofs.Lines.{lays_both, known_shown, two_lines}
 use Rattle.stmt_laws.specs.Named.{HoldsCells}
+use Rattle.ddl_grammar.proofs.Spelled.{by_syntax}
 use Rattle.stmt_laws.proofs.Lists.{Known, seen_have}
 use Rattle.stmt_laws.proofs.Rows.{IsOf}
 use Rattle.stmt_laws.proofs.Objects.{columns_hold}
@@ -90,28 +89,27 @@ more_is [] = refl
 more_is (a ∷ columns) = ap (λ (x : List ℕ). (codes ", " ++ written_name a.attname) ++ x) (more_is columns)
 
 -- the line of COPY, the rows and two empty lines, parted otherwise
-parted : (path list from rows last more : List ℕ) → ((codes "COPY " ++ path) ++ list ++ from) ++ (rows ++ (last ++ more)) ≡ (codes "COPY " ++ (path ++ (list ++ (from ++ (rows ++ (last ++ [])))))) ++ more
-parted path list from rows last more = simp (append_assoc, append-nil)
+parted : (path list rows : List ℕ) → ((codes "COPY " ++ path) ++ list ++ codes " FROM stdin;\n") ++ (rows ++ codes "\\.\n\n\n") ≡ (((codes "COPY " ++ (path ++ (list ++ codes " FROM stdin;"))) ++ codes "\n") ++ (rows ++ codes "\\.\n")) ++ codes "\n\n"
+parted path list rows = simp append_assoc
 
-line_and_rows : (q : QName) (columns : List AttributeRow) (r : List ℕ) → copy_line q columns ++ (r ++ codes "\\.\n\n\n") ≡ copy_text q (names_in columns) r ++ codes "\n\n"
-unfolding copy_line copy_text column_list listed
-line_and_rows q [] r = parted (path q) [] (codes " FROM stdin;\n") r (codes "\\.\n") (codes "\n\n")
+line_and_rows : (q : QName) (columns : List AttributeRow) (r : List ℕ) → copy_line q columns ++ (r ++ codes "\\.\n\n\n") ≡ spelling (stmt.CopyRows q (names_in columns) r) ++ codes "\n\n"
+unfolding copy_line column_list listed by_syntax
+line_and_rows q [] r = parted (path q) [] r
 line_and_rows q (a ∷ columns) r =
-    let names = (codes "(" ++ written_name a.attname) in
     ap (λ (x : List ℕ). ((codes "COPY " ++ path q) ++ ((codes " (" ++ written_name a.attname) ++ x ++ codes ")") ++ codes " FROM stdin;\n") ++ (r ++ codes "\\.\n\n\n")) (more_is columns)
-    ∙ parted (path q) (codes " " ++ (names ++ flat_map (λ n. codes ", " ++ written_name n) (names_in columns) ++ codes ")")) (codes " FROM stdin;\n") r (codes "\\.\n") (codes "\n\n")
+    ∙ parted (path q) ((codes " (" ++ written_name a.attname) ++ flat_map (λ n. codes ", " ++ written_name n) (names_in columns) ++ codes ")") r
 
 -- the statement of the rows of a table
 abbrev pub copy_stmt : Catalogue → ℕ → QName → List ℕ → Stmt
 copy_stmt cat oid q r = stmt.CopyRows q (names_in (columns_of cat oid)) r
 
 rows_lay : (cat : Catalogue) → HoldsCells cat → (oid : ℕ) (q : QName) → IsPath q → (r : List ℕ) → AreRows r → Lays (copy_line q (columns_of cat oid) ++ (r ++ codes "\\.\n\n\n")) (copy_stmt cat oid q r ∷ [])
-unfolding spelling
+unfolding by_syntax
 rows_lay cat holds oid q is r are =
     let columns = columns_of cat oid in
     let s = copy_stmt cat oid q r in
     let named : AllByRecursion IsName (names_in columns) = seen_have (IsOf table.PgAttribute attribute_cells) IsName (λ a. a.attname) columns (columns_hold cat holds oid) (λ a row. row.cells.1.1.0) in
-    let lays : Lays (copy_text q (names_in columns) r ++ codes "\n\n") (s ∷ []) = statement_text s (codes "\n\n") [] (is, named, are) two_lines in
+    let lays : Lays (spelling s ++ codes "\n\n") (s ∷ []) = statement_text s (codes "\n\n") [] (((is, named), refl), are) two_lines in
     subst (λ (x : List ℕ). Lays x (s ∷ [])) (sym (line_and_rows q columns r)) lays
 
 abbrev copied_of : Catalogue → Obj → Option QName → Bytes

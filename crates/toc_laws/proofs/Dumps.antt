@@ -82,7 +82,7 @@ beside_ready cat holds o schema desc tag defn section needs text other called ss
 remark_ready : SpelledLaw → (cat : Catalogue) → HoldsCells cat → (o : Obj) → Known IsName o.schema → (place : ℕ) (r : Remark) → CanRemark r → Ready (plain (remark_draft cat o place r))
 unfolding is_utf8 chars encode
 remark_ready law cat holds o schema place r can =
-    beside_ready cat holds o schema (codes "COMMENT") (comment_tag r.0) (written (Some (stmt.Comment r.0 (Some r.1)))) 1 (place ∷ []) refl refl (comment_text r.0 can.0) (stmt.Comment r.0 (Some r.1) ∷ []) (spelled_lays law (stmt.Comment r.0 (Some r.1)) can)
+    beside_ready cat holds o schema (codes "COMMENT") (comment_tag r.0) (written (Some (stmt.Comment r.0 (Some r.1)))) 1 (place ∷ []) refl refl (comment_text r.0 r.1 can) (stmt.Comment r.0 (Some r.1) ∷ []) (spelled_lays law (stmt.Comment r.0 (Some r.1)) can)
 
 owned_ready : SpelledLaw → (cat : Catalogue) (order : Sorted) (o : Obj) (needs : List ℕ) (place : ℕ) → HoldsCells cat → Known IsName o.schema → IsUtf8 (tag_of cat o) → Known IsWritable (owned_stmt cat o) → (k : ObjKind) → Known (λ d. Ready (plain d)) (owned_drafts_of cat order.objects o needs place k)
 unfolding is_utf8 chars encode

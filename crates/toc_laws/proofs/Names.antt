@@ -11,6 +11,7 @@ use Rattle.cat_model.specs.declared.grant.Commented.{Commented}
 use Rattle.cat_model.specs.declared.grant.Commented.TheVariants as commented
 use Rattle.cat_model.specs.declared.grant.Granted.{Granted}
 use Rattle.cat_model.specs.declared.grant.Granted.TheVariants as granted
+use Rattle.cat_model.specs.declared.stmt.Stmt.TheVariants as stmt
 use Rattle.cat_rows.specs.declared.catalogue.Catalogue.{Catalogue}
 use Rattle.cat_rows.specs.declared.constraints.ConstraintRow.{ConstraintRow}
 use Rattle.cat_rows.specs.declared.relations.AttrdefRow.{AttrdefRow}
@@ -22,7 +23,7 @@ use Rattle.cat_names.specs.Kinds.{class_of}
 use Rattle.cat_names.specs.Lookups.{same_oid, role_name}
 use Rattle.cat_book.specs.Chains.{type_of, is_domain_letter}
 use Rattle.cat_book.specs.Leads.{constraint_of}
-use Rattle.ddl_laws.specs.Respelling.{IsCommented}
+use Rattle.ddl_laws.specs.Respelling.{IsWritable}
 use Rattle.ddl_laws.proofs.Paths.{name_utf8}
 use Rattle.ddl_laws.specs.Writable.{IsObject}
 use Rattle.graph_parts.specs.declared.object.Obj.{Obj}
@@ -32,6 +33,7 @@ use Rattle.dump_rows.specs.Rows.{default_of, column_at}
 use Rattle.dump_toc.specs.Owners.{owner_oid, owner_of}
 use Rattle.dump_toc.specs.Tags.{name_bytes, two_words, column_of, table_of, tag_of_kind, tag_of, type_desc, desc_of_kind, desc_of, comment_tag, grants_tag}
 use Rattle.stmt_laws.specs.Named.{HoldsCells, IsNamed}
+use Rattle.ddl_grammar.proofs.Spelled.{by_syntax}
 use Rattle.stmt_laws.proofs.Lists.{Known, known_so, so_known, known_map, found_has}
 use Rattle.stmt_laws.proofs.Rows.{IsOf, All, rows_hold}
 use Rattle.stmt_laws.proofs.Objects.{column_found}
@@ -129,17 +131,17 @@ owner_text cat holds o = names_text (owner_of cat o) (owner_known cat holds o)
 known_text : (words n : List ℕ) → is_utf8 words ≡ true → IsName n → IsUtf8 (words ++ written_name n)
 known_text words n e is = IsUtf8-append words (written_name n) (IsUtf8-from_is_utf8 words e) (name_utf8 n is)
 
-pub comment_text : (what : Commented) → IsCommented what → IsUtf8 (comment_tag what)
-unfolding is_utf8 chars encode
-comment_text (commented.Schema n) is = known_text (codes "SCHEMA ") n refl is
-comment_text (commented.Type q) is = known_text (codes "TYPE ") q.name refl is.1
-comment_text (commented.Domain q) is = known_text (codes "DOMAIN ") q.name refl is.1
-comment_text (commented.Table q) is = known_text (codes "TABLE ") q.name refl is.1
-comment_text (commented.View q) is = known_text (codes "VIEW ") q.name refl is.1
-comment_text (commented.Sequence q) is = known_text (codes "SEQUENCE ") q.name refl is.1
-comment_text (commented.Index q) is = known_text (codes "INDEX ") q.name refl is.1
-comment_text (commented.Column q n) is = IsUtf8-append (codes "COLUMN " ++ written_name q.name) (codes "." ++ written_name n) (known_text (codes "COLUMN ") q.name refl is.0.1) (known_text (codes ".") n refl is.1)
-comment_text (commented.Constraint q n) is = IsUtf8-append (codes "CONSTRAINT " ++ written_name n) (codes " ON " ++ written_name q.name) (known_text (codes "CONSTRAINT ") n refl is.1) (known_text (codes " ON ") q.name refl is.0.1)
+pub comment_text : (what : Commented) (text : List ℕ) → IsWritable (stmt.Comment what (Some text)) → IsUtf8 (comment_tag what)
+unfolding is_utf8 chars encode by_syntax
+comment_text (commented.Schema n) text is = known_text (codes "SCHEMA ") n refl is.0.0
+comment_text (commented.Type q) text is = known_text (codes "TYPE ") q.name refl is.0.0.1
+comment_text (commented.Domain q) text is = known_text (codes "DOMAIN ") q.name refl is.0.0.1
+comment_text (commented.Table q) text is = known_text (codes "TABLE ") q.name refl is.0.0.1
+comment_text (commented.View q) text is = known_text (codes "VIEW ") q.name refl is.0.0.1
+comment_text (commented.Sequence q) text is = known_text (codes "SEQUENCE ") q.name refl is.0.0.1
+comment_text (commented.Index q) text is = known_text (codes "INDEX ") q.name refl is.0.0.1
+comment_text (commented.Column q n) text is = IsUtf8-append (codes "COLUMN " ++ written_name q.name) (codes "." ++ written_name n) (known_text (codes "COLUMN ") q.name refl is.0.0.1) (known_text (codes ".") n refl is.0.1.0)
+comment_text (commented.Constraint q n) text is = IsUtf8-append (codes "CONSTRAINT " ++ written_name n) (codes " ON " ++ written_name q.name) (known_text (codes "CONSTRAINT ") n refl is.0.0) (known_text (codes " ON ") q.name refl is.0.1.0.1)
 
 pub grants_text : (what : Granted) → IsObject what → IsUtf8 (grants_tag what)
 unfolding is_utf8 chars encode

@@ -1,24 +1,7 @@
 use Rattle.std.proofs.Common.{refl, ap, ◌==◌, true≢false, ℤ, pos}
-use Rattle.std.specs.Str.{is_utf8, chars}
-use Rattle.std.proofs.Math.Utf8.{encode}
-use Rattle.sql_lex.specs.Bytes.{is_blank, is_digit, begins_word, in_word, is_sign, marks_escapes, in_line, next_is}
-use Rattle.sql_lex.specs.Ends.{run_end, quote_end, escape_end, comment_end, fraction_end, number_end}
-use Rattle.sql_lex.specs.Pieces.{begins_line, closed, begun, in_utf8, piece_at}
-use Rattle.sql_lex.specs.Next.{next_within, next_token_of, tokens_within, tokens_of}
-use Rattle.sql_lex.specs.Meaning.{inside, undoubled, name_of, literal_of, is_keyword_of, spelling}
-use Rattle.ddl_parts.specs.Lexemes.{is_word, is_sign as sign_of}
-use Rattle.ddl_parts.specs.Leaves.{name_in, name_value, text_in, literal_value}
-use Rattle.ddl_parts.specs.Parts.{scan, many_at}
-use Rattle.constraint_table.specs.Columns.{columns}
-use Rattle.constraint_table.specs.Rests.{deferral, action, on_delete, reactions, key_rest, foreign_rest}
-use Rattle.ddl_parts.specs.Expressions.{ends_run, nest_step, nest_done, expression, default_text}
-use Rattle.ddl_parts.specs.Collecting.{collected_within, collected}
-use Rattle.constraint_table.specs.Clauses.{named_check}
-use Rattle.constraint_table.specs.Grammar.{create_schema, created, new_owner, new_check, domain_change, altered_domain, name_and_owner, path_and_owner, altered, selected, equals_or_to, setting, command, statement}
-use Rattle.constraint_table.specs.AlterGrammar.{primary_body, unique_body, foreign_body, other_value, other_path, table_change, behind_only, altered_table, only_value, check_body, constraint_body, added, new_default, own_change}
-use Rattle.constraint_table.specs.Reading.{line_at, statement_of, statements_within, statements_of}
+use Rattle.sql_lex.specs.Next.{tokens_within, tokens_of}
+use Rattle.constraint_table.proofs.Computing.{reads}
 use Rattle.row_texts.specs.IndexTexts.{named_index, index_text, index_said}
-use Rattle.ddl_parts.specs.Types.{type_step, type_done, type_long, is_type_word, is_number, type_of, type_part}
 use Rattle.cat_names.specs.Lookups.{role_name}
 use Rattle.cat_names.specs.Grants.{grants_of}
 use Rattle.row_texts.specs.DefaultTexts.{default_said}
@@ -36,7 +19,7 @@ pub returns-clause-empty : goal.returns-clause-empty
 returns-clause-empty c = empty_stands
 
 pub returns-clause-rows : goal.returns-clause-rows
-unfolding all_tokens default_said is_utf8 chars encode is_blank is_digit begins_word in_word is_sign marks_escapes in_line next_is run_end quote_end escape_end comment_end fraction_end number_end begins_line closed begun in_utf8 piece_at next_within next_token_of tokens_within tokens_of inside undoubled name_of literal_of is_keyword_of spelling is_word sign_of name_in name_value text_in literal_value scan many_at columns deferral action on_delete reactions key_rest foreign_rest ends_run nest_step nest_done expression default_text collected_within collected named_check create_schema created new_owner new_check domain_change altered_domain name_and_owner path_and_owner altered selected equals_or_to setting command statement primary_body unique_body foreign_body other_value other_path table_change behind_only altered_table only_value check_body constraint_body added new_default own_change line_at statement_of statements_within statements_of named_index index_text index_said type_step type_done type_long is_type_word is_number type_of type_part role_name grants_of type_named sequence_type sequence_kind view_text view_body placed by_number resolved_within
+unfolding reads all_tokens default_said tokens_within tokens_of named_index index_text index_said role_name grants_of type_named sequence_type sequence_kind view_text view_body placed by_number resolved_within
 returns-clause-rows c = record {
   enum = record { letter = refl; base = refl };
   label = refl;
