@@ -67,6 +67,7 @@ fn is_negative(digits: &[u8], low: u64) -> bool
 }
 
 /// Whether a text is a plain decimal from minus `low` to `high`. There is no minus zero.
+#[inline(always)]
 pub(crate) fn is_number(text: &[u8], low: u64, high: u64) -> bool
     requires low_fits { low < longest }
     requires high_fits { high < longest }
