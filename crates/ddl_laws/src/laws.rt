@@ -5,7 +5,7 @@ ghost use Rattle.ddl_scripts.specs.Collecting.{collected};
 ghost use Rattle.ddl_scripts.specs.Leaves.{qualified};
 ghost use Rattle.ddl_scripts.specs.Pieces.{lexemes};
 ghost use Rattle.ddl_relation_texts.specs.Laws.{Lawful};
-ghost use Rattle.ddl_scripts.specs.Grammar.{constraint_body, index_body};
+ghost use Rattle.ddl_scripts.specs.Grammar.{constraint_body, index_body, statement};
 ghost use Rattle.ddl_scripts.specs.Syntax.{part};
 ghost use Rattle.ddl_scripts.specs.Shortened.{path_in};
 ghost use Rattle.ddl_scripts.specs.declared.located.Located.{Located};
@@ -30,8 +30,11 @@ pub fn the_first_fault_is_told()
     ensures one { (text : List ℕ) (fault other : DdlFault) → FailsAt text 0 fault → FailsAt text 0 other → fault ≡ other }
 {}
 
-/// A constraint's definition, and that of an index, has the laws of a part.
+/// A statement up to its semicolon has the laws of a part: what is read is spelled so, what is spelled so is read, and where
+/// reading stops, what stands before can be finished, and nothing goes on with the next token. So have a constraint's
+/// definition and that of an index.
 pub fn definitions_have_their_laws()
+    ensures statements { Lawful statement }
     ensures constraints { Lawful (part constraint_body) }
     ensures indexes { Lawful (part index_body) }
 {}
