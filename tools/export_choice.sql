@@ -29,7 +29,7 @@ WITH object(kind, class, oid) AS (
     UNION ALL SELECT 'access methods', 'pg_am', oid FROM pg_am
     UNION ALL SELECT 'languages', 'pg_language', oid FROM pg_language
     UNION ALL SELECT 'transforms', 'pg_transform', oid FROM pg_transform
-    UNION ALL SELECT 'collations', 'pg_collation', oid FROM pg_collation
+    UNION ALL SELECT 'collations', 'pg_collation', oid FROM pg_collation WHERE collnamespace <> 'pg_catalog'::regnamespace
     UNION ALL SELECT 'conversions', 'pg_conversion', oid FROM pg_conversion
     UNION ALL SELECT 'text search configurations', 'pg_ts_config', oid FROM pg_ts_config
     UNION ALL SELECT 'text search dictionaries', 'pg_ts_dict', oid FROM pg_ts_dict
@@ -56,9 +56,10 @@ WITH object(kind, class, oid) AS (
     FROM pg_type t LEFT JOIN pg_class c ON c.oid = typrelid
     WHERE typtype IN ('p', 'r') OR typtype = 'b' AND typarray <> 0 OR typtype = 'c' AND c.relkind = 'c'
     UNION ALL
-    SELECT 'domains over an array of a type of the database', 'pg_type', d.oid
+    SELECT 'domains over an array of a type of the database, or over numeric with a scale below 0', 'pg_type', d.oid
     FROM pg_type d JOIN pg_type b ON b.oid = d.typbasetype
-    WHERE d.typtype = 'd' AND b.oid >= 16384 AND b.typtype = 'b' AND b.typarray = 0
+    WHERE b.oid >= 16384 AND b.typtype = 'b' AND b.typarray = 0
+       OR format_type(d.typbasetype, d.typtypmod) LIKE 'numeric(%,-%'
 
     UNION ALL
     SELECT CASE WHEN contype = 'x' THEN 'exclusion constraints'
@@ -100,7 +101,7 @@ untyped(kind, class, oid, sub) AS (
                         LEFT JOIN pg_class r ON r.oid = e.typrelid
     WHERE c.relkind = 'r' AND c.oid >= 16384 AND c.relpersistence <> 't' AND attnum > 0 AND NOT attisdropped
       AND (e.oid >= 16384 AND (e.typtype IN ('e', 'd') AND e.oid <> t.oid OR e.typtype = 'c' AND r.relkind <> 'c')
-           OR atttypid = 'numeric'::regtype AND format_type(atttypid, atttypmod) LIKE '%,-%')
+           OR format_type(atttypid, atttypmod) LIKE 'numeric(%,-%')
 ),
 listed AS (
     SELECT kind, class::oid, oid, 0 AS sub FROM object WHERE oid >= 16384

@@ -37,13 +37,19 @@ COPY (
     ORDER BY n.oid
 ) TO STDOUT \g export/pg_namespace.copy
 
+-- Here and in pg_attribute a type of the server whose text stands in quotes ("char"), or is that of an array behind a
+-- schema, stands by its name: pg_catalog."char", information_schema._sql_identifier.
 COPY (
-    SELECT t.oid, typname, typnamespace, typowner, typtype, typnotnull,
-           CASE WHEN typbasetype = ANY (:'types'::oid[]) THEN typbasetype ELSE 0 END,
-           CASE typtype WHEN 'd' THEN format_type(typbasetype, typtypmod) ELSE '' END,
-           pg_get_expr(typdefaultbin, 0), acl
-    FROM pg_type t LEFT JOIN json_to_recordset(:'acls') AS a(class oid, oid oid, acl text)
-         ON a.class = 'pg_type'::regclass AND a.oid = t.oid
+    SELECT t.oid, t.typname, t.typnamespace, t.typowner, t.typtype, t.typnotnull,
+           CASE WHEN b.oid = ANY (:'types'::oid[]) THEN b.oid ELSE 0 END,
+           CASE WHEN b.oid IS NULL THEN ''
+                WHEN b.oid < 16384 AND format_type(b.oid, t.typtypmod) ~ '^"|\..*\[]'
+                THEN b.typnamespace::regnamespace || '.' || quote_ident(b.typname)
+                ELSE format_type(b.oid, t.typtypmod) END,
+           pg_get_expr(t.typdefaultbin, 0), acl
+    FROM pg_type t LEFT JOIN pg_type b ON b.oid = t.typbasetype
+                   LEFT JOIN json_to_recordset(:'acls') AS a(class oid, oid oid, acl text)
+                   ON a.class = 'pg_type'::regclass AND a.oid = t.oid
     WHERE t.oid = ANY (:'types'::oid[])
     ORDER BY t.oid
 ) TO STDOUT \g export/pg_type.copy
@@ -63,7 +69,6 @@ COPY (
     ORDER BY c.oid
 ) TO STDOUT \g export/pg_class.copy
 
--- A type of the server whose text stands in quotes ("char"), or is an array's behind a schema, stands by its name.
 -- A view's column of a type that the folder can't hold has no row: only views that need each other are made by columns.
 COPY (
     SELECT attrelid, attnum, attname, CASE WHEN atttypid = ANY (:'types'::oid[]) THEN atttypid ELSE 0 END,
@@ -74,7 +79,7 @@ COPY (
     FROM pg_attribute JOIN pg_class c ON c.oid = attrelid JOIN pg_type t ON t.oid = atttypid
     WHERE attrelid = ANY (:'relations'::oid[]) AND relkind IN ('r', 'v') AND attnum > 0 AND NOT attisdropped
       AND attrelid || '.' || attnum <> ALL (:'gone_columns'::text[])
-      AND (atttypid < 16384 OR atttypid = ANY (:'types'::oid[])) AND format_type(atttypid, atttypmod) NOT LIKE '%,-%'
+      AND (atttypid < 16384 OR atttypid = ANY (:'types'::oid[])) AND format_type(atttypid, atttypmod) NOT LIKE 'numeric(%,-%'
     ORDER BY attrelid, attnum
 ) TO STDOUT \g export/pg_attribute.copy
 

@@ -7,12 +7,16 @@ CREATE SCHEMA "select";
 CREATE TYPE "A b"."Größe" AS ENUM ('a''b', 'c\d', 'e"f', E'g\th', '');
 CREATE DOMAIN "A b"."user" AS "A b"."Größe" DEFAULT 'a''b' CONSTRAINT "It is" CHECK (VALUE <> 'c\d');
 
+CREATE DOMAIN "A b".letter AS "char" DEFAULT 'x';
+
 CREATE TABLE "it's ""odd""."."left" (
     "select" integer CONSTRAINT "p.k" PRIMARY KEY,
     "Ab C" "A b"."user",
     "x""y" "A b"."Größe" DEFAULT 'e"f',
     "ж" text DEFAULT E'back\\slash ''quote'' \n line',
     c "char",
+    letter "A b".letter,
+    letters "char"[],
     "from" bit(3) DEFAULT B'101',
     "-- no" interval DEFAULT '1 day',
     CONSTRAINT "a b" CHECK ("select" > 0 AND "ж" IS NOT NULL)
@@ -35,9 +39,9 @@ CREATE VIEW "A b"."cat alogue" AS SELECT relkind, array_agg(relname) FROM pg_cla
 CREATE VIEW "A b".tables AS SELECT table_schema, table_name FROM information_schema.tables;
 
 INSERT INTO "it's ""odd""."."left" VALUES
-    (1, 'a''b', 'e"f', E'tab\tline\nreturn\rback\\slash \\N', 'x'),
-    (2, NULL, '', '', ''),
-    (3, E'g\th', 'c\d', '\.', NULL);
+    (1, 'a''b', 'e"f', E'tab\tline\nreturn\rback\\slash \\N', 'x', 'y', '{a,"\""}'),
+    (2, NULL, '', '', '', NULL, NULL),
+    (3, E'g\th', 'c\d', '\.', NULL, '', '{}');
 INSERT INTO "select"."table" VALUES (1, NULL), (2, ''), (3, '\N');
 
 COMMENT ON COLUMN "select"."table"."$1" IS E'a\tb\nc\\d ''e''';
