@@ -115,8 +115,8 @@ newcomer() {
     fi
     measure "the first command" "$processors" "$(first_command)"
     compare
-    measure "the second call" "$processors" './pgtools --help >/dev/null'
-    (cd -- "$room/pgtools" && TIMEFORMAT='a call takes %R seconds' && time ./pgtools --help >/dev/null && ls out/pgtools-*)
+    # (no toolchain is asked once the program is there)
+    (cd -- "$room/pgtools" && TIMEFORMAT='a second call takes %R seconds' && time ./pgtools --help >/dev/null && ls out/pgtools-*) || failed=1
     end_all
 }
 
